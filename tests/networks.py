@@ -5,8 +5,9 @@ Zones of `tests/runbooks.py` whose operators follow the guides are networks of t
 premise of the theorems on resolvers is checked up to each instant at which what caches may hold
 changes, by the definitions of `crates/dnssec_network/specs`, which `tests/game/network.py` has
 written again; and each choice of sets that caches may hold then has a chain of trust. Some zones
-make all six rolls, by notes. Others have two signers, one of which may join or leave. If a signer
-doesn't watch the other's servers, the premise that speaks of it isn't met.
+make all six rolls, by notes. Others have two signers, one of which may join or leave: they keep the
+guide's rules as these are defined. If a signer leaves out a point that the definition has, it isn't
+met in some zone.
 """
 
 import random
@@ -20,13 +21,17 @@ from game.book import left_out, runbooks as book
 from game.network import KINDS, Network, names
 from game.notes import Notes
 from game.pair import Pair
-from game.points import KEYS_UNSEEN, PAIRS, POINTS
+from game.points import (
+    DS_ALONE, DS_OWN, JOINS_EARLY, KEYS_UNSEEN, LEAVES_EARLY, OTHER_TTL, PAIRS, POINTS, TAKEN_OUT,
+)
 from game.signer import Stuck
 from game.zone import SECOND, Broken, World
 from judge import has_chain
 from tables import ROLLS
 
 ZONES, TWO = 2, 4
+# Points of the guide for two signers that its definition has.
+GUIDE = KEYS_UNSEEN, OTHER_TTL, TAKEN_OUT, DS_ALONE, DS_OWN, JOINS_EARLY, LEAVES_EARLY
 
 
 def chains(network, time):
@@ -103,43 +108,109 @@ def two(seed, told, unsaid):
             choices, faults = choices + number, faults + broken
     for network in networks:
         faults += [*network.is_network(times[-1]), *network.none_lies_ahead(times[-1])]
+    faults += keeps_guide(networks, times)
     return len(times), choices, faults
 
 
-def unseen(told, unsaid):
-    """How many zones it takes until one doesn't meet the premise, if a signer doesn't watch the
-    other's servers; None if all do."""
+def until_unmet(point, told, unsaid):
+    """How many zones it takes until one doesn't keep the guide's rules as they are defined, if its
+    signers leave this point out; None if all do."""
     for seed in range(20):
-        signers, _ = pair(seed, told, unsaid | {KEYS_UNSEEN})
+        signers, _ = pair(seed, told, unsaid | {point})
         if len(signers) == 2:
             networks, times = between(signers)
-            for now in times:
-                for both in (networks, networks[::-1]):
-                    if any(publishes_keys(*both, now)):
-                        return seed + 1
+            if times and any(keeps_guide(networks, times)):
+                return seed + 1
     return None
 
 
-def set_of(keeper, signer, position, now):
-    """The latest position of the signer all of whose zone keys are in the keeper's set."""
-    has = names(keeper.record[position].dnskey)
-    return next(
-        (q for q in reversed(range(len(signer.record)))
-         if signer.is_published(q, now) and signer.zone_keys[q] <= has),
-        None,
-    )
+def keeps_guide(networks, times):
+    """`KeepKeyRules` and `HaveDsTogether`, up to the last of these instants"""
+    for both in (networks, networks[::-1]):
+        yield from keep_key_rules(*both, times[-1])
+    for now in times:
+        yield from have_ds_together(*networks, now)
+
+
+def have_ds_together(one, other, now):
+    """`HaveDsTogether`"""
+    parent = one.world.parent
+    for number, version in enumerate(parent.versions):
+        ds = version["ds"].value
+        if ds and is_held(parent, number, now) and not (ds & one.own and ds & other.own):
+            yield f"both: at {now} a DS set has keys of one only: {sorted(ds)}"
+
+
+def had_since(signer, base, time):
+    """The zone keys that the signer's sets have had since this position: `HasHadSince`."""
+    return frozenset.intersection(*(
+        keys for keys, made in zip(signer.zone_keys[base:], signer.made[base:]) if made <= time
+    ))
+
+
+def lacks(keeper, position, signer, base, time):
+    """Not `HasKeysSince`"""
+    return had_since(signer, base, time) - names(keeper.record[position].dnskey)
 
 
 def publishes_keys(keeper, signer, now):
     """`PublishesKeysOf`"""
-    reports = [report for report in signer.reports(now)
-               if "dnskey" in report.kinds and report.over() <= now]
-    for position in {version.position for version in keeper.held("dnskey", now)}:
-        found = set_of(keeper, signer, position, now)
-        if found is None:
-            yield f"at {now} a set has the keys of no set of the other"
-        elif any(found < report.base for report in reports):
-            yield f"at {now} a set has the keys only of a set that is retired"
+    bases = {signer.first} | {report.base for report in signer.reports(now)
+                              if "dnskey" in report.kinds and report.over() <= now}
+    for base, version in product(bases, keeper.held("dnskey", now)):
+        if lacks(keeper, version.position, signer, base, now):
+            yield f"at {now} a set lacks a zone key that the other has had since {base}"
+
+
+def keep_key_rules(keeper, signer, time):
+    """`KeepKeyRules`, up to a time at which both are asked."""
+    begin = max(keeper.start, signer.start)
+    reports = [report for report in signer.reports(time) if "dnskey" in report.kinds]
+    reported = [(signer.first, signer.start)]
+    reported += [(report.base, report.moment * SECOND) for report in reports]
+    for base, moment in reported:
+        seen = max(moment, begin)
+        for position in under_way(keeper, seen) if seen <= time else ():
+            if lacks(keeper, position, signer, base, seen):
+                yield f"comes: at {seen} the set of {position} lacks a key of {base}"
+        for version in keeper.held("dnskey", begin) if moment <= begin else ():
+            if lacks(keeper, version.position, signer, base, begin):
+                yield f"joins: the set of {version.position} lacks a key of {base}"
+    yield from stays(keeper, signer, begin, time)
+    for report in reports:
+        if signer.made[report.base] > report.moment * SECOND:
+            yield f"after: report {report.at} is of before its step"
+        if begin < report.moment * SECOND:
+            yield from counted(keeper, signer, report)
+
+
+def stays(keeper, signer, begin, time):
+    """The field of this name: an old key leaves only after it has left the other's own set."""
+    for position, made in enumerate(keeper.made[1:], 1):
+        if begin < made <= time:
+            now = max(q for q, made_by in enumerate(signer.made) if made_by <= made)
+            before, then = (names(keeper.record[p].dnskey) for p in (position - 1, position))
+            if (before - then) & signer.zone_keys[now]:
+                yield f"stays: call {position} takes a key of the other out"
+
+
+def counted(keeper, signer, report):
+    """The field of this name: what lasts longer than the report's TTL has the keys already."""
+    moment = report.moment * SECOND
+    for version in keeper.versions["dnskey"]:
+        lasts = any(
+            begin < moment and report.over() < min(end, moment) - 1 + (version.ttl + 1) * SECOND
+            for begin, end in version.given
+        )
+        if lasts and lacks(keeper, version.position, signer, report.base, moment):
+            yield f"counted: report {report.at} doesn't count the TTL of {version.position}"
+
+
+def under_way(keeper, time):
+    """The positions whose DNSKEY sets servers give at a time, or have still to get."""
+    least = min((version.position for version in keeper.versions["dnskey"]
+                 for begin, end in version.given if begin <= time < end), default=0)
+    return [p for p in range(least, len(keeper.record)) if keeper.made[p] <= time]
 
 
 def public_chains(keeper, signer, now):
@@ -182,17 +253,17 @@ def main():
     rows += [(f"two signers {seed}", two(seed, told, unsaid)) for seed in range(TWO)]
     for name, (_, _, faults) in rows:
         wrong += [f"networks: {name}: {fault}" for fault in faults[:3]]
-    zones = unseen(told, frozenset(unsaid))
-    if zones is None:
-        wrong.append("networks: unwatched servers of the other are within the premise")
+    zones = [until_unmet(point, told, frozenset(unsaid)) for point in GUIDE]
+    wrong += [f"networks: within the guide's rules as they are defined: {point.name}"
+              for point, number in zip(GUIDE, zones) if number is None]
     if wrong:
         print(*wrong[:20], sep="\n")
         return 1
     instants, choices = (sum(row[column] for _, row in rows) for column in (0, 1))
     print(
         f"networks: {ZONES} zones with all six rolls, and {TWO} with two signers, meet each premise"
-        f" at {instants} instants; {choices} choices of sets have a chain; unwatched, {zones} zones"
-        f" until one doesn't;"
+        f" at {instants} instants; {choices} choices of sets have a chain; {len(GUIDE)} points left"
+        f" out, of which each is found within {max(zones)} zones;"
         f" {time.monotonic() - began:.0f} s"
     )
     return 0

@@ -9,17 +9,15 @@ use Rattle.dnssec_run.specs.Safe.{Dnskey, Ds, SetKind, ZoneSigners, retires}
 use Rattle.dnssec_run.specs.declared.caches.SetKind.{SetKind as Kind}
 use Rattle.dnssec_run.specs.declared.caches.SetKind.TheVariants as code
 use Rattle.dnssec_run.specs.declared.record.Entry.{Entry}
-use Rattle.dnssec_network.proofs.Held.{held-published, report-within}
+use Rattle.dnssec_network.proofs.Held.{report-within}
 use Rattle.dnssec_network.proofs.Noted.{notes_make_reports_true}
 use Rattle.dnssec_network.specs.Facts.{AreTrueFrom, news_of, ttl_before}
-use Rattle.dnssec_network.specs.Models.{IsByTheClock, IsPromptRun, MeetsPremises, NoTtlBelow}
-use Rattle.dnssec_network.specs.Models.{PremisesCanBeMet, SignersCanBeMet, made_since, prompt}
-use Rattle.dnssec_network.specs.Models.{promptly}
-use Rattle.dnssec_network.specs.Network.{IsNetworkOf, MayBeHeld, Network, NoneLiesAhead}
+use Rattle.dnssec_network.specs.Models.{IsByTheClock, MeetsPremises, NoTtlBelow}
+use Rattle.dnssec_network.specs.Models.{PremisesCanBeMet, made_since, prompt}
+use Rattle.dnssec_network.specs.Network.{IsNetworkOf, Network, NoneLiesAhead}
 use Rattle.dnssec_network.specs.Network.{ReportsAreTrue}
 use Rattle.dnssec_network.specs.Reports.{NoneGoesBack, ReportsAreByNotes, due, due_of}
 use Rattle.dnssec_network.specs.Spread.{after, due_for, end_of, first_spread, known, seconds_left}
-use Rattle.dnssec_network.specs.TwoSigners.{HasZoneKeys, KeepsRules, PublishesKeysOf, Signer}
 use Rattle.dnssec_network.specs.Validity.{IsRenewed}
 use Rattle.dnssec_network.specs.declared.fact.{Before.Before, Fact.Fact, News.News}
 use Rattle.dnssec_network.specs.declared.fact.News.TheVariants.{Everywhere, Published}
@@ -279,49 +277,3 @@ premises_can_be_met first start ttl time entries within late fits clock low = re
   ahead = ahead first start ttl time entries within late fits clock low;
   renewed = renewed first start ttl time entries within late fits clock low;
 }
-
--- ---- two signers in step
-
-module _ (first start ttl time : ℕ) (late : start ≤ time) (fits : ttl ≤ 4_294_967_295) where
-  met : (s : Signer) → IsPromptRun first start ttl s
-      → MeetsPremises s.entries (prompt first start ttl time (length s.entries)) time
-  met s is = premises_can_be_met first start ttl time s.entries is.within late fits is.clock
-      is.low
-
-  keeps : (s : Signer) → IsPromptRun first start ttl s
-      → KeepsRules (promptly first start ttl time s) time
-  keeps s is = record {
-    run = is.run;
-    plain = is.plain;
-    network = (met s is).is;
-    reports = (met s is).reports;
-    moments = (met s is).ahead;
-    serves = omega arith;
-  }
-
-  publishes : (one other : Signer) → IsPromptRun first start ttl one
-      → IsPromptRun first start ttl other → length one.entries ≡ length other.entries
-      → ((p : ℕ) → HasZoneKeys one p other p)
-      → PublishesKeysOf (promptly first start ttl time one) (promptly first start ttl time other)
-      time
-  publishes one other mine its same keys = record {
-    set = λ p. p;
-    has = λ v held. keys (first + (v - 1));
-    known = λ v held.
-        let is = held-published one.entries (prompt first start ttl time (length one.entries)) time
-        (met one mine).is (met one mine).ahead Dnskey v held in
-        record {
-          begun = is.begun;
-          recorded = omega (arith, is.recorded, same);
-          made = is.made;
-        };
-    reports = λ r speaks over v held. (met other its).reports r Dnskey speaks over v
-        (subst (λ last. MayBeHeld (prompt first start ttl time last) Dnskey v time) same held);
-  }
-
-pub signers_can_be_met : SignersCanBeMet
-signers_can_be_met first start ttl time one other late fits mine its same keys = (
-  keeps first start ttl time late fits one mine,
-  keeps first start ttl time late fits other its,
-  publishes first start ttl time late fits one other mine its same keys,
-)

@@ -1,33 +1,49 @@
--- Two signers: the keeper's chain down to its DNSKEY set, and the signer's chain from a set of its
--- own on, all of whose zone keys the keeper's set has.
-use Rattle.std.proofs.Common.{List, arith, inl, inr, length, refl, subst, sym, ℕ, ◌∙◌, ◌≤◌}
-use Rattle.std.proofs.lemmas.Bool.{cases_lt}
-use Rattle.std.specs.List.{Contains}
+-- Two signers: the keeper's chain down to its DNSKEY set, and a key of the signer that signs the
+-- zone and stands in each of its own sets in caches, so in that of the keeper too.
+use Rattle.std.proofs.Common.{List, arith, inl, inr, length, refl, subst, suc, sym, true, zero, ℕ}
+use Rattle.std.proofs.Common.{[], ◌+◌, ◌<◌, ◌∙◌, ◌∷◌, ◌≡◌, ◌≤◌}
+use Rattle.std.proofs.lemmas.Bool.{cases_Bool, cases_lt, true≢false}
+use Rattle.std.proofs.lemmas.Map.Views.{Contains-from_any, list_any-from_Contains}
+use Rattle.std.specs.Cmp.{nat_eq_equiv}
+use Rattle.std.specs.List.{Contains, list_any}
+use Rattle.std.specs.Prelude.{nat_eq}
+use Rattle.std.proofs.lemmas.Bool.{eqb-true}
 use Rattle.dnssec_run.proofs.Chain.History.{base-lies-below, not_in_empty}
 use Rattle.dnssec_run.proofs.Chain.Trust.{chain-holds, each-holds}
 use Rattle.dnssec_run.specs.Published.{Id}
-use Rattle.dnssec_run.specs.Safe.{Dnskey, Ds, HasChain, MayBeCached, Position, TrustsKeys}
+use Rattle.dnssec_run.specs.Safe.{Dnskey, Ds, HasChain, MayBeCached, Position, SetKind, TrustsKeys}
 use Rattle.dnssec_run.specs.Safe.{TrustsZone, ZoneSigners, position_at}
-use Rattle.dnssec_network.proofs.Held.{held-cached, held-published, last-made, may-be-cached}
-use Rattle.dnssec_network.proofs.Held.{report-within}
+use Rattle.dnssec_network.proofs.Held.{LastMade, held-cached, held-published, last-made}
+use Rattle.dnssec_network.proofs.Held.{may-be-cached, report-within}
+use Rattle.dnssec_network.proofs.Steady.{SteadyKey, steady-each, steady-key}
 use Rattle.dnssec_network.specs.Network.{IsPublished, MayBeHeld}
-use Rattle.dnssec_network.specs.TwoSigners.{IsKeysOf, KeepsRules, PublishesKeysOf, Signer}
-use Rattle.dnssec_network.specs.TwoSigners.{RestingSuffices, SignsZone, TwoSignersFindChain}
-use Rattle.dnssec_network.specs.TwoSigners.{TwoSignersFindEachChain, WatchingBothSuffices, shown}
+use Rattle.dnssec_network.specs.TwoSigners.{EachPublishesItsOwn, HasHadSince, HasKey, HasKeysSince}
+use Rattle.dnssec_network.specs.TwoSigners.{HavingAllSuffices, IsKeysOf, KeepsRules}
+use Rattle.dnssec_network.specs.TwoSigners.{PublishesKeysOf, Signer, SignsZone, TwoSignersFindChain}
+use Rattle.dnssec_network.specs.TwoSigners.{TwoSignersFindEachChain, shown}
 
--- what they gave before the moment is over, and what they give since then is new enough
-pub watching_both_suffices : WatchingBothSuffices
-watching_both_suffices keeper set base moment ttl time is over v held =
-    let given = held.given in
-    elim (cases_lt held.since moment) [
-      | inl lt ↦
-          let gone = rw given.2 at (is.counted given.0 held.since given.1 lt) in
-          absurd (omega (arith, gone, held.lasts, over))
-      | inr le ↦ rw given.2 at (is.everywhere given.0 held.since given.1 le held.got)
-    ]
+-- ---- each alone
+
+pub each_publishes_its_own : EachPublishesItsOwn
+each_publishes_its_own s time keeps =
+    let published = held-published s.entries s.network time keeps.network keeps.moments Dnskey in
+    let own : (v base : ℕ) → MayBeHeld s.network Dnskey v time
+    → base ≤ s.network.position Dnskey v
+    → HasKeysSince s (s.network.position Dnskey v) s base time = λ v base held ge k signs had. (
+      k,
+      had (s.network.position Dnskey v) ge (published v held).recorded (published v held).made,
+      refl,
+    ) in
+    record {
+      first = λ v held. own v s.network.first held (published v held).begun;
+      reports = λ r speaks over v held. own v r.base held
+          (keeps.reports r Dnskey speaks over v held);
+    }
+
+-- ---- the signer's record at the time
 
 -- what a server gives of the zone at the time, so that the keeper's own chain has a third set
-served : (s : Signer) (time : ℕ) → KeepsRules s time → (z : ℕ)
+pub served : (s : Signer) (time : ℕ) → KeepsRules s time → (z : ℕ)
     × MayBeHeld s.network ZoneSigners z time
 served s time keeps = (
   s.network.version ZoneSigners 0 time,
@@ -39,76 +55,109 @@ served s time keeps = (
   },
 )
 
+module _ (s : Signer) (time : ℕ) (keeps : KeepsRules s time) where
+  abbrev published : (kind : SetKind) (v : ℕ) → MayBeHeld s.network kind v time
+      → IsPublished s.entries s.network (s.network.position kind v) time
+  published = held-published s.entries s.network time keeps.network keeps.moments
+
+  -- its position then, which the first one isn't above
+  pub now : (last : LastMade s.network.made (length s.entries) time) × (s.network.first ≤ last.0)
+  now =
+      let z = served s time keeps in
+      let some = published ZoneSigners z.0 z.1 in
+      let last = last-made s.entries s.network time keeps.network keeps.moments
+      (s.network.position ZoneSigners z.0) some in
+      (last, omega (arith, some.begun, last.3 _ some.recorded some.made))
+
+  -- what caches hold of it may be cached by its record
+  cached : (last : LastMade s.network.made (length s.entries) time) (kind : SetKind) (v : ℕ)
+      → MayBeHeld s.network kind v time
+      → MayBeCached s.entries kind (s.network.position kind v) last.0
+  cached last kind v held =
+      may-be-cached s.entries s.network time keeps.network keeps.moments last kind
+      (s.network.position kind v) (published kind v held)
+      (λ r speaks over. keeps.reports r kind speaks over v held)
+
 -- the signer's latest set will do
-pub resting_suffices : RestingSuffices
-resting_suffices keeper signer time keeps all =
-    let es = signer.entries in
-    let net = signer.network in
-    let now = served signer time keeps in
-    let first = held-published es net time keeps.network keeps.moments ZoneSigners now.0 now.1 in
-    let last = last-made es net time keeps.network keeps.moments (net.position ZoneSigners now.0)
-    first in
-    let published : IsPublished es net last.0 time = record {
-      begun = omega (
-        arith,
-        first.begun,
-        last.3 (net.position ZoneSigners now.0) first.recorded first.made,
-      );
-      recorded = last.1;
-      made = last.2;
-    } in
+pub having_all_suffices : HavingAllSuffices
+having_all_suffices keeper signer time keeps all =
+    let at = now signer time keeps in
+    let last = at.0 in
+    let these : (base v : ℕ) → base ≤ last.0 → MayBeHeld keeper.network Dnskey v time
+    → HasKeysSince keeper (keeper.network.position Dnskey v) signer base time =
+    λ base v le held k signs had. all v last.0 held
+    (record { recorded = last.1; made = last.2; last = last.3 }) k signs
+    (had last.0 le last.1 last.2) in
     record {
-      set = λ p. last.0;
-      has = λ v held. all v last.0 held published;
-      known = λ v held. published;
+      first = λ v held. these signer.network.first v at.1 held;
       reports = λ r speaks over v held.
+          let es = signer.entries in
           let lies = base-lies-below es r.roll r.at r.base r.base_is in
           let within = report-within es r.at r.ttl r.roll r.second r.mark in
-          omega (arith, lies, last.3 r.at within r.made);
+          these r.base v (omega (arith, lies, last.3 r.at within r.made)) held;
     }
 
--- the signer's sets that a resolver holds by way of the keeper may be cached by the signer's record
-crossed : (keeper signer : Signer) (time : ℕ) → KeepsRules signer time
-    → (kept : PublishesKeysOf keeper signer time)
-    → (p v z : ℕ) → MayBeHeld signer.network Ds p time
-    → MayBeHeld keeper.network Dnskey v time → MayBeHeld signer.network ZoneSigners z time
-    → (n : ℕ) × (n ≤ length signer.entries)
-    × MayBeCached signer.entries Ds (signer.network.position Ds p) n
-    × MayBeCached signer.entries Dnskey (kept.set (keeper.network.position Dnskey v)) n
-    × MayBeCached signer.entries ZoneSigners (signer.network.position ZoneSigners z) n
-crossed keeper signer time keeps kept p v z ds keys zone =
-    let es = signer.entries in
-    let net = signer.network in
-    let published = held-published es net time keeps.network keeps.moments in
-    let last = last-made es net time keeps.network keeps.moments (net.position Ds p)
-    (published Ds p ds) in
-    let cached = may-be-cached es net time keeps.network keeps.moments last in (
-      last.0,
-      last.1,
-      cached Ds (net.position Ds p) (published Ds p ds)
-          (λ r speaks over. keeps.reports r Ds speaks over p ds),
-      cached Dnskey (kept.set (keeper.network.position Dnskey v)) (kept.known v keys)
-          (λ r speaks over. kept.reports r speaks over v keys),
-      cached ZoneSigners (net.position ZoneSigners z) (published ZoneSigners z zone)
-          (λ r speaks over. keeps.reports r ZoneSigners speaks over z zone),
-    )
+-- ---- a key that all sets of the signer have
+
+-- what isn't missing from a list of numbers is in it
+not_missing : (keys : List ℕ) (k : ℕ) → ((Contains keys k → ⊥) → ⊥) → Contains keys k
+not_missing keys k h = elim (cases_Bool (list_any (nat_eq k) keys)) [
+  | inl t ↦ Contains-from_any eqb-true k keys t
+  | inr f ↦ absurd (h (λ c.
+      true≢false (sym (list_any-from_Contains nat_eq_equiv k keys c) ∙ f)))
+]
+
+module _ (keeper signer : Signer) (time : ℕ) (keeps : KeepsRules signer time)
+    (kept : PublishesKeysOf keeper signer time) (v : ℕ)
+    (held : MayBeHeld keeper.network Dnskey v time)
+    (last : LastMade signer.network.made (length signer.entries) time) (k : Id)
+    (signs : SignsZone signer k)
+    (steady : (q : ℕ) → MayBeCached signer.entries Dnskey q last.0
+    → Contains (position_at signer.entries q).dnskey k) where
+  -- A set from `base` on may be cached, unless a report retires it. Then that report's step counts.
+  lacks-none : (HasKey keeper (keeper.network.position Dnskey v) signer k → ⊥)
+      → (fuel base : ℕ) → last.0 < base + fuel → signer.network.first ≤ base → base ≤ last.0
+      → HasKeysSince keeper (keeper.network.position Dnskey v) signer base time → ⊥
+  lacks-none lacks zero base enough from le has = omega (arith, enough, le)
+  lacks-none lacks (suc fuel) base enough from le has =
+      let es = signer.entries in
+      lacks (has k signs (λ q ge recorded made. steady q
+      (may-be-cached es signer.network time keeps.network keeps.moments last Dnskey q
+      (record { begun = omega (arith, from, ge); recorded = recorded; made = made })
+      (λ r speaks over. elim (cases_lt q r.base) [
+        | inl lt ↦
+            let lies = base-lies-below es r.roll r.at r.base r.base_is in
+            let within = report-within es r.at r.ttl r.roll r.second r.mark in
+            absurd (lacks-none lacks fuel r.base (omega (arith, enough, ge, lt))
+            (omega (arith, from, ge, lt)) (omega (arith, lies, last.3 r.at within r.made))
+            (kept.reports r speaks over v held))
+        | inr up ↦ up
+      ]))))
+
+  pub is-there : signer.network.first ≤ last.0
+      → (HasKey keeper (keeper.network.position Dnskey v) signer k → ⊥) → ⊥
+  is-there from lacks = lacks-none lacks (suc last.0) signer.network.first (omega arith)
+      (omega arith) from (kept.first v held)
+
+-- so it is among the public keys that a resolver has of the keeper
+carried : (keeper signer : Signer) (time : ℕ) (dnskey signers : List ℕ)
+    → KeepsRules signer time → PublishesKeysOf keeper signer time
+    → (keys : IsKeysOf keeper time dnskey signers)
+    → (at : (last : LastMade signer.network.made (length signer.entries) time)
+    × (signer.network.first ≤ last.0)) (z : ℕ)
+    → (s : SteadyKey signer.entries at.0.0 z) → Contains dnskey (signer.public s.0)
+carried keeper signer time dnskey signers keeps kept keys at z s =
+    not_missing dnskey (signer.public s.0) (λ lacks. is-there keeper signer time keeps kept
+    keys.version keys.held at.0 s.0 (z, s.2) s.1 at.1
+    (λ has. lacks (subst (λ p. Contains dnskey p) has.2 (keys.has has.0 has.1))))
+
+-- ---- the chain
 
 -- with a key in the DS set, a chain is no excuse
 both_parts : (p q z : Position) (k : Id) → Contains p.ds k → HasChain p q z
     → TrustsKeys p q × TrustsZone q z
 both_parts p q z k c (inl none) = absurd (not_in_empty k (rw none at c))
 both_parts p q z k c (inr parts) = parts
-
--- a zone key of the signer's set is in the DNSKEY set that the keeper gave
-carried : (keeper signer : Signer) (time : ℕ) (dnskey signers : List ℕ)
-    → (kept : PublishesKeysOf keeper signer time) → (keys : IsKeysOf keeper time dnskey signers)
-    → (k : Id) → SignsZone signer k
-    → Contains (position_at signer.entries
-    (kept.set (keeper.network.position Dnskey keys.version))).dnskey k
-    → Contains dnskey (signer.public k)
-carried keeper signer time dnskey signers kept keys k signs c =
-    let there = kept.has keys.version keys.held k signs c in
-    subst (λ p. Contains dnskey p) there.2 (keys.has there.0 there.1)
 
 pub two_signers_find_chain : TwoSignersFindChain
 two_signers_find_chain keeper signer time ds dnskey signers zone keeps also kept a b keys signed =
@@ -117,32 +166,29 @@ two_signers_find_chain keeper signer time ds dnskey signers zone keeps also kept
       | inr first ↦ elim b.some [
         | inl none ↦ inl none
         | inr second ↦
-            let now = served keeper time keeps in
+            let third = served keeper time keeps in
             let h = held-cached keeper.entries keeper.network time keeps.network keeps.reports
-            keeps.moments a.version keys.version now.0 a.held keys.held now.1 in
+            keeps.moments a.version keys.version third.0 a.held keys.held third.1 in
             let found = chain-holds keeper.name keeper.calls keeper.entries keeps.run keeps.plain
             h.0 h.1 (keeper.network.position Ds a.version)
             (keeper.network.position Dnskey keys.version)
-            (keeper.network.position ZoneSigners now.0) h.2 h.3 h.4 in
+            (keeper.network.position ZoneSigners third.0) h.2 h.3 h.4 in
             let own = (both_parts (shown keeper Ds a.version) (shown keeper Dnskey keys.version)
-            (shown keeper ZoneSigners now.0) first.0 first.1 found).0 in
-            let q : ℕ = kept.set (keeper.network.position Dnskey keys.version) in
-            let g = crossed keeper signer time also kept b.version keys.version signed.version
-            b.held keys.held signed.held in
-            let other = chain-holds signer.name signer.calls signer.entries also.run also.plain
-            g.0 g.1 (signer.network.position Ds b.version) q
-            (signer.network.position ZoneSigners signed.version) g.2 g.3 g.4 in
-            let cross = (both_parts (shown signer Ds b.version) (position_at signer.entries q)
-            (shown signer ZoneSigners signed.version) second.0 second.1 other).1 in
-            let k = own.0 in let l = cross.0 in
-            let signs : SignsZone signer l =
-            (signer.network.position ZoneSigners signed.version, cross.2) in
+            (shown keeper ZoneSigners third.0) first.0 first.1 found).0 in
+            let at = now signer time also in
+            let z : ℕ = signer.network.position ZoneSigners signed.version in
+            let s = steady-key signer.name signer.calls signer.entries also.run also.plain
+            at.0.0 at.0.1 (signer.network.position Ds b.version) z
+            (cached signer time also at.0 Ds b.version b.held)
+            (cached signer time also at.0 ZoneSigners signed.version signed.held)
+            second.0 second.1 in
+            let k = own.0 in
             inr (
               (keeper.public k, a.has k own.1, keys.has k own.2, keys.signed k own.3),
               (
-                signer.public l,
-                carried keeper signer time dnskey signers kept keys l signs cross.1,
-                signed.has l cross.2,
+                signer.public s.0,
+                carried keeper signer time dnskey signers also kept keys at z s,
+                signed.has s.0 s.2,
               ),
             )
       ]
@@ -153,21 +199,20 @@ two_signers_find_each_chain keeper signer algorithm time ds dnskey signers zone 
     mine its a all_a b all_b keys signed d in_ds =
     let first = all_a d in_ds in
     let second = all_b d in_ds in
-    let now = served keeper time keeps in
+    let third = served keeper time keeps in
     let h = held-cached keeper.entries keeper.network time keeps.network keeps.reports
-    keeps.moments a.version keys.version now.0 a.held keys.held now.1 in
+    keeps.moments a.version keys.version third.0 a.held keys.held third.1 in
     let own = (each-holds keeper.name keeper.calls keeper.entries keeps.run keeps.plain mine.whole
     h.0 h.1 (keeper.network.position Ds a.version) (keeper.network.position Dnskey keys.version)
-    (keeper.network.position ZoneSigners now.0) h.2 h.3 h.4 first.0 first.1).0 in
-    let q : ℕ = kept.set (keeper.network.position Dnskey keys.version) in
-    let g = crossed keeper signer time also kept b.version keys.version signed.version
-    b.held keys.held signed.held in
-    let cross = (each-holds signer.name signer.calls signer.entries also.run also.plain its.whole
-    g.0 g.1 (signer.network.position Ds b.version) q
-    (signer.network.position ZoneSigners signed.version) g.2 g.3 g.4 second.0 second.1).1 in
-    let k = own.0 in let l = cross.0 in
-    let signs : SignsZone signer l =
-    (signer.network.position ZoneSigners signed.version, cross.3) in (
+    (keeper.network.position ZoneSigners third.0) h.2 h.3 h.4 first.0 first.1).0 in
+    let at = now signer time also in
+    let z : ℕ = signer.network.position ZoneSigners signed.version in
+    let s = steady-each signer.name signer.calls signer.entries also.run also.plain
+    at.0.0 at.0.1 (signer.network.position Ds b.version) z
+    (cached signer time also at.0 Ds b.version b.held)
+    (cached signer time also at.0 ZoneSigners signed.version signed.held)
+    second.0 second.1 its.whole in
+    let k = own.0 in let l = s.0.0 in (
       (
         keeper.public k,
         mine.same k ∙ own.1 ∙ sym (mine.same first.0) ∙ first.2,
@@ -177,8 +222,8 @@ two_signers_find_each_chain keeper signer algorithm time ds dnskey signers zone 
       ),
       (
         signer.public l,
-        its.same l ∙ cross.1 ∙ sym (its.same second.0) ∙ second.2,
-        carried keeper signer time dnskey signers kept keys l signs cross.2,
-        signed.has l cross.3,
+        its.same l ∙ s.1 ∙ sym (its.same second.0) ∙ second.2,
+        carried keeper signer time dnskey signers also kept keys at z s.0,
+        signed.has l s.0.2,
       ),
     )

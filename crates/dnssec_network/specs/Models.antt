@@ -4,13 +4,10 @@ use Rattle.std.specs.Prelude.{if◌then◌else◌, nat_lt}
 use Rattle.dnssec_key.specs.declared.roll.RollType.{RollType}
 use Rattle.dnssec_run.specs.declared.record.Entry.{Entry}
 use Rattle.dnssec_run.specs.declared.record.Mark.TheVariants.{Report}
-use Rattle.dnssec_run.specs.Plain.{IsPlain}
-use Rattle.dnssec_run.specs.Record.{IsRun}
 use Rattle.dnssec_run.specs.Safe.{position_at}
 use Rattle.dnssec_network.specs.Network.{IsNetworkOf, Network, NoneLiesAhead, ReportsAreTrue}
 use Rattle.dnssec_network.specs.Network.{second_of}
 use Rattle.dnssec_network.specs.Reports.{NoneGoesBack, ReportsAreByNotes}
-use Rattle.dnssec_network.specs.TwoSigners.{HasZoneKeys, KeepsRules, PublishesKeysOf, Signer}
 use Rattle.dnssec_network.specs.Validity.{IsRenewed}
 
 -- made at the start up to the position `first`, then one call each second
@@ -62,37 +59,3 @@ PremisesCanBeMet = (first start ttl time : ℕ) (entries : List Entry) →
     IsByTheClock first start entries →
     NoTtlBelow first ttl entries →
     MeetsPremises entries (prompt first start ttl time (length entries)) time
-
--- ---- two signers
-
--- the signer with such servers
-abbrev pub promptly : ℕ → ℕ → ℕ → ℕ → Signer → Signer
-promptly first start ttl time s = record {
-  name = s.name;
-  calls = s.calls;
-  entries = s.entries;
-  network = prompt first start ttl time (length s.entries);
-  public = s.public;
-}
-
--- a plain run, made by the clock, with no report that is too short
-pub record IsPromptRun (first start ttl : ℕ) (s : Signer) : Type 0 where
-  pub run : IsRun s.name s.calls s.entries
-  pub plain : IsPlain s.name s.calls s.entries
-  pub within : first ≤ length s.entries
-  pub clock : IsByTheClock first start s.entries
-  pub low : NoTtlBelow first ttl s.entries
-
--- Two signers in step: each makes as many calls, and after each call the set of the one has the
--- zone keys of the other's. They meet the premises.
-abbrev pub SignersCanBeMet : Type 0
-SignersCanBeMet = (first start ttl time : ℕ) (one other : Signer) →
-    start ≤ time →
-    ttl ≤ 4_294_967_295 →
-    IsPromptRun first start ttl one →
-    IsPromptRun first start ttl other →
-    length one.entries ≡ length other.entries →
-    ((p : ℕ) → HasZoneKeys one p other p) →
-    KeepsRules (promptly first start ttl time one) time
-    × KeepsRules (promptly first start ttl time other) time
-    × PublishesKeysOf (promptly first start ttl time one) (promptly first start ttl time other) time

@@ -270,7 +270,7 @@ first tale = record {
   ));
 }
 
-always : (tale : Tale) → Law tale → (n : ℕ) → n ≤ length tale.es → Inv tale n
+pub always : (tale : Tale) → Law tale → (n : ℕ) → n ≤ length tale.es → Inv tale n
 always tale law zero le = first tale
 always tale law (suc n) le = next tale law n le (always tale law n (omega arith))
 

@@ -1,13 +1,10 @@
 -- Prompt servers meet the premises.
-use Rattle.dnssec_network.proofs.Models.{premises_can_be_met, signers_can_be_met}
+use Rattle.dnssec_network.proofs.Models.{premises_can_be_met}
 use Rattle.dnssec_network.proofs.WholeSets.{whole_sets_can_be_kept}
 use Rattle.dnssec_network.proofs.chain.premises_can_be_met.Goals as goal
 
 pub returns-clause-one : goal.returns-clause-one
 returns-clause-one c = premises_can_be_met
-
-pub returns-clause-two : goal.returns-clause-two
-returns-clause-two c = signers_can_be_met
 
 pub returns-clause-whole : goal.returns-clause-whole
 returns-clause-whole c = whole_sets_can_be_kept
