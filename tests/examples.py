@@ -43,6 +43,7 @@ GIVEN = {
     "judge": "mut judge: Judge",
     "steps": "mut steps: Steps",
     "at": "mut at: usize",
+    "origins": "origins: Origins",
 }
 # The same name for something else, by the file.
 GIVEN_IN = {

@@ -133,12 +133,12 @@ def set_of(keeper, signer, position, now):
 def publishes_keys(keeper, signer, now):
     """`PublishesKeysOf`"""
     reports = [report for report in signer.reports(now)
-               if "dnskey" in report.kinds and report.over() <= now]
+               if "dnskey" in report.came and report.over() <= now]
     for position in {version.position for version in keeper.held("dnskey", now)}:
         found = set_of(keeper, signer, position, now)
         if found is None:
             yield f"at {now} a set has the keys of no set of the other"
-        elif any(found < report.base for report in reports):
+        elif any(found < report.came["dnskey"] for report in reports):
             yield f"at {now} a set has the keys only of a set that is retired"
 
 

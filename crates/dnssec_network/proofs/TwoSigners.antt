@@ -6,10 +6,11 @@ use Rattle.std.specs.List.{Contains}
 use Rattle.dnssec_run.proofs.Chain.History.{base-lies-below, not_in_empty}
 use Rattle.dnssec_run.proofs.Chain.Trust.{chain-holds, each-holds}
 use Rattle.dnssec_run.specs.Published.{Id}
-use Rattle.dnssec_run.specs.Safe.{Dnskey, Ds, HasChain, MayBeCached, Position, TrustsKeys}
+use Rattle.dnssec_run.proofs.Since.{origin-le}
+use Rattle.dnssec_run.specs.Safe.{Dnskey, Ds, HasChain, Position, TrustsKeys}
 use Rattle.dnssec_run.specs.Safe.{TrustsZone, ZoneSigners, position_at}
-use Rattle.dnssec_network.proofs.Held.{held-cached, held-published, last-made, may-be-cached}
-use Rattle.dnssec_network.proofs.Held.{report-within}
+use Rattle.dnssec_network.proofs.Held.{IsHeldAs, held-cached, held-chain, held-each, held-published}
+use Rattle.dnssec_network.proofs.Held.{last-made, may-be-cached, report-within}
 use Rattle.dnssec_network.specs.Network.{IsPublished, MayBeHeld}
 use Rattle.dnssec_network.specs.TwoSigners.{IsKeysOf, KeepsRules, PublishesKeysOf, Signer}
 use Rattle.dnssec_network.specs.TwoSigners.{RestingSuffices, SignsZone, TwoSignersFindChain}
@@ -64,7 +65,12 @@ resting_suffices keeper signer time keeps all =
       reports = λ r speaks over v held.
           let lies = base-lies-below es r.roll r.at r.base r.base_is in
           let within = report-within es r.at r.ttl r.roll r.second r.mark in
-          omega (arith, lies, last.3 r.at within r.made);
+          omega (
+            arith,
+            lies,
+            last.3 r.at within r.made,
+            origin-le es Dnskey r.base,
+          );
     }
 
 -- the signer's sets that a resolver holds by way of the keeper may be cached by the signer's record
@@ -73,9 +79,9 @@ crossed : (keeper signer : Signer) (time : ℕ) → KeepsRules signer time
     → (p v z : ℕ) → MayBeHeld signer.network Ds p time
     → MayBeHeld keeper.network Dnskey v time → MayBeHeld signer.network ZoneSigners z time
     → (n : ℕ) × (n ≤ length signer.entries)
-    × MayBeCached signer.entries Ds (signer.network.position Ds p) n
-    × MayBeCached signer.entries Dnskey (kept.set (keeper.network.position Dnskey v)) n
-    × MayBeCached signer.entries ZoneSigners (signer.network.position ZoneSigners z) n
+    × IsHeldAs signer.entries Ds (signer.network.position Ds p) n
+    × IsHeldAs signer.entries Dnskey (kept.set (keeper.network.position Dnskey v)) n
+    × IsHeldAs signer.entries ZoneSigners (signer.network.position ZoneSigners z) n
 crossed keeper signer time keeps kept p v z ds keys zone =
     let es = signer.entries in
     let net = signer.network in
@@ -120,18 +126,18 @@ two_signers_find_chain keeper signer time ds dnskey signers zone keeps also kept
             let now = served keeper time keeps in
             let h = held-cached keeper.entries keeper.network time keeps.network keeps.reports
             keeps.moments a.version keys.version now.0 a.held keys.held now.1 in
-            let found = chain-holds keeper.name keeper.calls keeper.entries keeps.run keeps.plain
-            h.0 h.1 (keeper.network.position Ds a.version)
+            let found = held-chain keeper.entries h.0 (keeper.network.position Ds a.version)
             (keeper.network.position Dnskey keys.version)
-            (keeper.network.position ZoneSigners now.0) h.2 h.3 h.4 in
+            (keeper.network.position ZoneSigners now.0) h.2 h.3 h.4
+            (chain-holds keeper.name keeper.calls keeper.entries keeps.run keeps.plain h.0 h.1) in
             let own = (both_parts (shown keeper Ds a.version) (shown keeper Dnskey keys.version)
             (shown keeper ZoneSigners now.0) first.0 first.1 found).0 in
             let q : ℕ = kept.set (keeper.network.position Dnskey keys.version) in
             let g = crossed keeper signer time also kept b.version keys.version signed.version
             b.held keys.held signed.held in
-            let other = chain-holds signer.name signer.calls signer.entries also.run also.plain
-            g.0 g.1 (signer.network.position Ds b.version) q
-            (signer.network.position ZoneSigners signed.version) g.2 g.3 g.4 in
+            let other = held-chain signer.entries g.0 (signer.network.position Ds b.version) q
+            (signer.network.position ZoneSigners signed.version) g.2 g.3 g.4
+            (chain-holds signer.name signer.calls signer.entries also.run also.plain g.0 g.1) in
             let cross = (both_parts (shown signer Ds b.version) (position_at signer.entries q)
             (shown signer ZoneSigners signed.version) second.0 second.1 other).1 in
             let k = own.0 in let l = cross.0 in
@@ -156,15 +162,17 @@ two_signers_find_each_chain keeper signer algorithm time ds dnskey signers zone 
     let now = served keeper time keeps in
     let h = held-cached keeper.entries keeper.network time keeps.network keeps.reports
     keeps.moments a.version keys.version now.0 a.held keys.held now.1 in
-    let own = (each-holds keeper.name keeper.calls keeper.entries keeps.run keeps.plain mine.whole
-    h.0 h.1 (keeper.network.position Ds a.version) (keeper.network.position Dnskey keys.version)
-    (keeper.network.position ZoneSigners now.0) h.2 h.3 h.4 first.0 first.1).0 in
+    let own = (held-each keeper.entries h.0 (keeper.network.position Ds a.version)
+    (keeper.network.position Dnskey keys.version) (keeper.network.position ZoneSigners now.0)
+    h.2 h.3 h.4 keeper.calls (each-holds keeper.name keeper.calls keeper.entries keeps.run
+    keeps.plain mine.whole h.0 h.1) first.0 first.1).0 in
     let q : ℕ = kept.set (keeper.network.position Dnskey keys.version) in
     let g = crossed keeper signer time also kept b.version keys.version signed.version
     b.held keys.held signed.held in
-    let cross = (each-holds signer.name signer.calls signer.entries also.run also.plain its.whole
-    g.0 g.1 (signer.network.position Ds b.version) q
-    (signer.network.position ZoneSigners signed.version) g.2 g.3 g.4 second.0 second.1).1 in
+    let cross = (held-each signer.entries g.0 (signer.network.position Ds b.version) q
+    (signer.network.position ZoneSigners signed.version) g.2 g.3 g.4 signer.calls
+    (each-holds signer.name signer.calls signer.entries also.run also.plain its.whole g.0 g.1)
+    second.0 second.1).1 in
     let k = own.0 in let l = cross.0 in
     let signs : SignsZone signer l =
     (signer.network.position ZoneSigners signed.version, cross.3) in (

@@ -41,11 +41,11 @@ impl Notes {
             (phase_of keyset.now.rolls roll) (step_of steps roll) roll now }
     {
         let second = waited_for(keyset, roll)?;
-        let base = steps.of(roll)?;
+        let last = steps.of(roll)?;
         Some(DueReport {
             roll,
             second,
-            ttl: self.ttl_due(roll, second, base, now),
+            ttl: self.ttl_due(roll, second, last.origins, now),
         })
     }
 }

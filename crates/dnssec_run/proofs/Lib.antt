@@ -17,6 +17,7 @@
 -- | the premise of plain lists| `plain-by-sets`               | Premise                      |
 -- | all laws of runs          | `came`, `goes`, `by-phase`    | Effects                      |
 -- | for callers of `Recorder` | `last-ds` and the like        | Recorded                     |
+pub mod Since
 pub mod Positions
 pub mod OneKey
 pub mod Next

@@ -1,6 +1,7 @@
 pub mod Asked
 pub mod ByAlgorithm
 pub mod EarlyEnds
+pub mod Origins
 pub mod Plain
 pub mod Published
 pub mod Record
