@@ -47,6 +47,19 @@ def base(record, at):
     return max((n for n in range(at) if record[n].step == roll), default=None)
 
 
+def set_of(record, kind, n):
+    """The set of a kind at a position; a DNSKEY set with its signers."""
+    labels = ("dnskey", "signers") if kind == "dnskey" else (kind,)
+    return [getattr(record[n], label) for label in labels]
+
+
+def origin(record, kind, n):
+    """The position at which the set of a kind came that is there at position n."""
+    while n and set_of(record, kind, n - 1) == set_of(record, kind, n):
+        n -= 1
+    return n
+
+
 def time(record, n):
     return max((p.moment for p in record[: n + 1] if p.moment is not None), default=0)
 

@@ -44,6 +44,7 @@ GIVEN = {
     "steps": "mut steps: Steps",
     "moments": "moments: Moments",
     "at": "mut at: usize",
+    "origins": "origins: Origins",
 }
 # The same name for something else, by the file.
 GIVEN_IN = {

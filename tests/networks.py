@@ -156,7 +156,7 @@ def lacks(keeper, position, signer, base, time):
 def publishes_keys(keeper, signer, now):
     """`PublishesKeysOf`"""
     bases = {signer.first} | {report.base for report in signer.reports(now)
-                              if "dnskey" in report.kinds and report.over() <= now}
+                              if "dnskey" in report.came and report.over() <= now}
     for base, version in product(bases, keeper.held("dnskey", now)):
         if lacks(keeper, version.position, signer, base, now):
             yield f"at {now} a set lacks a zone key that the other has had since {base}"
@@ -165,7 +165,7 @@ def publishes_keys(keeper, signer, now):
 def keep_key_rules(keeper, signer, time):
     """`KeepKeyRules`, up to a time at which both are asked."""
     begin = max(keeper.start, signer.start)
-    reports = [report for report in signer.reports(time) if "dnskey" in report.kinds]
+    reports = [report for report in signer.reports(time) if "dnskey" in report.came]
     reported = [(signer.first, signer.start)]
     reported += [(report.base, report.moment * SECOND) for report in reports]
     for base, moment in reported:

@@ -138,8 +138,8 @@ def played(orders, wrong):
         for one in signers:
             questions += one.notes.questions
             back += one.notes.goes_back()
-            if one.notes.goes_back_over_a_step():
-                wrong.append(f"notes: zone {seed}: a version goes back to before a step")
+            if one.notes.goes_back_over_a_report():
+                wrong.append(f"notes: zone {seed}: a version goes back over a report")
     return questions, back
 
 

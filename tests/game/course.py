@@ -202,6 +202,8 @@ class Follower(Operator):
             while going:
                 going = [roll for roll in going if next(roll, roll) is None]
                 yield
+            if pair[0] == ALGORITHM and self.notes:
+                yield from self.zsk_by_algorithm_roll()
 
     def plan(self, roll, algorithms=None):
         """A roll with its old and its new keys, of one algorithm."""
@@ -223,6 +225,14 @@ class Follower(Operator):
                     old, new = [*old, ksk], [*new, self.add("ksk", each)]
                     self.keys[each] = [new[-1], self.keys[each][1]]
         return roll, old, new
+
+    def zsk_by_algorithm_roll(self):
+        """An algorithm roll of a ZSK only, which leaves the DS set as it is."""
+        each = next((each for each, keys in self.keys.items() if len(keys) == 2), None)
+        if each:
+            ksk, zsk = self.keys[each]
+            self.keys[each] = [ksk, self.add("zsk", each)]
+            yield from self.roll(ALGORITHM, [zsk], self.keys[each][1:])
 
     def choose(self):
         """Which algorithms leave, and which come: at most one leaves, one comes, and two stay."""

@@ -4,7 +4,7 @@ again for its servers. Times are instants, as the operator's fastest clock shows
 from dataclasses import dataclass
 from math import inf
 
-from judge import SPEAKS_OF, base
+from judge import SPEAKS_OF, base, origin
 
 from game.notes import due
 from game.zone import SECOND
@@ -38,13 +38,13 @@ class Version:
 
 @dataclass
 class PastReport:
-    """A report that was made by now, with the position of its step."""
+    """A report that was made by now. For each kind that it speaks of, the position at which the
+    sets came that its step left."""
 
     at: int
     moment: int
     ttl: int
-    base: int
-    kinds: list
+    came: dict
 
     def over(self):
         """The instant at which its TTL is over."""
@@ -150,10 +150,10 @@ class Network:
         """Those that were made after the position `first`."""
         for at, position in enumerate(self.record):
             if position.report and self.first < at:
+                step = base(self.record, at)
                 kinds = SPEAKS_OF[position.report.roll][position.report.second].split()
-                yield PastReport(
-                    at, position.moment, position.report.ttl, base(self.record, at), kinds
-                )
+                came = {kind: origin(self.record, kind, step) for kind in kinds}
+                yield PastReport(at, position.moment, position.report.ttl, came)
 
     def reports(self, time):
         """Those of them that were made by this time."""
@@ -181,8 +181,8 @@ class Network:
     def reports_are_true(self, time):
         """`ReportsAreTrue`"""
         for report in self.reports(time):
-            for kind in report.kinds if report.over() <= time else []:
-                if any(version.position < report.base for version in self.held(kind, time)):
+            for kind, came in report.came.items() if report.over() <= time else []:
+                if any(version.position < came for version in self.held(kind, time)):
                     yield f"{kind}: report {report.at} is false"
 
     def none_lies_ahead(self, time):
@@ -195,12 +195,12 @@ class Network:
     def none_goes_back(self, time):
         """`NoneGoesBack`; servers of the game never give an earlier version."""
         for report in self.reports(time):
-            for kind in report.kinds:
+            for kind, came in report.came.items():
                 given = [version for version in self.versions[kind]
                          if any(begin <= time for begin, _ in version.given)]
-                later = [version.position >= report.base for version in given]
+                later = [version.position >= came for version in given]
                 if sorted(later) != later:
-                    yield f"{kind}: a version goes back over the step of report {report.at}"
+                    yield f"{kind}: a version goes back over what report {report.at} speaks of"
 
     def is_renewed(self, time):
         """`IsRenewed`"""

@@ -4,7 +4,7 @@ The rule for it is that of the page, written again here."""
 from itertools import combinations
 from typing import NamedTuple, Optional
 
-from judge import SPEAKS_OF, time
+from judge import SPEAKS_OF, base, origin, time
 
 from game.zone import SECOND
 
@@ -109,31 +109,34 @@ class Notes:
             for version, later in zip(versions, versions[1:])
         )
 
-    def goes_back_over_a_step(self):
-        """Whether a version goes back past a step of a roll whose reports speak of the kind."""
+    def goes_back_over_a_report(self):
+        """Whether a version goes back to before sets that some report speaks of."""
+        record = self.operator.keyset.record
         return any(
-            later.position < n <= version.position and kind in " ".join(SPEAKS_OF[at.step]).split()
-            for n, at in enumerate(self.operator.keyset.record)
-            if at.step
-            for kind, versions in self.versions.items()
-            for version, later in combinations(versions, 2)
+            later.position < came <= version.position
+            for n, at in enumerate(record)
+            if at.report
+            for kind in SPEAKS_OF[at.report.roll][at.report.second].split()
+            for came in [origin(record, kind, base(record, n))]
+            for version, later in combinations(self.versions[kind], 2)
         )
 
     # Reports
 
     def older(self, roll, second):
-        """For each kind of sets that a report speaks of: the newest version, and the versions that
-        are older than what the roll's last step published."""
-        base = max(n for n, at in enumerate(self.operator.keyset.record) if at.step == roll)
+        """For each kind of sets that a report speaks of: the position at which the sets came that
+        the roll's last step left, the newest version, and the versions that are older."""
+        record = self.operator.keyset.record
+        step = max(n for n, at in enumerate(record) if at.step == roll)
         for kind in SPEAKS_OF[roll][second].split():
-            versions = self.versions[kind]
-            yield base, versions[-1], [each for each in versions if each.position < base]
+            came, versions = origin(record, kind, step), self.versions[kind]
+            yield came, versions[-1], [each for each in versions if each.position < came]
 
     def least(self, roll, second, moment):
         """The TTL of a report, or None if it is not due yet."""
         ttl = 0
-        for base, newest, older in self.older(roll, second):
-            if newest.position < base or any(version.left is None for version in older):
+        for came, newest, older in self.older(roll, second):
+            if newest.position < came or any(version.left is None for version in older):
                 return None
             ttl = max([ttl, *(version.left + version.ttl + 1 - moment for version in older)])
         return ttl

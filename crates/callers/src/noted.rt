@@ -1,7 +1,7 @@
 //! A caller of `dnssec_network`.
 use anyhow::{Result, bail};
 use dnssec_keyset::{RollType, UnixTime};
-use dnssec_network::{Before, Moments, News, Notes, SetKind};
+use dnssec_network::{Before, Moments, News, Notes, Origins, SetKind};
 use std::alloc::Global;
 use std::time::Duration;
 
@@ -33,7 +33,13 @@ pub fn first_report(alloc: Global) -> Result<String> {
     // Once all servers were seen to give it.
     let everywhere = News::Everywhere { moment: at(130) };
     notes.note(&moments, SetKind::Dnskey, everywhere)?;
-    match notes.ttl_due(RollType::KskRoll, false, 12, at(150)) {
+    // The call brought the DNSKEY set. The others are those of earlier calls.
+    let origins = Origins {
+        ds: 5,
+        dnskey: 12,
+        zone: 9,
+    };
+    match notes.ttl_due(RollType::KskRoll, false, origins, at(150)) {
         Ok(ttl) => Ok(format!(in alloc; "report at 150 with a TTL of {ttl}")?),
         Err(kind) => bail!("{kind:?} isn't on all servers yet"),
     }

@@ -5,7 +5,9 @@ use Rattle.std.proofs.Common.{◌≡◌, ◌≤◌}
 use Rattle.std.specs.Prelude.{fold, max, ◌-◌}
 use Rattle.dnssec_key.specs.declared.roll.RollType.{RollType}
 use Rattle.dnssec_run.proofs.Chain.History.{base-lies-below}
-use Rattle.dnssec_run.specs.Safe.{Dnskey, Ds, SetKind, ZoneSigners, retires}
+use Rattle.dnssec_run.proofs.Since.{origin-le}
+use Rattle.dnssec_run.specs.Origins.{origin}
+use Rattle.dnssec_run.specs.Safe.{Dnskey, Ds, SetKind, ZoneSigners, kind_of, retires}
 use Rattle.dnssec_run.specs.declared.caches.SetKind.{SetKind as Kind}
 use Rattle.dnssec_run.specs.declared.caches.SetKind.TheVariants as code
 use Rattle.dnssec_run.specs.declared.record.Entry.{Entry}
@@ -137,39 +139,64 @@ module _ (first start ttl : ℕ) where
 
 -- ---- all premises
 
--- the highest of three equal TTLs, or of some of them
-highest-is : (base now least : ℕ) (roll : RollType) (second : Bool) (before : Before)
-    (facts : List Fact) → ((kind : Kind) → due_of before facts kind true base now ≡ Ok least)
-    → (most : ℕ) × (most ≤ least) × (due before facts roll second base now ≡ Ok most)
-highest-is base now least roll second before facts e = by (retires roll second Ds)
+-- the highest of three TTLs, or of some of them, is within what is most
+highest-is : (from : SetKind → ℕ) (now limit : ℕ) (roll : RollType) (second : Bool)
+    (before : Before) (facts : List Fact)
+    → ((kind : Kind) → (least : ℕ) × (least ≤ limit)
+    × (due_of before facts kind true (from (kind_of kind)) now ≡ Ok least))
+    → (most : ℕ) × (most ≤ limit) × (due before facts roll second from now ≡ Ok most)
+highest-is from now limit roll second before facts e = by (retires roll second Ds)
     (retires roll second Dnskey) (retires roll second ZoneSigners) refl refl refl
   where
-    by : (a b c : Bool) → retires roll second Ds ≡ a → retires roll second Dnskey ≡ b
-        → retires roll second ZoneSigners ≡ c
-        → (most : ℕ) × (most ≤ least) × (due before facts roll second base now ≡ Ok most)
-    by false false false a b c = (0, omega arith, grind (arith, a, b, c))
-    by false false true a b c = (least, omega arith, grind (arith, a, b, c, e code.ZoneSigners))
-    by false true false a b c = (least, omega arith, grind (arith, a, b, c, e code.Dnskey))
-    by false true true a b c = (
-      least,
-      omega arith,
-      grind (arith, a, b, c, e code.Dnskey, e code.ZoneSigners),
+    a : (least : ℕ) × (least ≤ limit) × (due_of before facts code.Ds true (from Ds) now ≡ Ok least)
+    a = e code.Ds
+
+    b : (least : ℕ) × (least ≤ limit)
+        × (due_of before facts code.Dnskey true (from Dnskey) now ≡ Ok least)
+    b = e code.Dnskey
+
+    d : (least : ℕ) × (least ≤ limit)
+        × (due_of before facts code.ZoneSigners true (from ZoneSigners) now ≡ Ok least)
+    d = e code.ZoneSigners
+
+    by : (x y z : Bool) → retires roll second Ds ≡ x → retires roll second Dnskey ≡ y
+        → retires roll second ZoneSigners ≡ z
+        → (most : ℕ) × (most ≤ limit) × (due before facts roll second from now ≡ Ok most)
+    by false false false x y z = (0, omega arith, grind (arith, x, y, z))
+    by false false true x y z = (
+      max (max 0 0) d.0,
+      omega (arith, d.1),
+      grind (arith, x, y, z, d.2),
     )
-    by true false false a b c = (least, omega arith, grind (arith, a, b, c, e code.Ds))
-    by true false true a b c = (
-      least,
-      omega arith,
-      grind (arith, a, b, c, e code.Ds, e code.ZoneSigners),
+    by false true false x y z = (
+      max (max 0 b.0) 0,
+      omega (arith, b.1),
+      grind (arith, x, y, z, b.2),
     )
-    by true true false a b c = (
-      least,
-      omega arith,
-      grind (arith, a, b, c, e code.Ds, e code.Dnskey),
+    by false true true x y z = (
+      max (max 0 b.0) d.0,
+      omega (arith, b.1, d.1),
+      grind (arith, x, y, z, b.2, d.2),
     )
-    by true true true a b c = (
-      least,
-      omega arith,
-      grind (arith, a, b, c, e code.Ds, e code.Dnskey, e code.ZoneSigners),
+    by true false false x y z = (
+      max (max a.0 0) 0,
+      omega (arith, a.1),
+      grind (arith, x, y, z, a.2),
+    )
+    by true false true x y z = (
+      max (max a.0 0) d.0,
+      omega (arith, a.1, d.1),
+      grind (arith, x, y, z, a.2, d.2),
+    )
+    by true true false x y z = (
+      max (max a.0 b.0) 0,
+      omega (arith, a.1, b.1),
+      grind (arith, x, y, z, a.2, b.2),
+    )
+    by true true true x y z = (
+      max (max a.0 b.0) d.0,
+      omega (arith, a.1, b.1, d.1),
+      grind (arith, x, y, z, a.2, b.2, d.2),
     )
 
 module _ (first start ttl time : ℕ) (entries : List Entry) (within : first ≤ length entries)
@@ -243,10 +270,14 @@ module _ (first start ttl time : ℕ) (entries : List Entry) (within : first ≤
   notes : ReportsAreByNotes entries net time
   notes r =
       let lies = base-lies-below entries r.roll r.at r.base r.base_is in
-      let some = due-is first start ttl r.base r.at r.after lies fits in
+      let from : SetKind → ℕ = λ kind. origin entries kind r.base in
       let here = report-within entries r.at r.ttl r.roll r.second r.mark in
-      let most = highest-is r.base (made_since first start r.at) some.0 r.roll r.second earlier
-      (noted r.at) (λ kind. each-due r.base r.at some.0 kind some.2) in
+      let most = highest-is from (made_since first start r.at) ttl r.roll r.second earlier
+      (noted r.at) (λ kind.
+      let base : ℕ = from (kind_of kind) in
+      let some = due-is first start ttl base r.at r.after
+      (omega (arith, lies, origin-le entries (kind_of kind) r.base)) fits in
+      (some.0, some.1, each-due base r.at some.0 kind some.2)) in
       record {
         before = earlier;
         facts = noted r.at;
@@ -258,9 +289,9 @@ module _ (first start ttl time : ℕ) (entries : List Entry) (within : first ≤
               (omega arith) (omega (arith, here))),
         );
         least = most.0;
-        is_due = subst (λ now. due earlier (noted r.at) r.roll r.second r.base now ≡ Ok most.0)
+        is_due = subst (λ now. due earlier (noted r.at) r.roll r.second from now ≡ Ok most.0)
             (sym (clock r.at r.moment r.moment_is)) most.2;
-        enough = omega (arith, most.1, some.1, low r.at r.ttl r.roll r.second r.after r.mark);
+        enough = omega (arith, most.1, low r.at r.ttl r.roll r.second r.after r.mark);
       }
 
   reports : ReportsAreTrue entries net time

@@ -11,10 +11,12 @@ use Rattle.std.proofs.lemmas.Bool.{eqb-true}
 use Rattle.dnssec_run.proofs.Chain.History.{base-lies-below, not_in_empty}
 use Rattle.dnssec_run.proofs.Chain.Trust.{chain-holds, each-holds}
 use Rattle.dnssec_run.specs.Published.{Id}
+use Rattle.dnssec_run.proofs.Since.{origin-le, origin-same}
+use Rattle.dnssec_run.specs.Origins.{CachedSet, origin, set_at}
 use Rattle.dnssec_run.specs.Safe.{Dnskey, Ds, HasChain, MayBeCached, Position, SetKind, TrustsKeys}
 use Rattle.dnssec_run.specs.Safe.{TrustsZone, ZoneSigners, position_at}
-use Rattle.dnssec_network.proofs.Held.{LastMade, held-cached, held-published, last-made}
-use Rattle.dnssec_network.proofs.Held.{may-be-cached, report-within}
+use Rattle.dnssec_network.proofs.Held.{IsHeldAs, LastMade, held-cached, held-chain, held-each}
+use Rattle.dnssec_network.proofs.Held.{held-published, last-made, may-be-cached, report-within}
 use Rattle.dnssec_network.proofs.Steady.{SteadyKey, steady-each, steady-key}
 use Rattle.dnssec_network.specs.Network.{IsPublished, MayBeHeld}
 use Rattle.dnssec_network.specs.TwoSigners.{EachPublishesItsOwn, HasHadSince, HasKey, HasKeysSince}
@@ -36,8 +38,24 @@ each_publishes_its_own s time keeps =
     ) in
     record {
       first = λ v held. own v s.network.first held (published v held).begun;
-      reports = λ r speaks over v held. own v r.base held
-          (keeps.reports r Dnskey speaks over v held);
+      reports = λ r speaks over v held.
+          let at : ℕ = s.network.position Dnskey v in
+          let new = keeps.reports r Dnskey speaks over v held in
+          let lies = base-lies-below s.entries r.roll r.at r.base r.base_is in
+          let within = report-within s.entries r.at r.ttl r.roll r.second r.mark in
+          let flows = keeps.network.in_order r.base r.at (omega (arith, lies)) within r.made in
+          elim (cases_lt at r.base) [
+            -- the set of the step is the same
+            | inl lt ↦ λ k signs had. (
+              k,
+              subst (λ (set : CachedSet). Contains set.0 k)
+                  (sym (origin-same s.entries Dnskey r.base at new (omega (arith, lt))))
+                  (had r.base (omega arith) (omega (arith, lies, within))
+                  (omega (arith, flows, r.made))),
+              refl,
+            )
+            | inr ge ↦ own v r.base held ge
+          ];
     }
 
 -- ---- the signer's record at the time
@@ -69,10 +87,10 @@ module _ (s : Signer) (time : ℕ) (keeps : KeepsRules s time) where
       (s.network.position ZoneSigners z.0) some in
       (last, omega (arith, some.begun, last.3 _ some.recorded some.made))
 
-  -- what caches hold of it may be cached by its record
+  -- what caches hold of it, or an equal set, may be cached by its record
   cached : (last : LastMade s.network.made (length s.entries) time) (kind : SetKind) (v : ℕ)
       → MayBeHeld s.network kind v time
-      → MayBeCached s.entries kind (s.network.position kind v) last.0
+      → IsHeldAs s.entries kind (s.network.position kind v) last.0
   cached last kind v held =
       may-be-cached s.entries s.network time keeps.network keeps.moments last kind
       (s.network.position kind v) (published kind v held)
@@ -121,18 +139,20 @@ module _ (keeper signer : Signer) (time : ℕ) (keeps : KeepsRules signer time)
   lacks-none lacks zero base enough from le has = omega (arith, enough, le)
   lacks-none lacks (suc fuel) base enough from le has =
       let es = signer.entries in
-      lacks (has k signs (λ q ge recorded made. steady q
-      (may-be-cached es signer.network time keeps.network keeps.moments last Dnskey q
+      lacks (has k signs (λ q ge recorded made.
+      let as = may-be-cached es signer.network time keeps.network keeps.moments last Dnskey q
       (record { begun = omega (arith, from, ge); recorded = recorded; made = made })
-      (λ r speaks over. elim (cases_lt q r.base) [
+      (λ r speaks over. elim (cases_lt q (origin es Dnskey r.base)) [
         | inl lt ↦
             let lies = base-lies-below es r.roll r.at r.base r.base_is in
             let within = report-within es r.at r.ttl r.roll r.second r.mark in
-            absurd (lacks-none lacks fuel r.base (omega (arith, enough, ge, lt))
-            (omega (arith, from, ge, lt)) (omega (arith, lies, last.3 r.at within r.made))
+            let came = origin-le es Dnskey r.base in
+            absurd (lacks-none lacks fuel r.base (omega (arith, enough, ge, lt, came))
+            (omega (arith, from, ge, lt, came)) (omega (arith, lies, last.3 r.at within r.made))
             (kept.reports r speaks over v held))
         | inr up ↦ up
-      ]))))
+      ]) in
+      subst (λ (set : CachedSet). Contains set.0 k) as.same (steady as.at as.cached)))
 
   pub is-there : signer.network.first ≤ last.0
       → (HasKey keeper (keeper.network.position Dnskey v) signer k → ⊥) → ⊥
@@ -169,26 +189,26 @@ two_signers_find_chain keeper signer time ds dnskey signers zone keeps also kept
             let third = served keeper time keeps in
             let h = held-cached keeper.entries keeper.network time keeps.network keeps.reports
             keeps.moments a.version keys.version third.0 a.held keys.held third.1 in
-            let found = chain-holds keeper.name keeper.calls keeper.entries keeps.run keeps.plain
-            h.0 h.1 (keeper.network.position Ds a.version)
+            let found = held-chain keeper.entries h.0 (keeper.network.position Ds a.version)
             (keeper.network.position Dnskey keys.version)
-            (keeper.network.position ZoneSigners third.0) h.2 h.3 h.4 in
+            (keeper.network.position ZoneSigners third.0) h.2 h.3 h.4
+            (chain-holds keeper.name keeper.calls keeper.entries keeps.run keeps.plain h.0 h.1) in
             let own = (both_parts (shown keeper Ds a.version) (shown keeper Dnskey keys.version)
             (shown keeper ZoneSigners third.0) first.0 first.1 found).0 in
             let at = now signer time also in
-            let z : ℕ = signer.network.position ZoneSigners signed.version in
+            let of = cached signer time also at.0 Ds b.version b.held in
+            let by = cached signer time also at.0 ZoneSigners signed.version signed.held in
+            let z : ℕ = by.at in
             let s = steady-key signer.name signer.calls signer.entries also.run also.plain
-            at.0.0 at.0.1 (signer.network.position Ds b.version) z
-            (cached signer time also at.0 Ds b.version b.held)
-            (cached signer time also at.0 ZoneSigners signed.version signed.held)
-            second.0 second.1 in
+            at.0.0 at.0.1 of.at z of.cached by.cached second.0
+            (subst (λ (set : CachedSet). Contains set.0 second.0) (sym of.same) second.1) in
             let k = own.0 in
             inr (
               (keeper.public k, a.has k own.1, keys.has k own.2, keys.signed k own.3),
               (
                 signer.public s.0,
                 carried keeper signer time dnskey signers also kept keys at z s,
-                signed.has s.0 s.2,
+                signed.has s.0 (subst (λ (set : CachedSet). Contains set.0 s.0) by.same s.2),
               ),
             )
       ]
@@ -202,16 +222,17 @@ two_signers_find_each_chain keeper signer algorithm time ds dnskey signers zone 
     let third = served keeper time keeps in
     let h = held-cached keeper.entries keeper.network time keeps.network keeps.reports
     keeps.moments a.version keys.version third.0 a.held keys.held third.1 in
-    let own = (each-holds keeper.name keeper.calls keeper.entries keeps.run keeps.plain mine.whole
-    h.0 h.1 (keeper.network.position Ds a.version) (keeper.network.position Dnskey keys.version)
-    (keeper.network.position ZoneSigners third.0) h.2 h.3 h.4 first.0 first.1).0 in
+    let own = (held-each keeper.entries h.0 (keeper.network.position Ds a.version)
+    (keeper.network.position Dnskey keys.version) (keeper.network.position ZoneSigners third.0)
+    h.2 h.3 h.4 keeper.calls (each-holds keeper.name keeper.calls keeper.entries keeps.run
+    keeps.plain mine.whole h.0 h.1) first.0 first.1).0 in
     let at = now signer time also in
-    let z : ℕ = signer.network.position ZoneSigners signed.version in
+    let of = cached signer time also at.0 Ds b.version b.held in
+    let by = cached signer time also at.0 ZoneSigners signed.version signed.held in
+    let z : ℕ = by.at in
     let s = steady-each signer.name signer.calls signer.entries also.run also.plain
-    at.0.0 at.0.1 (signer.network.position Ds b.version) z
-    (cached signer time also at.0 Ds b.version b.held)
-    (cached signer time also at.0 ZoneSigners signed.version signed.held)
-    second.0 second.1 its.whole in
+    at.0.0 at.0.1 of.at z of.cached by.cached second.0
+    (subst (λ (set : CachedSet). Contains set.0 second.0) (sym of.same) second.1) its.whole in
     let k = own.0 in let l = s.0.0 in (
       (
         keeper.public k,
@@ -224,6 +245,6 @@ two_signers_find_each_chain keeper signer algorithm time ds dnskey signers zone 
         signer.public l,
         its.same l ∙ s.1 ∙ sym (its.same second.0) ∙ second.2,
         carried keeper signer time dnskey signers also kept keys at z s.0,
-        signed.has l s.0.2,
+        signed.has l (subst (λ (set : CachedSet). Contains set.0 l) by.same s.0.2),
       ),
     )

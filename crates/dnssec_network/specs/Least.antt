@@ -25,27 +25,27 @@ ComeInOrder base last newest (Everywhere moment ∷ later) =
     × ComeInOrder base last (newest_after (Everywhere moment) newest) later
 
 -- By these facts a report may be false: there is a network of which they are true at all times, and
--- in which nothing ever goes back to before the step; and a cache holds what the report retires,
--- after its TTL has passed.
+-- in which nothing ever goes back to before the sets that the step left; and a cache holds what the
+-- report retires, after its TTL has passed.
 pub record MayBeFalse (before : Before) (facts : List Fact) (roll : RollType) (second : Bool)
-    (base moment ttl : ℕ) : Type 0 where
+    (from : SetKind → ℕ) (moment ttl : ℕ) : Type 0 where
   pub network : Network
   pub are_true : (time : ℕ) → AreTrue before facts network time
   pub kind : SetKind
   pub speaks : retires roll second kind ≡ true
-  pub back : (time : ℕ) → NeverGoesBack network kind base time
+  pub back : (time : ℕ) → NeverGoesBack network kind (from kind) time
   pub v : ℕ
   pub time : ℕ
   pub over : moment + ttl * 1_000_000_000 ≤ time
   pub held : MayBeHeld network kind v time
-  pub older : network.position kind v < base
+  pub older : network.position kind v < from kind
 
 -- A report with a lower TTL than the one that is due may be false.
 abbrev pub LeastTtlIsDue : Type 0
 LeastTtlIsDue =
     (before : Before) (facts : List Fact) (roll : RollType) (second : Bool)
-    (base moment ttl less : ℕ) →
-    ((kind : SetKind) → ComeInOrder base 0 first_newest (news_of kind facts)) →
-    due before facts roll second base moment ≡ Ok ttl →
+    (from : SetKind → ℕ) (moment ttl less : ℕ) →
+    ((kind : SetKind) → ComeInOrder (from kind) 0 first_newest (news_of kind facts)) →
+    due before facts roll second from moment ≡ Ok ttl →
     less < ttl →
-    MayBeFalse before facts roll second base moment less
+    MayBeFalse before facts roll second from moment less

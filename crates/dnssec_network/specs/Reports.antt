@@ -8,11 +8,14 @@ use Rattle.dnssec_key.specs.declared.roll.RollType.{RollType}
 use Rattle.dnssec_run.specs.Moments.{moment_of_call}
 use Rattle.dnssec_run.specs.declared.call.Call.{Call}
 use Rattle.dnssec_run.specs.declared.record.Entry.{Entry}
+use Rattle.dnssec_run.specs.declared.steps.LastStep.{LastStep}
+use Rattle.dnssec_run.specs.Origins.{origin}
 use Rattle.dnssec_run.specs.Plain.{IsPlain}
 use Rattle.dnssec_run.specs.Record.{IsRun}
 use Rattle.dnssec_run.specs.declared.caches.SetKind.{SetKind as Kind}
 use Rattle.dnssec_run.specs.declared.caches.SetKind.TheVariants.{Ds, Dnskey, ZoneSigners}
 use Rattle.dnssec_run.specs.Safe.{SetKind, kind_of, retires}
+use Rattle.dnssec_run.specs.Steps.{origin_in}
 use Rattle.dnssec_network.specs.declared.due.DueReport.{DueReport}
 use Rattle.dnssec_network.specs.declared.due.NotYet.{NotYet}
 use Rattle.dnssec_network.specs.declared.due.NotYet.TheVariants.{WaitsFor, WaitsUntil}
@@ -43,13 +46,17 @@ due_of before facts kind speaks base now =
     (known base (ttl_before before (kind_of kind)) (news_of (kind_of kind) facts)) now)
     else Ok 0
 
--- the highest TTL for all kinds that a report of the roll speaks of, if its step is at `base`; or
--- the first such kind whose older sets servers may still give
-abbrev pub due : Before → List Fact → RollType → Bool → ℕ → ℕ → Result ℕ Kind
-due before facts roll second base now =
-    higher (higher (due_of before facts Ds (retires roll second (kind_of Ds)) base now)
-    (due_of before facts Dnskey (retires roll second (kind_of Dnskey)) base now))
-    (due_of before facts ZoneSigners (retires roll second (kind_of ZoneSigners)) base now)
+-- The highest TTL for all kinds that a report of the roll speaks of; or the first such kind whose
+-- older sets servers may still give. The sets of each kind that the roll's step left came at the
+-- position `from` of the kind.
+abbrev pub due : Before → List Fact → RollType → Bool → (SetKind → ℕ) → ℕ → Result ℕ Kind
+due before facts roll second from now =
+    higher (higher (due_of before facts Ds (retires roll second (kind_of Ds)) (from (kind_of Ds))
+    now)
+    (due_of before facts Dnskey (retires roll second (kind_of Dnskey)) (from (kind_of Dnskey))
+    now))
+    (due_of before facts ZoneSigners (retires roll second (kind_of ZoneSigners))
+    (from (kind_of ZoneSigners)) now)
 
 -- ---- which report is due
 
@@ -69,14 +76,14 @@ abbrev pub due_from : ℕ → ℕ → Result ℕ Kind → Result ℕ NotYet
 due_from begun now ttl = if nat_lt now begun then Err (WaitsUntil begun) else ttl_or_kind ttl
 
 -- the report that a roll waits for in its phase, with its last step, given the times at the calls
-abbrev pub due_report : Before → List Fact → List ℕ → Option RollState → Option ℕ → RollType → ℕ
-    → Option DueReport
+abbrev pub due_report : Before → List Fact → List ℕ → Option RollState → Option LastStep → RollType
+    → ℕ → Option DueReport
 due_report before facts moments phase step roll now =
-    option_and_then (λ second. option_map (λ base. record {
+    option_and_then (λ second. option_map (λ (last : LastStep). record {
       roll = roll;
       second = second;
-      ttl = due_from (unwrap_or (moment_of_call moments base) 0) now
-          (due before facts roll second base now);
+      ttl = due_from (unwrap_or (moment_of_call moments last.at) 0) now
+          (due before facts roll second (origin_in last.origins) now);
     }) step) (waited_for phase)
 
 -- ---- reports by notes
@@ -84,26 +91,26 @@ due_report before facts moments phase step roll now =
 -- a report of this roll was made with the TTL that is due by facts that are true up to a time, or
 -- with a higher one
 pub record IsByNotes (network : Network) (roll : RollType) (second : Bool)
-    (base moment ttl time : ℕ) : Type 0 where
+    (from : SetKind → ℕ) (moment ttl time : ℕ) : Type 0 where
   pub before : Before
   pub facts : List Fact
   pub are_true : AreTrue before facts network time
   pub least : ℕ
-  pub is_due : due before facts roll second base moment ≡ Ok least
+  pub is_due : due before facts roll second from moment ≡ Ok least
   pub enough : least ≤ ttl
 
 -- each report that was made by this time was made so
 abbrev pub ReportsAreByNotes : List Entry → Network → ℕ → Type 0
 ReportsAreByNotes entries network time = (r : PastReport entries network time) →
-    IsByNotes network r.roll r.second r.base r.moment r.ttl time
+    IsByNotes network r.roll r.second (λ kind. origin entries kind r.base) r.moment r.ttl time
 
--- Of the kinds that a report speaks of nothing goes back to before its step. Between two steps
--- versions may: a parent that reads CDS may, after a roll was ended early, give once more what the
--- start of the roll had asked for.
+-- Of the kinds that a report speaks of nothing goes back to before the sets that its step left.
+-- Before these came, versions may: a parent that reads CDS may, after a roll was ended early, give
+-- once more what the start of the roll had asked for.
 abbrev pub NoneGoesBack : List Entry → Network → ℕ → Type 0
 NoneGoesBack entries network time = (r : PastReport entries network time) (kind : SetKind) →
     retires r.roll r.second kind ≡ true →
-    NeverGoesBack network kind r.base time
+    NeverGoesBack network kind (origin entries kind r.base) time
 
 -- then the reports are true
 abbrev pub NotesMakeReportsTrue : Type 0
@@ -112,11 +119,11 @@ NotesMakeReportsTrue = (entries : List Entry) (network : Network) (time : ℕ) �
     ReportsAreByNotes entries network time →
     (r : PastReport entries network time) (kind : SetKind) →
     retires r.roll r.second kind ≡ true →
-    IsTrueReport network kind r.base r.moment r.ttl time
+    IsTrueReport network kind (origin entries kind r.base) r.moment r.ttl time
 
 -- So an operator who reports by notes answers only for what can be seen: that servers give what was
--- published, and nothing goes back to before a step; that the notes are true; and that no moment
--- lay ahead of the clock.
+-- published, and nothing goes back to before the sets that a step left; that the notes are true;
+-- and that no moment lay ahead of the clock.
 abbrev pub NotedReportsReachResolvers : Type 0
 NotedReportsReachResolvers =
     (name : List ℕ) (calls : List Call) (entries : List Entry) (network : Network) (time : ℕ) →

@@ -6,8 +6,8 @@ use Rattle.dnssec_network.specs.declared.fact.News.{News}
 use Rattle.dnssec_network.specs.declared.fact.News.TheVariants.{Published, Everywhere}
 use Rattle.dnssec_network.specs.declared.spread.Spread.{Spread}
 
--- A report speaks of the sets that its step published at position `base`. Older versions are those
--- that have the sets of positions before it.
+-- A report speaks of sets that came at position `base`. Older versions are those that have the sets
+-- of positions before it.
 
 -- before the first call: one version, with its TTL
 abbrev pub first_spread : ℕ → Spread

@@ -1,13 +1,13 @@
 //! Reports that are due: what a roll waits for, and with which TTL.
 ghost use Rattle.std.specs.Prelude.{◌≡◌, unwrap_or};
 ghost use Rattle.dnssec_run.specs.Moments.{moment_of_call};
-ghost use Rattle.dnssec_run.specs.Steps.{step_of};
+ghost use Rattle.dnssec_run.specs.Steps.{origin_in, step_of};
 ghost use Rattle.dnssec_network.specs.Reports.{due, due_from, due_report, ttl_or_kind, waited_for};
 ghost use Rattle.dnssec_zone.specs.Rolls.{phase_of};
 
 use crate::notes::Notes;
 use dnssec_keyset::{KeySet, RollState, RollType, UnixTime};
-use dnssec_run::{Moments, SetKind, Steps};
+use dnssec_run::{LastStep, Moments, SetKind, Steps};
 
 /// A report that a roll waits for.
 #[derive(Clone, Copy, Debug)]
@@ -53,11 +53,11 @@ impl Notes {
             (phase_of keyset.now.rolls roll) (step_of steps roll) roll now }
     {
         let second = waited_for(keyset, roll)?;
-        let base = steps.of(roll)?;
+        let last = steps.of(roll)?;
         Some(DueReport {
             roll,
             second,
-            ttl: self.due_from(moments, roll, second, base, now),
+            ttl: self.due_from(moments, roll, second, last, now),
         })
     }
 
@@ -68,15 +68,15 @@ impl Notes {
         moments: &Moments,
         roll: RollType,
         second: bool,
-        base: usize,
+        last: LastStep,
         now: UnixTime,
     ) -> Result<u32, NotYet>
-        ensures { result ≡ due_from (unwrap_or (moment_of_call moments.now base) 0) now
-            (due self.now.before self.now.facts roll second base now) }
+        ensures { result ≡ due_from (unwrap_or (moment_of_call moments.now last.at) 0) now
+            (due self.now.before self.now.facts roll second (origin_in last.origins) now) }
     {
-        match moments.of_call(base) {
+        match moments.of_call(last.at) {
             Some(begun) if now < begun => Err(NotYet::WaitsUntil(begun)),
-            _ => ttl_or_kind(self.ttl_due(roll, second, base, now)),
+            _ => ttl_or_kind(self.ttl_due(roll, second, last.origins, now)),
         }
     }
 }

@@ -7,7 +7,7 @@ use Rattle.dnssec_record.specs.declared.session.Session.{Session}
 use Rattle.dnssec_run.specs.Moments.{moments_of}
 use Rattle.dnssec_run.specs.Record.{world_at}
 use Rattle.dnssec_run.specs.Steps.{AreStepsOf, step_of}
-use Rattle.dnssec_run.specs.declared.{record.Entry.Entry, record.Steps.Steps}
+use Rattle.dnssec_run.specs.declared.{record.Entry.Entry, steps.Steps.Steps}
 use Rattle.dnssec_notes.specs.Due.{IsDueAfter, due_text}
 use Rattle.dnssec_notes.specs.Reading.{AreNotes}
 

@@ -8,8 +8,10 @@ use Rattle.dnssec_zone.specs.Rolls.{Rolls, all_rolls, phase_of}
 use Rattle.dnssec_run.specs.declared.call.Call.{Call}
 use Rattle.dnssec_run.specs.declared.record.Entry.{Entry}
 use Rattle.dnssec_run.specs.Moments.{moments_of}
+use Rattle.dnssec_run.specs.declared.caches.SetKind.{SetKind}
+use Rattle.dnssec_run.specs.declared.steps.LastStep.{LastStep}
 use Rattle.dnssec_run.specs.Record.{IsRun, world_at}
-use Rattle.dnssec_run.specs.Safe.{base_below}
+use Rattle.dnssec_run.specs.Steps.{last_step}
 use Rattle.dnssec_network.specs.declared.due.DueReport.{DueReport}
 use Rattle.dnssec_network.specs.declared.due.NotYet.{NotYet}
 use Rattle.dnssec_network.specs.declared.due.NotYet.TheVariants.{WaitsFor, WaitsUntil}
@@ -54,14 +56,15 @@ due_line None seconds = []
 due_line (Some report) seconds = ttl_line report.second report.roll report.ttl seconds
 
 -- the line of a roll in its phase, with its last step
-abbrev pub line_for : Rolls → (RollType → Option ℕ) → List ℕ → Before → List Fact → ℕ → RollType
-    → List ℕ
+abbrev pub line_for : Rolls → (RollType → Option LastStep) → List ℕ → Before → List Fact → ℕ
+    → RollType → List ℕ
 line_for rolls step moments before facts seconds roll = due_line
     (due_report before facts moments (phase_of rolls roll) (step roll) roll
     (seconds * 1_000_000_000)) seconds
 
 -- the lines of all rolls in progress
-abbrev pub due_text : Rolls → (RollType → Option ℕ) → List ℕ → Before → List Fact → ℕ → List ℕ
+abbrev pub due_text : Rolls → (RollType → Option LastStep) → List ℕ → Before → List Fact → ℕ
+    → List ℕ
 due_text rolls step moments before facts seconds =
     flat_map (line_for rolls step moments before facts seconds) all_rolls
 
@@ -79,7 +82,7 @@ pub record IsDueAfter (lines notes : List (List ℕ)) (entries : List Entry) (se
   pub is_run : IsRun name calls entries
   pub are_notes : AreNotes (moments_of entries) notes before facts
   pub is_text : text ≡ due_text (world_at name calls entries (length entries)).set.rolls
-      (λ roll. base_below entries roll (suc (length entries))) (moments_of entries) before facts
+      (λ roll. last_step entries roll (suc (length entries))) (moments_of entries) before facts
       seconds
 
 -- a question: the second that it asks about, and the lines of the notes above it

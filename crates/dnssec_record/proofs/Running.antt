@@ -11,7 +11,8 @@ use Rattle.dnssec_run.specs.declared.{call.Call.Call, record.Entry.Entry, record
 use Rattle.dnssec_run.specs.declared.record.{Published.Published, PublishedKey.PublishedKey}
 use Rattle.dnssec_run.specs.{declared.running.Recorder.Recorder, Published.Id, Published.id_of}
 use Rattle.dnssec_run.{specs.Recorder.HasSameKeys, specs.Recorder.Records, proofs.Grow.at_end}
-use Rattle.dnssec_judge.specs.Inner.Window.{GoesOnWith, set_at, set_in}
+use Rattle.dnssec_judge.specs.Inner.Window.{GoesOnWith}
+use Rattle.dnssec_run.specs.Origins.{set_at, set_in}
 use Rattle.dnssec_judge.specs.declared.{judging.Judge.Judge, verdict.Broken.Broken}
 use Rattle.dnssec_judge.specs.{Judge.ComesNext, Judge.Knows, Verdict.IsVerdict}
 use Rattle.dnssec_script.specs.Inner.Statement.{Makes, statement_says}

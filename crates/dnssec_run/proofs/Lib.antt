@@ -18,6 +18,7 @@
 -- | all laws of runs          | `came`, `goes`, `by-phase`    | Effects                      |
 -- | for callers of `Recorder` | `last-ds` and the like        | Recorded                     |
 -- | `Moments`                 | `moments-more`, `latest-is`   | Latest                       |
+pub mod Since
 pub mod Positions
 pub mod OneKey
 pub mod Next

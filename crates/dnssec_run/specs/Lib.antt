@@ -2,6 +2,7 @@ pub mod Asked
 pub mod ByAlgorithm
 pub mod EarlyEnds
 pub mod Moments
+pub mod Origins
 pub mod Plain
 pub mod Published
 pub mod Record

@@ -12,11 +12,13 @@ mod plain;
 mod record;
 mod running;
 mod sets;
+mod steps;
 
 pub use caches::{SetKind, retires};
 pub use call::Call;
 pub use moments::Moments;
 pub use plain::{each_chain_is_one, starts_suffice, whole_runs_stay_safe};
-pub use record::{Entry, Mark, Outcome, Published, PublishedKey, Reply, Run, Steps};
+pub use record::{Entry, Mark, Outcome, Published, PublishedKey, Reply, Run};
 pub use running::{Recorder, run};
 pub use sets::Shown;
+pub use steps::{LastStep, Origins, Steps};

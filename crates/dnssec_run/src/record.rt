@@ -1,12 +1,13 @@
-//! What a run leaves: its entries, with what was published at each position. And what is read off
-//! them: which sets a call has touched, and what each report counts from.
-ghost use Rattle.std.specs.Prelude.{◌≡◌, ◌||◌, [], None, Some, true, false, if◌then◌else◌};
+//! What a run leaves: its entries, with what was published at each position. And which sets a call
+//! has touched.
+ghost use Rattle.std.specs.Prelude.{◌≡◌, ◌||◌, [], Some, true, false, map};
 ghost use Rattle.std.specs.List.{list_any};
-ghost use Rattle.dnssec_key.specs.declared.roll.RollType.{RollType};
 ghost use Rattle.dnssec_run.specs.Asked.{asked_by, updates};
-ghost use Rattle.dnssec_run.specs.Safe.{Ds, Dnskey, ZoneSigners, is_step};
-ghost use Rattle.dnssec_run.specs.Steps.{AreStepsOf, step_of};
+ghost use Rattle.dnssec_run.specs.Origins.{set_in};
+ghost use Rattle.dnssec_run.specs.Published.{id_of};
+ghost use Rattle.dnssec_run.specs.Safe.{Ds, Dnskey, ZoneSigners, kind_of};
 
+use crate::caches::SetKind;
 use dnssec_keyset::{Action, Error, KeySet, RollType, UnixTime};
 use std::alloc::Global;
 
@@ -115,6 +116,17 @@ impl Published {
             zone_signers: Vec::new(alloc),
         }
     }
+
+    /// The set of a kind, with its signers. Only a DNSKEY set has some.
+    pub fn of(&self, kind: SetKind) -> (&[PublishedKey], &[PublishedKey])
+        ensures { (map id_of result.0.now, map id_of result.1.now) ≡ set_in (kind_of kind) self.now }
+    {
+        match kind {
+            SetKind::Ds => (self.ds.as_slice(), &[]),
+            SetKind::Dnskey => (self.dnskey.as_slice(), self.dnskey_signers.as_slice()),
+            SetKind::ZoneSigners => (self.zone_signers.as_slice(), &[]),
+        }
+    }
 }
 
 /// What an accepted call means for the caches that hold what was published before.
@@ -163,58 +175,4 @@ pub struct Outcome {
 pub struct Run {
     pub keyset: KeySet,
     pub entries: Vec<Entry>,
-}
-
-/// The last step of each roll so far, as its position: what the roll's next report counts from.
-///
-/// ```rust
-/// let outcome = recorder.advance(alloc, call)?;
-/// at += 1;
-/// steps = steps.after(outcome.mark, at);
-/// ```
-#[derive(Clone, Copy, Debug)]
-pub struct Steps {
-    /// One for each roll, in their order in `RollType`.
-    by_roll: [Option<usize>; 6],
-}
-
-impl Steps {
-    /// No roll has a step.
-    pub fn new() -> Self
-        ensures { (roll : RollType) → step_of result roll ≡ None }
-    {
-        Steps { by_roll: [None; 6] }
-    }
-
-    /// The last steps of a record.
-    pub fn of_record(entries: &[Entry]) -> Self
-        ensures { AreStepsOf entries.now result }
-    {
-        let mut steps = Steps::new();
-        for (index, entry) in entries.iter().enumerate() {
-            steps = steps.after(entry.mark, index + 1);
-        }
-        steps
-    }
-
-    /// The last step of the roll, if any: its last accepted start or first wait.
-    pub fn of(self, roll: RollType) -> Option<usize>
-        ensures { result ≡ step_of self roll }
-    {
-        self.by_roll[roll as usize]
-    }
-
-    /// The last steps after a call with this mark at the position.
-    pub fn after(mut self, mark: Mark, at: usize) -> Self
-        ensures { (roll : RollType) → step_of result roll
-            ≡ (if is_step roll mark then Some at else step_of self roll) }
-    {
-        match mark {
-            Mark::Step(roll) => {
-                self.by_roll[roll as usize] = Some(at);
-                self
-            }
-            _ => self,
-        }
-    }
 }

@@ -1,13 +1,15 @@
 -- Lists of keys: what a test finds, and a test that a key of one piece passes.
-use Rattle.std.proofs.Common.{◌≡◌, ℕ, zero, suc, ◌<◌, Bool, true, refl, sym, ◌∙◌, ap, arith, subst}
+use Rattle.std.proofs.Common.{◌≡◌, ℕ, zero, suc, ◌<◌, Bool, true, false, refl, sym, ◌∙◌, ap, arith, subst}
 use Rattle.std.proofs.Common.{List, [], ◌∷◌, ◌++◌, length, get_or, drop, take, map}
-use Rattle.std.proofs.lemmas.Bool.Decides.{Decides-and, Decides-eqb, Decides-like}
+use Rattle.std.proofs.lemmas.Bool.Decides.{Decides-like}
 use Rattle.std.proofs.lemmas.List.Folds.{Any-from_list_any, list_any-append, list_any-from_Any}
-use Rattle.std.proofs.lemmas.{List.take-append-drop, Slice.Eq.bytes_eq-Decides}
+use Rattle.std.proofs.lemmas.List.{take-append-drop}
 use Rattle.std.proofs.Math.Bool.{or-true}
-use Rattle.std.specs.{Bool.Decides, List.Contains, List.list_any, Prelude.◌||◌, Prelude.flat_map}
+use Rattle.std.specs.{Bool.Decides, List.Contains, List.list_any, Prelude.◌&&◌, Prelude.◌==◌, Prelude.◌||◌, Prelude.flat_map}
+use Rattle.dnssec_run.proofs.Since.{same-id, same-ids}
+use Rattle.dnssec_run.specs.Origins.{same_id, same_ids}
 use Rattle.dnssec_run.specs.Published.{Id}
-use Rattle.dnssec_sets.specs.Chained.{ids_of_piece, is_in, same_id, shared_id}
+use Rattle.dnssec_sets.specs.Chained.{ids_of_piece, is_in, shared_id}
 use Rattle.dnssec_sets.specs.declared.{list.Piece.Piece, shared.SharedKey.SharedKey}
 
 -- a test of what elements are
@@ -32,11 +34,35 @@ any-key p P h ids = (
   λ t. list_any-from_Any p ids (t.1.0, t.0, t.1.1, t.1.2, (h t.0).1 t.2),
 )
 
--- two keys are the same
-pub same-id : (a b : Id) → Decides (same_id a b) (a ≡ b)
-same-id a b =
-    Decides-like _ (λ h i. (h.1 i, h.0 i)) (λ e. ((λ i. (e i).1), (λ i. (e i).0)))
-    (Decides-and _ _ (Decides-eqb a.1 b.1) (bytes_eq-Decides a.0 b.0))
+-- ---- the same keys
+
+-- lists of other lengths are others
+pub apart : (one other : List Id) → (length one ≡ length other → ⊥) → same_ids one other ≡ false
+apart one other ne = by (same_ids one other) refl
+  where
+    by : (b : Bool) → same_ids one other ≡ b → b ≡ false
+    by true e = absurd (ne (ap length ((same-ids one other).0 e)))
+    by false e = refl
+
+both-and : (a b c : Bool) → (a && (b && c)) ≡ ((a && b) && c)
+both-and true b c = refl
+both-and false b c = refl
+
+-- of two lists in two parts each
+pub same-joined : (front back first rest : List Id) → length front ≡ length first
+    → same_ids (front ++ back) (first ++ rest) ≡ (same_ids front first && same_ids back rest)
+same-joined [] back [] rest e = refl
+same-joined [] back (y ∷ first) rest e = absurd (omega (arith, e))
+same-joined (x ∷ front) back [] rest e = absurd (omega (arith, e))
+same-joined (x ∷ front) back (y ∷ first) rest e =
+    ap (λ b. same_id x y && b) (same-joined front back first rest (omega (arith, e)))
+    ∙ both-and (same_id x y) (same_ids front first) (same_ids back rest)
+
+-- no key is left, or some is
+pub same-none : (A : Type 0) (id : A → Id) (keys : List A)
+    → (length keys == 0) ≡ same_ids [] (map id keys)
+same-none A id [] = refl
+same-none A id (key ∷ keys) = grind arith
 
 pub in-list : (ids : List Id) (k : Id) → Decides (is_in ids k) (Contains ids k)
 in-list ids k =

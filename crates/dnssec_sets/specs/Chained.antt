@@ -1,5 +1,5 @@
 -- The chain of trust, as tests of lists of keys.
-use Rattle.std.specs.Prelude.{◌≡◌, ◌==◌, ◌<◌, ℕ, Bool, true, false, ◌&&◌, List, [], ◌∷◌, Option}
+use Rattle.std.specs.Prelude.{◌≡◌, ◌<◌, ℕ, Bool, true, false, ◌&&◌, List, [], ◌∷◌, Option}
 use Rattle.std.specs.Prelude.{None, Some, flat_map, length, map, slice_index_or as get_or}
 use Rattle.std.specs.declared.cmp.Ordering.TheVariants.{Less}
 use Rattle.std.specs.Cmp.Lexicographic.{slice_cmp}
@@ -7,16 +7,12 @@ use Rattle.std.specs.Ordering.{nat_cmp}
 use Rattle.std.specs.List.{list_any}
 use Rattle.std.specs.Option.{option_map}
 use denote.Ref.{Bor}
-use Rattle.std.specs.Str.{bytes_eq}
+use Rattle.dnssec_run.specs.Origins.{same_id}
 use Rattle.dnssec_run.specs.Published.{Id, id_of}
 use Rattle.dnssec_sets.specs.declared.list.KeyList.{KeyList}
 use Rattle.dnssec_sets.specs.declared.list.KeyList.TheVariants.{Empty, Whole, Pieces}
 use Rattle.dnssec_sets.specs.declared.list.Piece.{Piece}
 use Rattle.dnssec_sets.specs.declared.shared.SharedKey.{SharedKey}
-
--- the same reference, added at the same position
-abbrev pub same_id : Id → Id → Bool
-same_id a b = (a.1 == b.1) && bytes_eq a.0 b.0
 
 abbrev pub is_in : List Id → Id → Bool
 is_in ids k = list_any (λ other. same_id other k) ids

@@ -1,12 +1,8 @@
 -- A set as caches hold it, and whether two or three of them hold in a chain.
-use Rattle.std.specs.Prelude.{◌&&◌, ◌||◌, Bool, List, [], ℕ, Option, None, Some}
-use Rattle.dnssec_run.specs.Published.{Id}
+use Rattle.std.specs.Prelude.{◌&&◌, ◌||◌, Bool, [], ℕ, Option, None, Some}
+pub use Rattle.dnssec_run.specs.Origins.{CachedSet}
 use Rattle.dnssec_sets.specs.declared.held.Held.{Held}
 use Rattle.dnssec_sets.specs.Chained.{ids_in, is_none, trusts_keys, trusts_zone}
-
--- what caches hold as one: a set of keys; a DNSKEY set with its signers
-abbrev pub CachedSet : Type 0
-CachedSet = List Id × List Id
 
 -- the set that is held at a place
 abbrev pub set_of_held : Held → CachedSet

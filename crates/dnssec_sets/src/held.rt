@@ -1,6 +1,7 @@
 //! A set as a judge holds it.
 ghost use Rattle.std.specs.Prelude.{◌≡◌, [], map, IfOk, IfErr, true};
 ghost use Rattle.dnssec_base.specs.declared.error.Error.TheVariants.{OutOfMemory};
+ghost use Rattle.dnssec_run.specs.Origins.{same_set};
 ghost use Rattle.dnssec_run.specs.Published.{id_of};
 ghost use Rattle.dnssec_sets.specs.Chained.{is_none};
 ghost use Rattle.dnssec_sets.specs.Sets.{keys_hold, parts_of, set_of_held, zone_holds};
@@ -92,6 +93,14 @@ impl Held {
         if self.sum != sum {
             return false;
         }
+        self.has(keys, signers)
+    }
+
+    /// The same, for who has no sum of the set.
+    pub fn has(&self, keys: &[PublishedKey], signers: &[PublishedKey]) -> bool
+        ensures { result ≡ same_set (set_of_held self.now)
+            (map id_of keys.now, map id_of signers.now) }
+    {
         self.keys.is(keys) && self.signers.is(signers)
     }
 

@@ -2,6 +2,7 @@
 ghost use Rattle.std.specs.Prelude.{◌≡◌, Bool, true, flat_map, map, IfOk, IfErr};
 ghost use Rattle.std.specs.List.{list_any};
 ghost use Rattle.dnssec_base.specs.declared.error.Error.TheVariants.{OutOfMemory};
+ghost use Rattle.dnssec_run.specs.Origins.{same_ids};
 ghost use Rattle.dnssec_run.specs.Published.{Id, id_of};
 ghost use Rattle.dnssec_sets.specs.Chained.{ids_in, ids_of_piece, is_in, is_none, shared_id};
 
@@ -125,7 +126,7 @@ impl KeyList {
     /// Whether it has these keys.
     #[inline(always)]
     pub(crate) fn is(&self, keys: &[PublishedKey]) -> bool
-        ensures { result ≡ true → ids_in self.now ≡ map id_of keys.now }
+        ensures { result ≡ same_ids (ids_in self.now) (map id_of keys.now) }
     {
         match self {
             KeyList::Empty => keys.is_empty(),
@@ -275,7 +276,7 @@ fn share_pieces(alloc: Global, pieces: &[Piece]) -> Result<Vec<Piece>, Error>
 
 /// Whether the pieces have these keys.
 fn have_same(pieces: &[Piece], keys: &[PublishedKey]) -> bool
-    ensures { result ≡ true → flat_map ids_of_piece pieces.now ≡ map id_of keys.now }
+    ensures { result ≡ same_ids (flat_map ids_of_piece pieces.now) (map id_of keys.now) }
 {
     let mut rest = keys;
     for piece in pieces {

@@ -2,6 +2,7 @@
 //! the set before it too.
 ghost use Rattle.std.specs.Prelude.{◌≡◌, ◌≤◌, ◌<◌, ◌++◌, length, map, flat_map, true, IfOk, IfErr};
 ghost use Rattle.dnssec_base.specs.declared.error.Error.TheVariants.{OutOfMemory};
+ghost use Rattle.dnssec_run.specs.Origins.{same_ids};
 ghost use Rattle.dnssec_run.specs.Published.{id_of};
 ghost use Rattle.dnssec_sets.specs.Chained.{ids_in, ids_of_piece, shared_id};
 
@@ -114,7 +115,7 @@ pub fn sum_of(keys: &[PublishedKey]) -> usize {
 
 /// Whether the lists have the same keys.
 pub(crate) fn are_same(shared: &[SharedKey], keys: &[PublishedKey]) -> bool
-    ensures { result ≡ true → map shared_id shared.now ≡ map id_of keys.now }
+    ensures { result ≡ same_ids (map shared_id shared.now) (map id_of keys.now) }
 {
     if shared.len() != keys.len() {
         return false;

@@ -3,13 +3,14 @@ use Rattle.std.proofs.Common.{◌≡◌, ℕ, refl, sym, ◌∙◌, ap, arith, L
 use Rattle.std.proofs.Common.{[], ◌∷◌, length, map}
 use Rattle.std.proofs.lemmas.Option.{same_Some, slice_get-map}
 use Rattle.std.specs.{Option.option_map, Option.option_map_or, Prelude.slice_get}
-use Rattle.dnssec_run.specs.{declared.record.Entry.Entry, Safe.SetKind, Safe.position_at}
+use Rattle.dnssec_run.specs.{declared.record.Entry.Entry, Origins.set_at, Safe.SetKind}
+use Rattle.dnssec_run.specs.Safe.{position_at}
 use Rattle.dnssec_sets.specs.declared.held.Held.{Held}
 use Rattle.dnssec_sets.specs.Sets.{CachedSet, parts_of, set_of_any}
 use Rattle.dnssec_judge.specs.declared.{judging.Judge.Judge, window.Span.Span, window.Window.Window}
 use Rattle.dnssec_judge.specs.Judge.{Knows}
 use Rattle.dnssec_judge.specs.Inner.Window.{AreKept, Begins, GoesOnAbove, IsSame, Keeps, StillRests}
-use Rattle.dnssec_judge.specs.Inner.Window.{Tiles, Watches, begin_of, floor_with, set_at}
+use Rattle.dnssec_judge.specs.Inner.Window.{Tiles, Watches, begin_of, came, floor_with}
 use Rattle.dnssec_judge.specs.Inner.Window.{set_at_place, stretches, stretches_of}
 use Rattle.dnssec_judge.proofs.OneByOne.{Pairs.tested-on, Sets.carried}
 
@@ -88,6 +89,7 @@ module _ (a b : Window) (s : IsSame a b) where
     goes_on = subst (λ (f : ℕ). GoesOnAbove f (stretches_of b)) (sym s.floor)
         (subst (GoesOnAbove a.floor) (sym stretches-same) w.goes_on);
     keeps = (keeps-same n w.keeps).0;
+    came_at = ap came s.spans ∙ w.came_at;
   }
 
 pub copy-knows : (es : List Entry) (j : Judge) (ds dnskey zone : Window) → IsSame j.ds ds
@@ -97,7 +99,7 @@ copy-knows es j ds dnskey zone p q z h = record {
   at = h.at;
   steps = h.steps;
   verdict = h.verdict;
-  follows = λ none. (let f = h.follows none in record {
+  follows = let f = h.follows in record {
     time = f.time;
     ds = watches-same j.ds ds p es _ (length es) f.ds;
     dnskey = watches-same j.dnskey dnskey q es _ (length es) f.dnskey;
@@ -107,5 +109,5 @@ copy-knows es j ds dnskey zone p q z h = record {
         (keeps-same j.ds ds p (length es) f.ds.keeps).1
         (keeps-same j.dnskey dnskey q (length es) f.dnskey.keeps).1
         (keeps-same j.zone zone z (length es) f.zone.keeps).1 f.tested;
-  });
+  };
 }

@@ -215,8 +215,8 @@ module _ (network : Network) (kind : SetKind) (base v e : ℕ) (whole : ℕ → 
           are-true until last n now _ later has order.2 follows clear.1,
         )
 
-module _ (before : Before) (facts : List Fact) (base : ℕ)
-    (order : (kind : SetKind) → ComeInOrder base 0 first_newest (news_of kind facts)) where
+module _ (before : Before) (facts : List Fact) (from : SetKind → ℕ)
+    (order : (kind : SetKind) → ComeInOrder (from kind) 0 first_newest (news_of kind facts)) where
   -- position and TTL of each version
   abbrev version_of : SetKind → ℕ → ℕ × ℕ
   version_of kind = noted (0, ttl_before before kind) (news_of kind facts)
@@ -234,9 +234,10 @@ module _ (before : Before) (facts : List Fact) (base : ℕ)
   follows-all kind time = (omega arith, λ from. refl)
 
   -- the version of a kind that is given last, and until when
-  decides : (kind : SetKind) → Decides (version_of kind) (whole_of kind) base 0 0
-      (news_of kind facts) 0 (known base (ttl_before before kind) (news_of kind facts)).expired
-  decides kind = decided (version_of kind) (whole_of kind) base 0 0 first_newest
+  decides : (kind : SetKind) → Decides (version_of kind) (whole_of kind) (from kind) 0 0
+      (news_of kind facts) 0
+      (known (from kind) (ttl_before before kind) (news_of kind facts)).expired
+  decides kind = decided (version_of kind) (whole_of kind) (from kind) 0 0 first_newest
       (first_spread (ttl_before before kind)) (news_of kind facts) (has-all kind) (omega arith)
       (λ m none. absurd (none-some m none)) (order kind) (follows-all kind)
 
@@ -257,27 +258,28 @@ module _ (before : Before) (facts : List Fact) (base : ℕ)
   all-true : (until : ℕ) → AreTrue before facts slowest until
   all-true until kind = (
     rw (noted-now (0, ttl_before before kind) (news_of kind facts)) (omega arith),
-    are-true slowest kind base (decides kind).0 (decides kind).1 (whole_of kind)
+    are-true slowest kind (from kind) (decides kind).0 (decides kind).1 (whole_of kind)
         (λ server time. refl) until 0 0 (0, ttl_before before kind) first_newest
         (news_of kind facts) (has-all kind) (order kind) (follows-all kind) (decides kind).2,
   )
 
-  goes-not-back : (kind : SetKind) (until : ℕ) → NeverGoesBack slowest kind base until
+  goes-not-back : (kind : SetKind) (until : ℕ) → NeverGoesBack slowest kind (from kind) until
   goes-not-back kind until = record {
     servers = λ server early late serves le by.
         grind (arith, rises 0 (news_of kind facts) early late le);
-    versions = λ v w t le by given. none-falls base (0, ttl_before before kind) first_newest
+    versions = λ v w t le by given. none-falls (from kind) (0, ttl_before before kind) first_newest
         (news_of kind facts) (order kind) v w le;
   }
 
   -- if a report with a TTL of less is too short for a kind
   may-be-false : (roll : RollType) (second : Bool) (kind : Kind) (speaks : Bool) (now less : ℕ)
       → retires roll second (kind_of kind) ≡ speaks
-      → HasTtl (λ ttl. less < ttl) (due_of before facts kind speaks base now)
-      → MayBeFalse before facts roll second base now less
+      → HasTtl (λ ttl. less < ttl) (due_of before facts kind speaks (from (kind_of kind)) now)
+      → MayBeFalse before facts roll second from now less
   may-be-false roll second kind false now less speaks lt = absurd (omega (arith, lt))
   may-be-false roll second kind true now less speaks more =
       let of : SetKind = kind_of kind in
+      let base : ℕ = from of in
       let s : Spread = known base (ttl_before before of) (news_of of facts) in
       let ttl = some-due (λ ttl. less < ttl) kind (due_for base s now) more in
       let left = (due-for base s now ttl.0 ttl.1).3 in
@@ -309,12 +311,12 @@ one-of : (less : ℕ) (a b c : Result ℕ Kind) → HasTtl (λ ttl. less < ttl) 
 one-of less a b c lt = grind arith
 
 pub returns : goal.returns
-returns c before facts roll second base moment ttl less order e lt =
+returns c before facts roll second from moment ttl less order e lt =
     let part : Kind → Result ℕ Kind = λ kind.
-    due_of before facts kind (retires roll second (kind_of kind)) base moment in
+    due_of before facts kind (retires roll second (kind_of kind)) (from (kind_of kind)) moment in
     let of : (kind : Kind) → HasTtl (λ ttl. less < ttl) (part kind)
-    → MayBeFalse before facts roll second base moment less = λ kind more.
-    may-be-false before facts base order roll second kind (retires roll second (kind_of kind))
+    → MayBeFalse before facts roll second from moment less = λ kind more.
+    may-be-false before facts from order roll second kind (retires roll second (kind_of kind))
     moment less refl more in
     elim (one-of less (part code.Ds) (part code.Dnskey) (part code.ZoneSigners)
     (subst (HasTtl (λ ttl. less < ttl)) (sym e) lt)) [

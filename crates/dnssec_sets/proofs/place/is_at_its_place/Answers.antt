@@ -12,7 +12,8 @@ use Rattle.std.specs.{Prelude.◌==◌, Prelude.IsSortedBy, declared.cmp.Orderin
 use Rattle.std.specs.{Cmp.Lexicographic.slice_cmp, Cmp.Lexicographic.nat_list_cmp_total, List.Any}
 use Rattle.std.specs.List.{list_any, Sorted.IsNonDecreasingBy, Sorted.IsPartitionPoint}
 use Rattle.dnssec_sets.specs.{declared.shared.SharedKey.SharedKey, Chained.IsInOrder}
-use Rattle.dnssec_sets.proofs.Lists.{in_shared, is_same, same-id}
+use Rattle.dnssec_run.proofs.Since.{same-id}
+use Rattle.dnssec_sets.proofs.Lists.{in_shared, is_same}
 use Rattle.dnssec_sets.proofs.place.is_at_its_place.Goals as goal
 
 abbrev reference : SharedKey → List ℕ

@@ -1,9 +1,11 @@
 -- The sum only refuses; both lists are the same.
+use Rattle.std.proofs.Common.{sym, ◌∙◌}
 use Rattle.std.proofs.lemmas.Bool.{false≢true}
+use Rattle.dnssec_run.proofs.Since.{same-set}
 use Rattle.dnssec_sets.proofs.held.Held.is.Goals as goal
 
 pub returns-then-self-sum : goal.returns-then-self-sum
 returns-then-self-sum c t = absurd (false≢true t)
 
-pub returns-then-is : goal.returns-then-is
-returns-then-is c t = λ i. (c.is.ensures c.if-is.true i, c.is-then-is.ensures t i)
+pub returns : goal.returns
+returns c t = (same-set _ _).0 (sym c.has.ensures ∙ t)
