@@ -140,7 +140,7 @@ module _ (keeper signer : Signer) (time : ℕ) (keeps : KeepsRules signer time)
   lacks-none lacks (suc fuel) base enough from le has =
       let es = signer.entries in
       lacks (has k signs (λ q ge recorded made.
-      let as = may-be-cached es signer.network time keeps.network keeps.moments last Dnskey q
+      let alike = may-be-cached es signer.network time keeps.network keeps.moments last Dnskey q
       (record { begun = omega (arith, from, ge); recorded = recorded; made = made })
       (λ r speaks over. elim (cases_lt q (origin es Dnskey r.base)) [
         | inl lt ↦
@@ -152,7 +152,7 @@ module _ (keeper signer : Signer) (time : ℕ) (keeps : KeepsRules signer time)
             (kept.reports r speaks over v held))
         | inr up ↦ up
       ]) in
-      subst (λ (set : CachedSet). Contains set.0 k) as.same (steady as.at as.cached)))
+      subst (λ (set : CachedSet). Contains set.0 k) alike.same (steady alike.at alike.cached)))
 
   pub is-there : signer.network.first ≤ last.0
       → (HasKey keeper (keeper.network.position Dnskey v) signer k → ⊥) → ⊥

@@ -1,5 +1,5 @@
 -- A set as caches hold it, and whether two or three of them hold in a chain.
-use Rattle.std.specs.Prelude.{◌&&◌, ◌||◌, Bool, [], ℕ, Option, None, Some}
+use Rattle.std.specs.Prelude.{◌&&◌, ◌||◌, Bool, List, [], ℕ, Option, None, Some}
 pub use Rattle.dnssec_run.specs.Origins.{CachedSet}
 use Rattle.dnssec_sets.specs.declared.held.Held.{Held}
 use Rattle.dnssec_sets.specs.Chained.{ids_in, is_none, trusts_keys, trusts_zone}

@@ -1,4 +1,4 @@
--- Prompt servers meet the premises.
+-- Some records meet the premises.
 use Rattle.dnssec_network.proofs.Models.{premises_can_be_met}
 use Rattle.dnssec_network.proofs.WholeSets.{whole_sets_can_be_kept}
 use Rattle.dnssec_network.proofs.chain.premises_can_be_met.Goals as goal

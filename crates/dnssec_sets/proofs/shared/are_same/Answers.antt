@@ -1,5 +1,5 @@
 -- Lists of other lengths are others; at the end no key is left of either, or some is.
-use Rattle.std.proofs.Common.{◌≡◌, ◌∙◌, List, [], ◌∷◌, ap, arith, length, map, refl, sym}
+use Rattle.std.proofs.Common.{◌≡◌, ◌∙◌, List, [], ◌∷◌, ap, arith, drop, length, map, refl, sym}
 use Rattle.std.proofs.lemmas.List.{drop_all, length-map}
 use Rattle.std.specs.Prelude.{◌==◌}
 use Rattle.dnssec_run.specs.{Origins.same_ids, Published.id_of}
