@@ -38,12 +38,13 @@ class Version:
 
 @dataclass
 class PastReport:
-    """A report that was made by now. For each kind that it speaks of, the position at which the
-    sets came that its step left."""
+    """A report that was made by now, with the position of its step. For each kind that it speaks
+    of, the position at which the sets came that its step left."""
 
     at: int
     moment: int
     ttl: int
+    base: int
     came: dict
 
     def over(self):
@@ -153,7 +154,7 @@ class Network:
                 step = base(self.record, at)
                 kinds = SPEAKS_OF[position.report.roll][position.report.second].split()
                 came = {kind: origin(self.record, kind, step) for kind in kinds}
-                yield PastReport(at, position.moment, position.report.ttl, came)
+                yield PastReport(at, position.moment, position.report.ttl, step, came)
 
     def reports(self, time):
         """Those of them that were made by this time."""
