@@ -63,8 +63,8 @@ enum {
     KEYSET_SEEN_EARLY = 8,    /* a line of notes: seen everywhere before it was published */
     KEYSET_MOMENT_FALLS = 9,  /* a line of notes: its moment lies before the last one */
     KEYSET_REFUSED = 10,      /* the key set refuses the call */
-    KEYSET_PUBLISHED_EARLY = 11, /* a line of notes: published before a moment of its call, or of one
-                                    before that */
+    /* a line of notes: published before the moment of its call, or of a call before that */
+    KEYSET_PUBLISHED_EARLY = 11,
     KEYSET_LOST = 12          /* the library got no memory in a call, and has closed the session */
 };
 
