@@ -44,11 +44,11 @@ extern "C" {
 #endif
 
 /* The version of the interface that this header was written for: see keyset_version. */
-#define KEYSET_VERSION 2
+#define KEYSET_VERSION 3
 
 /* The release that this header is part of. A release may leave the interface as it is; one that
    changes a function, a struct or a status in a way that breaks callers has the next
-   KEYSET_VERSION. The shared object has that number in its name: libkeyset.so.2. */
+   KEYSET_VERSION. The shared object has that number in its name: libkeyset.so.3. */
 #define KEYSET_RELEASE "1.0.0"
 
 /* The statuses. 0, 1 and 3 are those that the program keyset ends with. */

@@ -1,4 +1,4 @@
-"""The packages for Debian: `vaqsider` with programs and command, `libkeyset2`, `libkeyset-dev`."""
+"""The packages for Debian: `vaqsider` with programs and command, `libkeyset3` (by the interface's version), `libkeyset-dev`."""
 
 import gzip
 import hashlib
@@ -11,13 +11,13 @@ from email.utils import format_datetime
 from pathlib import Path
 
 from artefact import Built, entries, releases, run, seconds, version
-from layout import LIST, TOP, Layout
+from layout import LIST, TOP, Layout, interface, shared
 from trees import install
 
 # A change of these packages alone raises it.
 REVISION = 1
 MAINTAINER = "Vaqsider maintainers <maintainers@users.noreply.vaqsider.example>"
-SHARED = "libkeyset.so.2"
+LIBRARY = f"libkeyset{interface()}"
 COPYRIGHT = """\
 Format: https://www.debian.org/doc/packaging-manuals/copyright-format/1.0/
 Upstream-Name: vaqsider
@@ -60,7 +60,7 @@ PACKAGES = (
     Package(
         "vaqsider", "net", ("programs", "command"), re.compile("bin/|share/(vaqsider|man|doc)/"),
         {
-            "Depends": "python3 (>= 3.9), libkeyset2 (= {version}), libc6 (>= 2.34)",
+            "Depends": f"python3 (>= 3.9), {LIBRARY} (= {{version}}), libc6 (>= 2.34)",
             "Recommends": "python3-dnspython (>= 2.3), python3-cryptography, "
                           "bind9-utils | ldnsutils",
         },
@@ -70,7 +70,7 @@ PACKAGES = (
         "resolvers without a chain of trust: that is proved.",
     ),
     Package(
-        "libkeyset2", "libs", ("library",), re.compile(rf".*/{re.escape(SHARED)}$"),
+        LIBRARY, "libs", ("library",), re.compile(rf".*/{re.escape(shared())}$"),
         {"Depends": "libc6 (>= 2.14)", "Multi-Arch": "same"},
         "proved DNSSEC key set (shared library)",
         "Scripts of calls and their answers, sessions of zones and their status, for C\n"
@@ -78,8 +78,8 @@ PACKAGES = (
     ),
     Package(
         "libkeyset-dev", "libdevel", ("library",),
-        re.compile(rf"(?!.*/{re.escape(SHARED)}$)(include|lib|share/man|share/doc)/"),
-        {"Depends": "libkeyset2 (= {version})", "Multi-Arch": "same"},
+        re.compile(rf"(?!.*/{re.escape(shared())}$)(include|lib|share/man|share/doc)/"),
+        {"Depends": f"{LIBRARY} (= {{version}})", "Multi-Arch": "same"},
         "proved DNSSEC key set (development files)",
         "The header, the static library, the pages of the library, and examples.",
     ),
@@ -138,7 +138,7 @@ def take(whole, folder, package, built: Built):
             compress(target.with_name(f"{target.name}.gz"), source.read_bytes())
         else:
             shutil.copy2(source, target)
-            if source.name.startswith(SHARED) or place.parts[0] == "bin" and is_elf(source):
+            if source.name.startswith(shared()) or place.parts[0] == "bin" and is_elf(source):
                 strip(target, built)
 
 
@@ -171,8 +171,8 @@ def control(folder, package, built: Built):
     about.mkdir()
     lines = [f"{key}: {text}\n" for key, text in fields.items() if text is not None]
     (about / "control").write_text("".join(lines))
-    if package.name == "libkeyset2":
-        (about / "shlibs").write_text(f"libkeyset 2 libkeyset2 (>= {version()})\n")
+    if package.name == LIBRARY:
+        (about / "shlibs").write_text(f"libkeyset {interface()} {LIBRARY} (>= {version()})\n")
         (about / "triggers").write_text("activate-noawait ldconfig\n")
     inside = (path for path in entries(folder) if path.is_file() and not path.is_symlink())
     sums = (

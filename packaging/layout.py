@@ -34,6 +34,7 @@ sys.exit(main())
 '''
 # A shared object is named by its interface.
 SHARED = re.compile(r"libkeyset\.so\.\d+")
+VERSIONED = re.compile(r"#define KEYSET_VERSION (\d+)")
 
 
 @dataclass(frozen=True)
@@ -99,6 +100,17 @@ class Layout:
         for folder in ("examples", "examples/cases", "library/c"):
             for source in filter(Path.is_file, sorted((TOP / folder).iterdir())):
                 yield File(DOCUMENTS / folder / source.name, source)
+
+
+def interface():
+    """The version of the library's interface, which the header has."""
+    header = (TOP / "library" / "keyset.h").read_text(encoding="utf-8")
+    return VERSIONED.search(header)[1]
+
+
+def shared():
+    """The name of the shared object."""
+    return f"libkeyset.so.{interface()}"
 
 
 def description(libraries, version):

@@ -8,7 +8,7 @@ import re
 
 from artefact import Built, Fault, run, version
 from built import sources
-from layout import PROGRAMS, TOP
+from layout import PROGRAMS, TOP, shared
 
 # What `rt ci` says of a crate after the last line of its proof.
 PROVED = re.compile(r"rt: (\w+) proved")
@@ -66,7 +66,7 @@ def write(folder, builds: "list[Built]", log):
     text += "".join(f"  {crate}: {lines[crate]}\n" for crate in crates())
     text += "\nWhat was built from them:\n"
     for built in builds:
-        places = [built.library / "lib" / "libkeyset.a", built.library / "lib" / "libkeyset.so.2"]
+        places = [built.library / "lib" / "libkeyset.a", built.library / "lib" / shared()]
         places += [built.programs / name / "out" / name for name in PROGRAMS]
         text += "".join(
             f"  {digest(path)}  {built.architecture.machine} {path.name}\n" for path in places

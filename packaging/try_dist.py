@@ -75,13 +75,13 @@ tar -xzf /dist/vaqsider-*-x86_64-linux.tar.gz -C /root
 {BY_COMMAND.format(examples=INSTALLED)}
 """),
     Trial("*_amd64.deb", "dpkg", ("python3",), f"""
-dpkg -i /dist/libkeyset2_*_amd64.deb /dist/vaqsider_*_amd64.deb
+dpkg -i /dist/libkeyset[0-9]*_amd64.deb /dist/vaqsider_*_amd64.deb
 {BY_PROGRAM.format(examples="/usr/share/doc/vaqsider/examples")}
 {BY_COMMAND.format(examples="/usr/share/doc/vaqsider/examples")}
-dpkg -P vaqsider libkeyset2
+dpkg -P vaqsider $(dpkg-query -W -f '${{Package}} ' 'libkeyset*')
 """),
     Trial("libkeyset-dev_*_amd64.deb", "dpkg, and gcc", ("gcc", "libc6-dev", "pkg-config"), f"""
-dpkg -i /dist/libkeyset2_*_amd64.deb /dist/libkeyset-dev_*_amd64.deb
+dpkg -i /dist/libkeyset[0-9]*_amd64.deb /dist/libkeyset-dev_*_amd64.deb
 cd /usr/share/doc/libkeyset-dev
 cc -o /root/roll library/c/roll.c $(pkg-config --cflags --libs keyset)
 /root/roll <examples/{EXAMPLE}.script | cmp - examples/{EXAMPLE}.answers
@@ -95,7 +95,7 @@ python3 -c {shlex.quote(IN_PYTHON)}
 """),
     Trial("vaqsider-*.tar.gz", "pip, with the library of dpkg", ("python3-venv", "python3-wheel",
                                                                  "python3-setuptools"), f"""
-dpkg -i /dist/libkeyset2_*_amd64.deb
+dpkg -i /dist/libkeyset[0-9]*_amd64.deb
 python3 -m venv --system-site-packages /root/venv
 version=$(basename /dist/vaqsider-*-source.tar.gz -source.tar.gz)
 /root/venv/bin/pip install --no-index --no-build-isolation /dist/$version.tar.gz

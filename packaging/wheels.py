@@ -7,13 +7,12 @@ import tempfile
 from pathlib import Path
 
 from artefact import Built, run, seconds
-from layout import TOP
+from layout import TOP, shared
 from modules import repack
 
 # What the package consists of, in the folders of the repository.
 FILES = ("pyproject.toml", "README.md", "LICENSE", "command/README.md")
 FOLDERS = ("command/vaqsider", "library/python/keyset")
-SHARED = "libkeyset.so.2"
 
 
 def stage(room):
@@ -41,8 +40,8 @@ def build_wheel(folder, built: Built):
     """A wheel that has the library of this architecture. Gives its path."""
     with tempfile.TemporaryDirectory() as room:
         stage(Path(room))
-        inside = Path(room) / "library" / "python" / "keyset" / SHARED
-        shutil.copyfile(built.library / "lib" / SHARED, inside)
+        inside = Path(room) / "library" / "python" / "keyset" / shared()
+        shutil.copyfile(built.library / "lib" / shared(), inside)
         inside.chmod(0o644)
         option = f"--config-setting=--build-option=--plat-name={built.architecture.wheel}"
         return build(Path(room), folder, "--wheel", option)

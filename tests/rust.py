@@ -76,7 +76,7 @@ def test_build(folder, room):
     faults = {
         room / "nowhere": "libkeyset.a isn't there: run `make lib`",
         Path("library/out/lib"): "KEYSET_LIB has to be an absolute path",
-        of_other_version(room): "is of version 9 of the interface, and this crate wants 2",
+        of_other_version(room): "is of version 9 of the interface, and this crate wants 3",
     }
     for library, told in faults.items():
         made = {**environment(folder, room), "KEYSET_LIB": str(library)}

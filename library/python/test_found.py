@@ -12,7 +12,7 @@ from pathlib import Path
 HERE = Path(__file__).resolve().parent
 LIBRARY = os.environ.get("KEYSET_LIBRARY", "")
 PROGRAMS = os.environ.get("KEYSET_PROGRAMS") or HERE.parents[1] / "crates" / "keyset" / "out"
-NAME = "libkeyset.so.2"
+NAME = "libkeyset.so.3"
 ASK = "import keyset; print(type(keyset.open_session('zone example.com')).__name__)"
 # As on a system whose loader knows no such library.
 NONE = "import ctypes; from unittest import mock; mock.patch('ctypes.CDLL', side_effect=OSError)"

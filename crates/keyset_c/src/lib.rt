@@ -37,7 +37,7 @@ use dnssec_record::{ScriptFault, Session, Std, run_script};
 use std::alloc::Global;
 
 /// The version of what is exported here: of the calls, of their structs and of the statuses.
-const VERSION: u32 = 2;
+const VERSION: u32 = 3;
 
 /// Answers the script into the front of `out`, with the bytes that the program `keyset` writes.
 ///
@@ -92,7 +92,7 @@ pub extern "C" fn keyset_answer(alloc: Global, script: &[u8], out: &mut [u8]) ->
 /// The version of what is exported here.
 #[unsafe(no_mangle)]
 pub extern "C" fn keyset_version() -> u32
-    ensures { result ≡ 2 }
+    ensures { result ≡ 3 }
 {
     VERSION
 }

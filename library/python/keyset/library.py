@@ -31,7 +31,7 @@ from .session import (
 )
 
 # The version of the library's interface: KEYSET_VERSION of its header.
-INTERFACE = 2
+INTERFACE = 3
 NAME = f"libkeyset.so.{INTERFACE}"
 PACKAGE = Path(__file__).resolve().parent
 # The top of the repository, or the folder in which `make install` has put this package.
