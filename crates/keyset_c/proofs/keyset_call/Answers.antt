@@ -5,7 +5,7 @@ use Rattle.keyset_c.proofs.keyset_call.Goals as goal
 pub returns-clause-answered : goal.returns-clause-answered
 returns-clause-answered c = λ answered.
     let text : string_bytes c.call-status.new.kept.answer ≡ c.as_bytes.result.now =
-    cc (c.as_bytes.ensures.value, c.deref.ensures.value) in
+    cc (c.as_bytes.ensures.value, c.deref.ensures) in
     record {
       called = record {
         before = c.in-Some.kept.value;
@@ -20,7 +20,7 @@ returns-clause-answered c = λ answered.
 pub returns-clause-needed : goal.returns-clause-needed
 returns-clause-needed c = λ short.
     let text : string_bytes c.call-status.new.kept.answer ≡ c.as_bytes.result.now =
-    cc (c.as_bytes.ensures.value, c.deref.ensures.value) in (
+    cc (c.as_bytes.ensures.value, c.deref.ensures) in (
       string_bytes c.call-status.new.kept.answer,
       record {
         called = record {
