@@ -403,9 +403,9 @@ static bool play_failing(const struct stored *it, size_t failing)
 }
 
 /* A question or a copy in which the request of this number fails: it is out of memory. Only the
-   status can do without one of its requests, and is then as always; `without` counts such requests.
-   It is the first one for the list of the sorted keys, which asks for room for all of them. If that
-   fails, the list asks for room for one key. */
+   status can do without two of its requests, and is then as always; `without` counts such requests.
+   They are the first ones for the lists of the sorted keys and of what rolls have listed, which ask
+   for room for all. If that fails, the list asks for room for one. */
 static bool fail_one(size_t kind, struct keyset_session *session, size_t failing, size_t *without)
 {
     struct keyset_session other = {0};
@@ -445,7 +445,7 @@ static size_t fail_questions(struct keyset_session *session)
         size_t without = 0;
         for (size_t failing = 1; fail_one(kind, session, failing, &without); failing++)
             failed++;
-        expect(without <= (QUESTIONS[kind % 3] == keyset_status && kind < 3), "memory",
+        expect(without <= (QUESTIONS[kind % 3] == keyset_status && kind < 3 ? 2 : 0), "memory",
                "a question");
         expect_told(keyset_closing, session, closing, "after questions without memory");
         expect_told(keyset_status, session, shown, "after questions without memory");

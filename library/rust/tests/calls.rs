@@ -32,7 +32,7 @@ fn new_key(key_tag: u16) -> NewKey {
 
 #[test]
 fn the_library_is_of_this_version() {
-    assert_eq!(version(), 2);
+    assert_eq!(version(), 3);
 }
 
 #[test]
