@@ -69,7 +69,7 @@ pub enum Tried {
 ///     // It may be made again.
 ///     Err(CallFault::OutOfMemory) => {}
 ///     // The session is of no more use.
-///     Err(CallFault::Lost) => return Err(AllocError),
+///     Err(CallFault::Lost) => return Ok(()),
 /// }
 /// ```
 #[derive(Drop)]
