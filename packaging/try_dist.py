@@ -63,15 +63,15 @@ class Trial:
 INSTALLED = "/usr/local/share/doc/vaqsider/examples"
 TRIALS = (
     Trial("vaqsider-*-x86_64-linux.tar.gz", "tar", (), f"""
-tar -xzf /dist/vaqsider-*-x86_64-linux.tar.gz -C /root
-/root/vaqsider-*/install.sh /usr/local
+tar -xzf /dist/vaqsider-*-x86_64-linux.tar.gz -C /srv
+/srv/vaqsider-*/install.sh /usr/local
 {BY_PROGRAM.format(examples=INSTALLED)}
-/root/vaqsider-*/install.sh --uninstall /usr/local
+/srv/vaqsider-*/install.sh --uninstall /usr/local
 test ! -e /usr/local/bin/keyset
 """),
     Trial("vaqsider-*-x86_64-linux.tar.gz", "tar, and python3", ("python3",), f"""
-tar -xzf /dist/vaqsider-*-x86_64-linux.tar.gz -C /root
-/root/vaqsider-*/install.sh /usr/local
+tar -xzf /dist/vaqsider-*-x86_64-linux.tar.gz -C /srv
+/srv/vaqsider-*/install.sh /usr/local
 {BY_COMMAND.format(examples=INSTALLED)}
 """),
     Trial("*_amd64.deb", "dpkg", ("python3",), f"""
@@ -83,36 +83,36 @@ dpkg -P vaqsider $(dpkg-query -W -f '${{Package}} ' 'libkeyset*')
     Trial("libkeyset-dev_*_amd64.deb", "dpkg, and gcc", ("gcc", "libc6-dev", "pkg-config"), f"""
 dpkg -i /dist/libkeyset[0-9]*_amd64.deb /dist/libkeyset-dev_*_amd64.deb
 cd /usr/share/doc/libkeyset-dev
-cc -o /root/roll library/c/roll.c $(pkg-config --cflags --libs keyset)
-/root/roll <examples/{EXAMPLE}.script | cmp - examples/{EXAMPLE}.answers
+cc -o /srv/roll library/c/roll.c $(pkg-config --cflags --libs keyset)
+/srv/roll <examples/{EXAMPLE}.script | cmp - examples/{EXAMPLE}.answers
 """),
     Trial("vaqsider-*-manylinux2014_x86_64.whl", "pip", ("python3-venv",), f"""
-python3 -m venv /root/venv
-/root/venv/bin/pip install --no-index /dist/vaqsider-*-manylinux2014_x86_64.whl
-PATH=/root/venv/bin:$PATH
+python3 -m venv /srv/venv
+/srv/venv/bin/pip install --no-index /dist/vaqsider-*-manylinux2014_x86_64.whl
+PATH=/srv/venv/bin:$PATH
 python3 -c {shlex.quote(IN_PYTHON)}
 {BY_COMMAND.format(examples="/examples")}
 """),
     Trial("vaqsider-*.tar.gz", "pip, with the library of dpkg", ("python3-venv", "python3-wheel",
                                                                  "python3-setuptools"), f"""
 dpkg -i /dist/libkeyset[0-9]*_amd64.deb
-python3 -m venv --system-site-packages /root/venv
+python3 -m venv --system-site-packages /srv/venv
 version=$(basename /dist/vaqsider-*-source.tar.gz -source.tar.gz)
-/root/venv/bin/pip install --no-index --no-build-isolation /dist/$version.tar.gz
-PATH=/root/venv/bin:$PATH
+/srv/venv/bin/pip install --no-index --no-build-isolation /dist/$version.tar.gz
+PATH=/srv/venv/bin:$PATH
 python3 -c {shlex.quote(IN_PYTHON)}
 """),
     Trial("keyset-*.crate", "cargo", ("cargo",), """
-tar -xzf /dist/keyset-*.crate -C /root
-cd /root/keyset-*/
+tar -xzf /dist/keyset-*.crate -C /srv
+cd /srv/keyset-*/
 cargo test --offline --quiet
 cargo run --offline --quiet --example roll </examples/algorithm-roll.script |
     cmp - /examples/algorithm-roll.answers
 """),
     Trial("keyset-go-*.tar.gz", "go", ("golang-go", "gcc", "libc6-dev"), """
-tar -xzf /dist/keyset-go-*.tar.gz -C /root
-cd /root/keyset-go-*/
-export HOME=/root
+tar -xzf /dist/keyset-go-*.tar.gz -C /srv
+cd /srv/keyset-go-*/
+export HOME=/srv
 go vet ./...
 go test ./...
 go test -race ./...
@@ -155,7 +155,7 @@ def root_of(trial, room, dist):
 def inside(root, script):
     """Runs a script in a root, and gives what it prints. `Fault` if a line of it fails."""
     environment = {"PATH": "/usr/local/sbin:/usr/local/bin:/usr/sbin:/usr/bin:/sbin:/bin",
-                   "HOME": "/root", "LC_ALL": "C.UTF-8"}
+                   "HOME": "/srv", "LC_ALL": "C.UTF-8"}
     words = ["chroot", root, "sh", "-c", f"set -eu\n{script}"]
     done = subprocess.run(words, env=environment, stdout=subprocess.PIPE,
                           stderr=subprocess.STDOUT, text=True, check=False)
