@@ -49,7 +49,7 @@ extern "C" {
 /* The release that this header is part of. A release may leave the interface as it is; one that
    changes a function, a struct or a status in a way that breaks callers has the next
    KEYSET_VERSION. The shared object has that number in its name: libkeyset.so.3. */
-#define KEYSET_RELEASE "1.0.0"
+#define KEYSET_RELEASE "1.1.0"
 
 /* The statuses. 0, 1 and 3 are those that the program keyset ends with. */
 enum {
@@ -209,7 +209,7 @@ uint32_t keyset_version(void);
    feed (told).
 
    keyset_status_text   what a status means, as `out of memory`; of another number `no such status`
-   keyset_version_text  the release of the linked library, as `1.0.0` */
+   keyset_version_text  the release of the linked library, as `1.1.0` */
 #define KEYSET_TEXT_ROOM 64
 struct keyset_answered keyset_status_text(uint32_t status, uint8_t *out, size_t out_length);
 struct keyset_answered keyset_version_text(uint8_t *out, size_t out_length);

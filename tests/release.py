@@ -27,15 +27,18 @@ from tables import KeySet, answers  # noqa: E402
 FROZEN = TOP / "tests" / "frozen"
 STORED = TOP / "replay" / "scripts.txt"
 
-# Which files name the release, and how. (`keyset.pc` and the library take it from VERSION.)
-NAMED = {
-    "README.md": r"Version (\S+) .*",
-    "library/keyset.h": r'#define KEYSET_RELEASE "(.*)"',
-    "library/rust/Cargo.toml": r'version = "(.*)"',
-    "library/rust/Cargo.lock": r'name = "keyset"\nversion = "(.*)"',
-    "library/python/keyset/__init__.py": r'__version__ = "(.*)"',
-    "pyproject.toml": r'version = "(.*)"',
-}
+# Which files name the release, and how. (`keyset.pc` takes it from VERSION.)
+NAMED = (
+    ("README.md", r"Version (\S+) .*"),
+    ("library/keyset.h", r'#define KEYSET_RELEASE "(.*)"'),
+    ("library/keyset.h", r" *keyset_version_text  .*, as `(.*)` \*/"),
+    ("library/rust/Cargo.toml", r'version = "(.*)"'),
+    ("library/rust/Cargo.lock", r'name = "keyset"\nversion = "(.*)"'),
+    ("library/python/keyset/__init__.py", r'__version__ = "(.*)"'),
+    ("pyproject.toml", r'version = "(.*)"'),
+    ("crates/keyset_c/src/texts.rt", r'const RELEASE: &str = "(.*)";'),
+    ("crates/keyset_c/wrong/release_of_another.edit", r'old: const RELEASE: &str = "(.*)";'),
+)
 CHANGES = re.compile(r"^## \[?(?P<version>[\w.]+)", re.MULTILINE)
 # A row of the tables of SCRIPTS with words of scripts, and the version that brought them.
 ROW = re.compile(r"^\| (?P<lines>`[^|]*)\|[^|]*\| (?P<since>\d+\.\d+\.\d+) \|$", re.MULTILINE)
@@ -52,7 +55,7 @@ def order(version):
 
 
 def differing_names(version):
-    for path, form in NAMED.items():
+    for path, form in NAMED:
         found = re.search(f"^{form}$", (TOP / path).read_text(), re.MULTILINE)
         if found is None:
             yield f"{path} names no release"

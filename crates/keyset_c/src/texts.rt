@@ -9,7 +9,7 @@ use crate::answered::{
 };
 
 /// The release that this library is of.
-const RELEASE: &str = "1.0.0";
+const RELEASE: &str = "1.1.0";
 
 /// Writes what a status means. 64 bytes suffice.
 #[unsafe(no_mangle)]
@@ -26,7 +26,7 @@ pub extern "C" fn keyset_status_text(status: u32, out: &mut [u8]) -> Answered
 /// Writes the release of this library. 64 bytes suffice.
 #[unsafe(no_mangle)]
 pub extern "C" fn keyset_version_text(out: &mut [u8]) -> Answered
-    ensures told { result.status ≡ 0 → take result.length out.new ≡ codes "1.0.0" }
+    ensures told { result.status ≡ 0 → take result.length out.new ≡ codes "1.1.0" }
     ensures room { result.length ≡ 5 }
     ensures status { (result.status ≡ 0) ⊎ (result.status ≡ 4) }
     ensures handed { Hands result.status result.length result.line out.old out.new }

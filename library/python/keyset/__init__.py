@@ -9,7 +9,7 @@ if sys.version_info < (3, 9):
     raise ImportError("keyset wants Python 3.9 or later")
 
 # The release that this package is part of.
-__version__ = "1.0.0"
+__version__ = "1.1.0"
 
 if TYPE_CHECKING:
     from .engine import Slow, answer, due, open_session, refused, run, status
