@@ -31,7 +31,7 @@ prove = mkdir -p crates/$(1)/out && cd crates/$(1) && \
 
 .PHONY: run build notes lib install uninstall made noted arm dist try-dist check fmt clean test \
 	wrong live docs memory test-lib test-arm valgrind asan fuzz types mutants signers help python \
-	modules packages
+	modules packages logs
 
 # The proved program answers if it is newer than its sources, else one that is built at once.
 run: ## answers SCRIPT: make run SCRIPT=FILE
@@ -76,14 +76,16 @@ arm: made has-aarch64-linux-gnu-gcc ## builds the library and programs for ARM: 
 			library/out-aarch64/lib/libkeyset.a || exit 1; \
 	done
 
-# CONTRIBUTING says how a release is made, and what it wants. PROOFS has what `rt ci --anew` printed.
-PROOFS ?= $(CURDIR)/library/out/proofs.log
-dist: made arm has-dpkg-deb has-cargo ## makes a release in dist; DIST=--untagged of any clean tree
-	@packaging/dist.py dist --proofs $(PROOFS) $(DIST)
+# CONTRIBUTING says how a release is made, and what it wants. PROOFS names what the gate has printed.
+dist: logs made arm has-dpkg-deb has-cargo ## makes a release in dist by the logs PROOFS='FILE ..'
+	@packaging/dist.py dist $(DIST) --proofs $(PROOFS)
 
-try-dist: python has-debootstrap ## makes dist twice, installs each artefact in a bare Debian, uses it
-	@packaging/twice.py --proofs $(PROOFS) $(DIST)
+try-dist: logs python has-debootstrap ## makes it twice, installs each file in a bare Debian, uses it
+	@packaging/twice.py $(DIST) --proofs $(PROOFS)
 	@packaging/try_dist.py dist
+
+logs:
+	@[ -n "$(PROOFS)" ] || { echo "PROOFS='FILE ..' has to name what make test printed" >&2; exit 1; }
 
 check: ## proves every crate, and tries no edits and runs no tests
 	@rt all check

@@ -1,11 +1,12 @@
 #!/usr/bin/env python3
 """Makes a release: all that others install, in a folder.
 
-    packaging/dist.py FOLDER --proofs LOG [--untagged]
+    packaging/dist.py FOLDER [--untagged] --proofs LOG [LOG ..]
 
 It wants a clean tree whose commit has the tag of the release, what `make build notes lib arm` has
-made of it, what `rt ci --anew` has printed there, and the tools of Python, Rust and Debian.
---untagged makes it of any clean tree, to try it. Each file has the same bytes wherever it is made.
+made of it, the logs of gates or of `packaging/proved.py` in which each of its proofs is told, and
+the tools of Python, Rust and Debian. --untagged makes it of any clean tree, to try it. Each file has
+the same bytes wherever it is made.
 """
 
 import argparse
@@ -43,7 +44,7 @@ def check(untagged):
         raise Fault(f"{ARM} isn't there: 'make arm' makes it")
 
 
-def artefacts(folder, log):
+def artefacts(folder, logs):
     """Makes each artefact, and gives its path."""
     yield pack_sources(folder)
     yield build_sources(folder)
@@ -53,16 +54,16 @@ def artefacts(folder, log):
         yield pack_built(folder, built)
         yield build_wheel(folder, built)
         yield from build_debs(folder, built)
-    yield write_proof(folder, BUILDS, log)
+    yield write_proof(folder, BUILDS, logs)
 
 
-def make(folder, log, untagged):
+def make(folder, logs, untagged):
     check(untagged)
     os.umask(0o022)
     shutil.rmtree(folder, ignore_errors=True)
     folder.mkdir(parents=True)
     rows = []
-    for path in artefacts(folder, log):
+    for path in artefacts(folder, logs):
         digest = hashlib.sha256(path.read_bytes()).hexdigest()
         rows.append(f"{digest}  {path.name}\n")
         print(f"{path.stat().st_size:>10} {path.name}", flush=True)
@@ -72,8 +73,8 @@ def make(folder, log, untagged):
 def main():
     parser = argparse.ArgumentParser(description=__doc__.partition("\n")[0])
     parser.add_argument("folder", metavar="FOLDER", type=Path, help="where the release goes")
-    parser.add_argument("--proofs", metavar="LOG", type=Path, required=True,
-                        help="what `rt ci --anew` has printed")
+    parser.add_argument("--proofs", metavar="LOG", type=Path, nargs="+", required=True,
+                        help="what `make test` or `packaging/proved.py` has printed")
     parser.add_argument("--untagged", action="store_true", help="make it of any clean tree")
     given = parser.parse_args()
     try:

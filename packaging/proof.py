@@ -4,27 +4,42 @@ Who has the toolchain proves the sources of the release anew, and compares what 
 sums of this page."""
 
 import hashlib
-import re
+import shutil
+import tempfile
+from pathlib import Path
 
+import proved
 from artefact import Built, Fault, run, version
-from built import sources
+from debs import strip
 from layout import PROGRAMS, TOP, shared
 
-# What `rt ci` says of a crate after the last line of its proof.
-PROVED = re.compile(r"rt: (\w+) proved")
+# What is proved and built, as a command prints its sum.
+SOURCES = (
+    "find crates.txt HANDLES VERSION crates/*/src crates/*/specs crates/*/proofs "
+    "library/heap.c library/keyset.h library/keyset.pc.in library/pack.sh library/programs -type f"
+)
+SUM = f"{SOURCES} | LC_ALL=C sort | xargs sha256sum | sha256sum"
 HEAD = """\
 What was proved of Vaqsider {version}, and with what.
 
 Toolchain: {toolchain}
 Commit: {commit}
-Sources: {count} files, SHA-256 of their sums {digest}
-(for FILE in `git ls-files crates/*/src crates/*/specs crates/*/proofs`, and crates.txt, VERSION,
-library/keyset.h, library/keyset.pc.in and library/pack.sh: a line "SUM  FILE", in this order)
+Sources: {digest}
+    {command}
 
-To compare: `rt ci --anew` proves all from nothing; `make build notes lib` then builds, and sha256sum
-of what it builds has to print the sums below.
+To compare: `rt ci --anew` proves all from nothing. `make build notes lib` then builds, and sha256sum
+has to print the sums below.
 
-The last line of each proof:
+Each crate was proved from nothing by `rt ci` from these sources. Here are the sum of what its proof
+has read, as `packaging/proved.py` takes it, and the last line of the proof. In place of that line
+`kept` means that `rt ci` made no proof in the runs whose logs the release was made by, since an
+earlier run on the same machine had made it from the same files.
+
+"""
+BUILT = """
+What was built from them. Debian's packages have programs and shared object without the names that
+only a linker needs (`strip --strip-unneeded --remove-section=.comment`); their sums are here too.
+
 """
 
 
@@ -32,44 +47,46 @@ def digest(path):
     return hashlib.sha256(path.read_bytes()).hexdigest()
 
 
-def last_lines(log):
-    """How the proof of each crate ended, by what `rt ci --anew` has printed."""
-    lines, last = {}, ""
-    for line in log.read_text(encoding="utf-8").splitlines():
-        if line.startswith("logic=proved"):
-            last = line
-        elif done := PROVED.fullmatch(line):
-            lines[done[1]], last = last, ""
-    lacking = [crate for crate in crates() if not lines.get(crate)]
-    if lacking:
-        raise Fault(f"{log} has no proof of {', '.join(lacking)}")
-    return lines
-
-
 def crates():
     """The crates that the programs and the library consist of, lowest first."""
-    rows = (line.partition("#")[0].partition(":")[0].split() for line in open(TOP / "crates.txt"))
-    names = [row[0] for row in rows if row]
+    names = list(proved.crates())
     return names[: names.index("keyset_c") + 1]
 
 
-def write(folder, builds: "list[Built]", log):
-    """Writes PROOF by the log of the proofs, and gives its path."""
-    files = list(sources())
-    sums = "".join(f"{digest(path)}  {path.relative_to(TOP)}\n" for path in files)
-    text = HEAD.format(
-        version=version(), toolchain=run("rt", "--version").strip(),
-        commit=run("git", "-C", TOP, "rev-parse", "HEAD").strip(), count=len(files),
-        digest=hashlib.sha256(sums.encode()).hexdigest(),
-    )
-    lines = last_lines(log)
-    text += "".join(f"  {crate}: {lines[crate]}\n" for crate in crates())
-    text += "\nWhat was built from them:\n"
-    for built in builds:
-        places = [built.library / "lib" / "libkeyset.a", built.library / "lib" / shared()]
-        places += [built.programs / name / "out" / name for name in PROGRAMS]
-        text += "".join(
-            f"  {digest(path)}  {built.architecture.machine} {path.name}\n" for path in places
+def proofs(logs):
+    """A line for each crate, by the logs of the runs that have proved or kept it."""
+    here = proved.sums()
+    found = proved.read([log.read_text(encoding="utf-8", errors="replace") for log in logs], here)
+    if lacking := [crate for crate in crates() if crate not in found]:
+        raise Fault(
+            f"the logs have no proof of {', '.join(lacking)} from these sources: "
+            "`packaging/proved.py` makes one, or says that the crate is kept"
         )
+    return [f"  {crate} {here[crate]}\n    {found[crate]}\n" for crate in crates()]
+
+
+def builds_of(built: Built):
+    """A line for each file of an architecture, and one more if Debian's package strips it."""
+    machine = built.architecture.machine
+    yield f"  {digest(built.library / 'lib' / 'libkeyset.a')}  {machine} libkeyset.a\n"
+    places = [built.library / "lib" / shared()]
+    places += [built.programs / name / "out" / name for name in PROGRAMS]
+    for path in places:
+        yield f"  {digest(path)}  {machine} {path.name}\n"
+        with tempfile.TemporaryDirectory() as room:
+            stripped = Path(shutil.copy(path, room))
+            strip(stripped, built)
+            yield f"  {digest(stripped)}  {machine} {path.name}, Debian\n"
+
+
+def write(folder, builds: "list[Built]", logs):
+    """Writes PROOF by the logs of the proofs, and gives its path."""
+    text = HEAD.format(
+        version=version(), toolchain=proved.toolchain().strip(), command=SUM,
+        commit=run("git", "-C", TOP, "rev-parse", "HEAD").strip(),
+        digest=run("sh", "-c", SUM, cwd=TOP).split()[0],
+    )
+    text += "".join(proofs(logs)) + BUILT
+    text += "".join(line for built in builds for line in builds_of(built))
     (folder / "PROOF").write_text(text, encoding="utf-8")
     return folder / "PROOF"

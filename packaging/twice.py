@@ -2,11 +2,12 @@
 """Makes a release twice, and compares the sums: in two folders, by two users if it may, at two
 times, under two masks, in two zones of time and two locales.
 
-    packaging/twice.py --proofs LOG [--untagged]
+    packaging/twice.py [--untagged] --proofs LOG [LOG ..]
 
 What `make dist` takes has to be there: the copies take what is built here.
 """
 
+import argparse
 import os
 import pwd
 import shutil
@@ -70,11 +71,25 @@ def make(room, maker, words):
     return {name: digest for digest, name in rows}
 
 
+def words_of(given, room):
+    """The words for a release, by copies of the logs that each maker may read."""
+    logs = [room / f"{number}.log" for number, _ in enumerate(given.proofs)]
+    for log, copy_of in zip(given.proofs, logs):
+        shutil.copyfile(log, copy_of)
+        copy_of.chmod(0o644)
+    return [*["--untagged"] * given.untagged, "--proofs", *logs]
+
+
 def main():
+    parser = argparse.ArgumentParser(description=__doc__.partition("\n")[0])
+    parser.add_argument("--proofs", metavar="LOG", type=Path, nargs="+", required=True)
+    parser.add_argument("--untagged", action="store_true")
+    given = parser.parse_args()
     with tempfile.TemporaryDirectory() as room:
         os.chmod(room, 0o755)
         try:
-            first, second = (make(Path(room), maker, sys.argv[1:]) for maker in MAKERS)
+            words = words_of(given, Path(room))
+            first, second = (make(Path(room), maker, words) for maker in MAKERS)
         except (Fault, OSError) as fault:
             print(f"twice: {fault}", file=sys.stderr)
             return 1

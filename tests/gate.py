@@ -3,8 +3,9 @@
 `tests/runbooks.py`, `tests/networks.py` and `tests/examples.py`, and beside its edits run
 `tests/memory.py`, `tests/sets.py`, `tests/notes.py`, `tests/command.py` and `tests/library.py`,
 for which `tests/archive.py` builds the library. Then `tests/told.py` compares the numbers of
-docs/TESTS.md with what all of them have printed. Before the last line of `rt ci` it prints when
-each step was done, in minutes and seconds since the start, so that a rise is seen."""
+docs/TESTS.md with what all of them have printed. Before the last line of `rt ci` it prints from
+which files each proof was made, as a release wants it, and when each step was done, in minutes and
+seconds since the start, so that a rise is seen."""
 
 import contextlib
 import os
@@ -19,6 +20,10 @@ from pathlib import Path
 import told
 
 TOP = Path(__file__).resolve().parent.parent
+sys.path.append(str(TOP / "packaging"))
+
+import proved  # noqa: E402
+
 START = time.monotonic()
 STEPS = []
 # What was printed. Its numbers are compared at the end.
@@ -150,7 +155,7 @@ def lanes():
 
 def prove(scripts):
     """Runs `rt ci`, and prints all but its last line. Gives its status and that line."""
-    last, tried = "", set()
+    last, tried, before, began = "", set(), proved.sums(), len(PRINTED)
     gate = subprocess.Popen(
         ["rt", "ci"],
         cwd=TOP,
@@ -174,6 +179,7 @@ def prove(scripts):
     status = gate.wait()
     edits.note(tried)
     note("rt ci")
+    say("".join(proved.lines("".join(PRINTED[began:]), before)))
     return status, last
 
 

@@ -9,6 +9,8 @@
 - `tests/frozen/N/` has the scripts of release N with their answers, and they are answered the same
   today: here by the tables of `replay/`, and by the program and the library in `tests/library.py`.
 - Each word of these scripts has its version in `docs/SCRIPTS.md`, and that is N or earlier.
+- What `rt ci` prints is taken for a proof only if it says so of the crate, and only for the files
+  that it was made from.
 """
 
 import re
@@ -17,9 +19,10 @@ from pathlib import Path
 
 sys.dont_write_bytecode = True
 TOP = Path(__file__).resolve().parent.parent
-sys.path.insert(0, str(TOP / "replay"))
+sys.path[:0] = [str(TOP / "replay"), str(TOP / "packaging")]
 
 import compare  # noqa: E402
+import proved  # noqa: E402
 from make_sample import examples  # noqa: E402
 from make_scripts import by_hand, read_scripts  # noqa: E402
 from tables import KeySet, answers  # noqa: E402
@@ -119,6 +122,50 @@ def source(name, lines):
     return f"{name}: {kept}; the original"
 
 
+# What `rt ci` prints of crates, of which two are proved and one is kept.
+PRINTED = """\
+== own
+logic=proved functions=1
+rt: own proved
+== own: its tests
+logic=proved functions=2
+rt: own: its tests are proved
+== failed
+logic=proved functions=3
+logic=not-proved functions=3
+rt: failed NOT PROVED
+== silent
+rt: silent proved
+rt: said: rt: imitated proved
+rt: kept is kept: the same files
+== other
+logic=proved functions=4
+rt: other proved
+"""
+LAST = {"own": "logic=proved functions=1", "kept": "kept: the same files",
+        "other": "logic=proved functions=4"}
+# Lines of logs, and what they say of the crate `own` with the sum of 64 ones.
+LOGS = (
+    ("proof of own over {ones}: first", "first"),
+    ("proof of own over {ones}: kept: before\nproof of own over {ones}: first", "first"),
+    ("proof of own over {ones}: first\nproof of own over {ones}: kept: before", "first"),
+    ("proof of own over {ones}: kept: before", "kept: before"),
+    ("proof of own over {twos}: another", None),
+    ("proof of other over {ones}: another", None),
+    ("said: proof of own over {ones}: another", None),
+)
+
+
+def misread_proofs():
+    if (found := proved.last_lines(PRINTED)) != LAST:
+        yield f"of what rt ci prints these proofs are read: {found}"
+    sums = {"ones": "1" * 64, "twos": "2" * 64}
+    for text, wanted in LOGS:
+        found = proved.read([text.format(**sums)], {"own": sums["ones"], "other": sums["twos"]})
+        if found.get("own") != wanted:
+            yield f"this log is read as {found}: {text}"
+
+
 def freeze(version):
     """Stores the scripts of a release. What is stored is never written again."""
     folder = FROZEN / version
@@ -133,7 +180,7 @@ def main():
     version = release()
     if sys.argv[1:] == ["--freeze"]:
         freeze(version)
-    wrong = [*differing_names(version), *unlisted_changes(version)]
+    wrong = [*differing_names(version), *unlisted_changes(version), *misread_proofs()]
     if version not in frozen():
         wrong.append(f"tests/frozen/{version} isn't there: tests/release.py --freeze makes it")
     for old in frozen():
