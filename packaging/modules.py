@@ -43,15 +43,19 @@ def repack(archive, folder):
     return folder / archive.name
 
 
+def stage_module(inside, builds):
+    """Makes the folder of the module, with its libraries."""
+    shutil.copytree(MODULE, inside, copy_function=shutil.copyfile)
+    shutil.copyfile(TOP / "LICENSE", inside / "LICENSE")
+    put_inside(inside, builds)
+
+
 def build_module(folder, builds):
     """Packs the module. Gives its path."""
     name = f"keyset-go-{version()}"
     with tempfile.TemporaryDirectory() as room:
-        inside = Path(room)
-        for source in MODULE.iterdir():
-            shutil.copyfile(source, inside / source.name)
-        shutil.copyfile(TOP / "LICENSE", inside / "LICENSE")
-        put_inside(inside, builds)
+        inside = Path(room) / name
+        stage_module(inside, builds)
         for path in inside.rglob("*"):
             path.chmod(0o755 if path.is_dir() else 0o644)
         pack(inside, folder / f"{name}.tar.gz", f"{name}/")
