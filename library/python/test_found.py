@@ -11,6 +11,7 @@ from pathlib import Path
 
 HERE = Path(__file__).resolve().parent
 LIBRARY = os.environ.get("KEYSET_LIBRARY", "")
+CC = os.environ.get("CC", "cc")
 PROGRAMS = os.environ.get("KEYSET_PROGRAMS") or HERE.parents[1] / "crates" / "keyset" / "out"
 NAME = "libkeyset.so.3"
 ASK = "import keyset; print(type(keyset.open_session('zone example.com')).__name__)"
@@ -59,13 +60,13 @@ class Found(unittest.TestCase):
         (self.top / "other.c").write_text("int other;\n")
         for name, says in (("old", "of version 1"), ("other", "it isn't this library")):
             made = str(self.top / f"{name}.so")
-            subprocess.run(["cc", "-shared", "-o", made, self.top / f"{name}.c"], check=True)
+            subprocess.run([CC, "-shared", "-o", made, self.top / f"{name}.c"], check=True)
             self.expect_unavailable(says, KEYSET_LIBRARY=made)
 
     def test_one_of_another_version_is_not_passed_over(self):
         (self.top / "old.c").write_text("unsigned keyset_version(void) { return 1; }\n")
         place = self.package / NAME
-        subprocess.run(["cc", "-shared", "-o", place, self.top / "old.c"], check=True)
+        subprocess.run([CC, "-shared", "-o", place, self.top / "old.c"], check=True)
         self.expect_unavailable("of version 1")
 
     def test_the_one_that_is_installed_with_the_package(self):
