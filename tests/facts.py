@@ -11,6 +11,7 @@ from pathlib import Path
 from unittest import mock
 
 import drawn
+import pieces
 import testkeys
 from drawn import answers, examples
 from lengths import lengths
@@ -331,5 +332,5 @@ def faults():
     """What the command says otherwise than it should."""
     with folder():
         checks = (screens, refusals, plans, drawn.pictures, by_the_command, emergencies, metrics,
-                  helps, clocks, lengths)
+                  helps, clocks, lengths, pieces.states, pieces.reports)
         return [fault for check in checks for fault in check()]

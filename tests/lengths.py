@@ -4,7 +4,7 @@ import time
 from pathlib import Path
 from unittest import mock
 
-SHORT, TIMES, NOW = 300, 4, 10**9
+SHORT, FEW, TIMES, NOW = 300, 20, 4, 10**9
 # By how much more than in proportion it may take: the machine may be busy. If the time grew with
 # the square of the lines, it would be by TIMES.
 MUCH = 2
@@ -87,20 +87,40 @@ def parts(path):
             "status": lambda: list(status.screen(status.read(path, NOW)[1]))}
 
 
+def write(lines, notes):
+    for name, text in (("long.script", lines), ("long.notes", notes)):
+        Path(name).write_text("".join(f"{line}\n" for line in text))
+
+
 def took(rolls):
     """How long each part takes with so many rolls."""
     from keyset import programs
 
     lines, notes = course(rolls)
-    for name, text in (("long.script", lines), ("long.notes", notes)):
-        Path(name).write_text("".join(f"{line}\n" for line in text))
+    write(lines, notes)
     *Ready.replies, _, _ = answered = programs.answers(lines)
     Ready.closing_lines, Ready.told = answered[-2:], programs.status(lines)
     return {name: seconds(part) for name, part in parts("long.script").items()}
 
 
+def read(rolls):
+    """How many lines the programs read for each part with so many rolls."""
+    from keyset import engine, programs
+
+    write(*course(rolls))
+    counts = {}
+    for name, part in parts("long.script").items():
+        ready = {"_has_library": lambda: False}
+        with mock.patch.multiple(engine, **ready), \
+                mock.patch.object(programs, "run", wraps=programs.run) as run:
+            part()
+        counts[name] = sum(len(call.args[1]) for call in run.call_args_list)
+    return counts
+
+
 def lengths():
-    """A script of four times the length takes no more than eight times as long."""
+    """A script of four times the length takes no more than eight times as long, and without the
+    library the programs read no more than eight times as many lines."""
     from keyset import engine
 
     ready = {"_has_library": lambda: True, "LibrarySession": Ready}
@@ -109,3 +129,7 @@ def lengths():
     for name in short:
         if long[name] > MUCH * TIMES * short[name]:
             yield f"{name}: {short[name]:.3f} s, and {long[name]:.3f} s of {TIMES} times the lines"
+    short, long = read(FEW), read(FEW * TIMES)
+    for name in short:
+        if long[name] > MUCH * TIMES * short[name]:
+            yield f"{name}: the programs read {short[name]}, and then {long[name]} lines"

@@ -9,6 +9,7 @@ from dataclasses import dataclass
 
 from keyset import Lines, Notes
 from keyset.lines import OF_CLOCK
+from keyset.members import roles_of
 
 from . import looks, status, words
 from .errors import BROKEN, DUE, OK, WARNING, failure_of
@@ -146,14 +147,13 @@ def _of_notes(history, notes, since):
     first = notes.first
     calls = [call for call in history.calls if call.line.is_report and call.number >= since]
     calls = [call for call in calls if first is not None and first < call.number - 1]
-    reports = [(call.number, call.line.roll, call.moment) for call in calls]
-    if not notes.lines or (since and not reports):
+    if not notes.lines or (since and not calls):
         return
-    for call, due in zip(calls, list(notes.due_then(history.lines, reports))):
+    for report, due in notes.false(history.lines, [*history.reported(calls)]):
         if due is None:
-            yield call.number, "by the notes not all servers had yet what it reports"
-        elif call.line.ttl < due:
-            yield call.number, f"its TTL is {call.line.ttl}, and {due} was due by the notes"
+            yield report.number, "by the notes not all servers had yet what it reports"
+        else:
+            yield report.number, f"its TTL is {report.ttl}, and {due} was due by the notes"
 
 
 def _of_clock(notes, now):
@@ -168,17 +168,16 @@ def _of_clock(notes, now):
 def _mixed(history):
     """The algorithms that have only KSKs or only ZSKs in use, each with the line since when."""
     since = {}
-    if _alone(history.status):
-        for call, session in history.sessions():
-            alone = _alone(session.status())
+    if _alone(roles_of(history.status)):
+        for call, state in history.states():
+            alone = _alone(state.roles)
             since = {algorithm: since.get(algorithm, call.number) for algorithm in alone}
     return since
 
 
-def _alone(told):
+def _alone(roles):
     used = {"ksk": set(), "zsk": set(), "public": set()}
-    for key in told["keys"]:
-        for role in key["roles"]:
-            if not role["old"] and (role["signer"] or role["present"] or role["at_parent"]):
-                used[role["role"]].add(key["algorithm"])
+    for algorithm, role in roles:
+        if not role["old"] and (role["signer"] or role["present"] or role["at_parent"]):
+            used[role["role"]].add(algorithm)
     return used["ksk"] ^ used["zsk"] if used["ksk"] and used["zsk"] else set()

@@ -1,8 +1,10 @@
 """The accepted lines of a script, each with its answer: the course that the zone took."""
 
 from functools import cached_property
+from itertools import accumulate
 
 import keyset
+from keyset.bounds import Reported
 from keyset.lines import OF_CLOCK, Line
 
 from . import words
@@ -48,10 +50,17 @@ class History:
         step = self._steps[report.number]
         return step, words.kinds_of(step.actions, of=["Report"])
 
-    def sessions(self):
-        """Each accepted line with the session that has made its call."""
-        session = keyset.open_session(self.lines[0])
-        for call in self.calls:
-            session.call(call.line.text)
-            yield call, session
-        session.close()
+    def reported(self, reports):
+        """What these reports say, of those that `calls` has."""
+        moments = (Line(text) for text in self.lines)
+        moments = (it.moment or 0 if it.word in OF_CLOCK else 0 for it in moments)
+        begun = [*accumulate(moments, max)]
+        for call in reports:
+            step, kinds = self.step_of(call)
+            yield Reported(call.number, call.line.roll, call.moment, call.line.ttl, step.number,
+                           begun[step.number - 1], kinds)
+
+    def states(self):
+        """Each accepted line with what is so after it."""
+        lines = [self.lines[0], *(call.line.text for call in self.calls)]
+        return zip(self.calls, keyset.follow(lines))

@@ -9,8 +9,6 @@ from bisect import bisect_left
 from dataclasses import dataclass, field
 from itertools import accumulate
 
-from keyset import Published
-
 from .history import History
 
 # The sets with their labels, and the kind of reports that speak of them.
@@ -62,8 +60,8 @@ def timeline(lines, notes=()):
     moments = [call.moment for call in history.calls if call.line.word in PHASES] or [0]
     made, bars = Timeline(moments[0], max(moments), moments[0]), {name: {} for name in SETS}
     held, shown, going = Held(history, notes), {name: set() for name in SETS}, {}
-    for call, session in history.sessions():
-        published = vars(Published.of(session.closing()[0]))
+    for call, state in history.states():
+        published = state.published
         if call.line.word == "start":
             made.last = made.last if going else call.moment
             going[call.line.roll] = []

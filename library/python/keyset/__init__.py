@@ -12,7 +12,7 @@ if sys.version_info < (3, 9):
 __version__ = "1.1.0"
 
 if TYPE_CHECKING:
-    from .engine import Slow, answer, due, open_session, refused, run, status
+    from .engine import Slow, answer, due, follow, open_session, refused, run, status
     from .errors import (
         Closed,
         Damaged,
@@ -84,6 +84,7 @@ __all__ = [
     "answer",
     "create",
     "due",
+    "follow",
     "locked",
     "open_session",
     "refused",

@@ -12,11 +12,11 @@ from typing import Dict, Iterable, Iterator, List, Optional, Sequence, Tuple
 from . import programs
 from .errors import OutOfMemory, refusal_of
 from .library import LibrarySession, answer, library
-from .members import Status
+from .members import After, RoleMembers, Status, roles_of
 from .programs import ProgramSession
 from .session import Session
 
-__all__ = ["answer", "due", "open_session", "refused", "run", "status"]
+__all__ = ["answer", "due", "follow", "open_session", "refused", "run", "status"]
 
 
 class Slow(RuntimeWarning):
@@ -97,6 +97,37 @@ def dues(
                 session.note(line)
             calls, facts = called, noted
             yield _ttls(session.due(moment))
+
+
+def follow(lines: Sequence[str]) -> Iterator[After]:
+    """What is so after each call of a script, all of whose lines are accepted. It is to be read
+    before the next one is asked for."""
+    if not _has_library():
+        from . import pieces
+
+        yield from pieces.follow(lines)
+        return
+    with contextlib.closing(open_session(lines[0])) as session:
+        for line in lines[1:]:
+            session.call(line)
+            yield _After(session)
+
+
+class _After:
+    """What is so in a session."""
+
+    def __init__(self, session: Session) -> None:
+        self._session = session
+
+    @property
+    def published(self) -> Dict[str, List[str]]:
+        from .values import Published
+
+        return vars(Published.of(self._session.closing()[0]))
+
+    @property
+    def roles(self) -> List[Tuple[int, RoleMembers]]:
+        return roles_of(self._session.status())
 
 
 def _ttls(told: str) -> Dict[str, Optional[int]]:

@@ -2,7 +2,7 @@
 
 from __future__ import annotations
 
-from typing import List, Literal, Optional, TypedDict, Union
+from typing import Dict, List, Literal, Optional, Protocol, Tuple, TypedDict, Union
 
 SetKind = Literal["ds", "dnskey", "zone"]
 CallWord = Literal["report1", "wait1", "report2", "wait2", "done"]
@@ -89,3 +89,19 @@ class Status(TypedDict):
     keys: List[KeyMembers]
     rolls: List[RollMembers]
     ended: List[EndedMembers]
+
+
+class After(Protocol):
+    """What is so after a call: the keys of each published set, and the roles of keys, each with its
+    key's algorithm."""
+
+    @property
+    def published(self) -> Dict[str, List[str]]: ...
+
+    @property
+    def roles(self) -> List[Tuple[int, RoleMembers]]: ...
+
+
+def roles_of(told: Status) -> List[Tuple[int, RoleMembers]]:
+    """The roles of all keys, each with its key's algorithm."""
+    return [(key["algorithm"], role) for key in told["keys"] for role in key["roles"]]

@@ -12,6 +12,7 @@ from pathlib import Path
 from typing import Callable, Dict, Iterable, Iterator, List, Mapping, Sequence
 
 from . import engine, file
+from .bounds import Bounds, Reported
 from .errors import Damaged, Locked, Malformed, Misnamed, Torn, WrongArgument
 from .lines import OF_CLOCK, Line
 
@@ -91,22 +92,26 @@ class Notes:
         with self._refusals():
             return engine.due(lines, until, moment).get(roll) if until else None
 
-    def due_then(
-        self, lines: Sequence[str], reports: Iterable[tuple[int, str, int]]
-    ) -> Iterator[int | None]:
-        """For reports of a script, each with the number of its line, its roll and its moment: the
-        TTL that was due, by the notes as they were then. What was noted in the same second of a
-        later call is of after the report."""
+    def false(
+        self, lines: Sequence[str], reports: Sequence[Reported]
+    ) -> Iterator[tuple[Reported, int | None]]:
+        """Of reports of a script those that the notes of then don't bear out, each with the TTL
+        that was due. What was noted in the same second of a later call is of after the report."""
         notes = [*self.lines[:1], *sorted(self.lines[1:], key=_moment)]
-        reports, places, end = list(reports), [], 1
-        for number, _, moment in reports:
-            while end < len(notes) and _is_then(notes[end], number - 2, moment):
+        bounds, doubtful, end = Bounds(notes[0]), [], 1
+        for report in reports:
+            while end < len(notes) and _is_then(notes[end], report.number - 2, report.moment):
+                bounds.note(notes[end])
                 end += 1
-            places.append((number - 1, end, moment))
+            if not bounds.are_met(report):
+                doubtful.append((report, (report.number - 1, end, report.moment)))
         self.check(lines)
         with self._refusals():
-            for (_, roll, _), due in zip(reports, engine.dues(lines, notes, places)):
-                yield due.get(roll)
+            dues = engine.dues(lines, notes, [place for _, place in doubtful])
+            for (report, _), due in zip(doubtful, dues):
+                ttl = due.get(report.roll)
+                if ttl is None or report.ttl < ttl:
+                    yield report, ttl
 
     @contextlib.contextmanager
     def _refusals(self) -> Iterator[None]:
