@@ -6,6 +6,7 @@ import json
 import os
 import re
 import shlex
+import shutil
 import time
 from pathlib import Path
 from unittest import mock
@@ -318,6 +319,24 @@ def clocks():
                 yield f"at {now}, until {reached}: {text}"
 
 
+def set_back():
+    """A look that was made by a clock that is set back since then says nothing of now."""
+    shutil.copy("start.script", "back.script")
+    kept = {"moment": 10**6, "lines": 5, "servers": 0, "lacking": [], "broken": [],
+            "until": 2 * 10**6, "renew": 19 * 10**5}
+    Path("back.look").write_text(json.dumps(kept))
+    for now, says, ages in ((10**6 + 9, "9 s ago", 9), (1000, "11 d 13 h ahead", 1000 - 10**6)):
+        text = typed(["check", "back.script"], now)[0]
+        metrics = typed(["zones", ".", "--prometheus"], now)[0]
+        age = re.search(r'look_age_seconds\{[^}]*"back.script"\} (.*)', metrics)
+        if says not in text or age is None or int(age[1]) != ages:
+            yield f"of a look of the moment 1000000, at {now}: {text}{age}"
+    wanted = Path("back.look").read_text()
+    text, status = typed(["draw", "back.script", "--out", "./back.look"], 10**6)
+    if status != 64 or Path("back.look").read_text() != wanted:
+        yield f"draw writes over a file of the script: {text}"
+
+
 def metrics():
     """What Prometheus reads has each series once."""
     text, _ = typed(["zones", ".", "--prometheus"])
@@ -332,5 +351,5 @@ def faults():
     """What the command says otherwise than it should."""
     with folder():
         checks = (screens, refusals, plans, drawn.pictures, by_the_command, emergencies, metrics,
-                  helps, clocks, lengths, pieces.states, pieces.reports)
+                  helps, clocks, set_back, lengths, pieces.states, pieces.reports)
         return [fault for check in checks for fault in check()]

@@ -3,6 +3,7 @@
 import argparse
 import os
 import time
+from pathlib import Path
 
 from .errors import Failure
 
@@ -33,6 +34,14 @@ def clock():
         return moment(given) if given else time.time()
     except argparse.ArgumentTypeError as error:
         raise Failure(f"VAQSIDER_NOW: {error}") from None
+
+
+def expect_other(out, script):
+    """A file to write may not be one of the script's own."""
+    own = [Path(script).with_suffix(suffix) for suffix in (".notes", ".look", ".act")]
+    for path in (Path(script), *own):
+        if Path(out).exists() and path.exists() and path.samefile(out):
+            raise Failure(f"{out} is one of the script's own files: choose another --out")
 
 
 def not_utf8(words):

@@ -75,6 +75,10 @@ def _of_look(path, lines, now):
         return
     was = "" if kept.lines == lines else f", when the script had {kept.lines} lines"
     found = f"{kept.servers} lacked something" if kept.servers else "all had what was due"
+    if kept.age(now) < 0:
+        text = f"its moment lies {words.duration(-kept.age(now))} ahead of the clock: ask again"
+        yield Finding(WARNING, f"{looks.path_of(path)}: {text}")
+        return
     yield Finding(OK, f"its servers were asked {words.duration(kept.age(now))} ago{was}: {found}")
     yield from (Finding(DUE, text) for text in kept.lacking)
     yield from (Finding(BROKEN, text) for text in kept.broken)
@@ -90,7 +94,7 @@ def is_asked(path, now):
     kept = looks.read(path)
     if kept is None:
         return not any(status.read(path, now)[1]["published"].values())
-    return kept.age(now) < DAY
+    return 0 <= kept.age(now) < DAY
 
 
 def _due(told):

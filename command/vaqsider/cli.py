@@ -129,6 +129,7 @@ def on_draw(args):
     made = timeline.timeline(lines, Notes(args.SCRIPT).lines)
     text = list(draw.picture(told["zone"], made, clock(), args.since))
     if args.out:
+        arguments.expect_other(args.out, args.SCRIPT)
         Path(args.out).write_text("\n".join([*text, ""]), encoding="utf-8")
     return _verdict(told), [] if args.out else text, dataclasses.asdict(made)
 

@@ -31,8 +31,8 @@ class Kept:
     renew: int | None
 
     def age(self, now: float) -> int:
-        """For how many seconds it is over."""
-        return max(0, int(now) - self.moment)
+        """For how many seconds it is over. Below 0 the clock was set back since then."""
+        return int(now) - self.moment
 
 
 def path_of(script: str | Path) -> Path:

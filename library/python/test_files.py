@@ -25,6 +25,7 @@ from keyset import (
     RollType,
     Torn,
     WrongArgument,
+    create,
     due,
 )
 
@@ -274,8 +275,17 @@ class Files(Kept):
         notes.write_text("before 1 1 1\npublished dnskey 9 1 1\n")
         with self.assertRaisesRegex(Damaged, "notes: line 2: no such call yet"):
             KeySet.open(self.path)
+        notes.write_text(f"before 1 1 1\neverywhere dnskey {'1' * 5000}\n")
+        with self.assertRaisesRegex(Damaged, "line 2: it has not the form"):
+            KeySet.open(self.path)
         notes.unlink()
         KeySet.open(self.path).close()
+
+    def test_a_draft_that_a_crash_has_left_stops_nobody(self):
+        """In a container the next process may have the same number."""
+        self.path.with_name(f"{self.path.name}.{os.getpid()}.new").touch()
+        create(self.path, ["zone example.com"])
+        self.assertEqual(self.path.read_text(), "zone example.com\n")
 
 
 if __name__ == "__main__":

@@ -159,7 +159,8 @@ def create(path: Place, lines: Sequence[str]) -> None:
     """Makes the file with these lines. It must not be there yet. After a crash it is there whole,
     or not at all."""
     path = Path(path)
-    draft = path.with_name(f"{path.name}.{os.getpid()}.new")
+    # (In a container a process after a crash may have the number of the one before.)
+    draft = path.with_name(f"{path.name}.{os.urandom(8).hex()}.new")
     try:
         with open(draft, "xb") as file:
             file.write("".join(f"{line}\n" for line in lines).encode("ascii"))

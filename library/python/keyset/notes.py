@@ -18,7 +18,8 @@ from .lines import OF_CLOCK, Line
 
 KINDS = ("ds", "dnskey", "zone")
 FORM = re.compile(
-    r"before( \d+){3}|published (ds|dnskey|zone)( \d+){3}|everywhere (ds|dnskey|zone) \d+"
+    r"before( \d{1,20}){3}|published (ds|dnskey|zone)( \d{1,20}){3}"
+    r"|everywhere (ds|dnskey|zone) \d{1,20}"
 )
 
 
