@@ -38,6 +38,7 @@ import drawn  # noqa: E402, F401
 import facts  # noqa: E402
 import liars  # noqa: E402
 import pieces  # noqa: E402, F401
+import printed  # noqa: E402, F401
 import testkeys  # noqa: E402
 from typed import STORED, folder, private_halves, typed  # noqa: E402
 

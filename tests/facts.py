@@ -13,6 +13,7 @@ from unittest import mock
 
 import drawn
 import pieces
+import printed
 import testkeys
 from drawn import answers, examples
 from lengths import lengths
@@ -351,5 +352,6 @@ def faults():
     """What the command says otherwise than it should."""
     with folder():
         checks = (screens, refusals, plans, drawn.pictures, by_the_command, emergencies, metrics,
-                  helps, clocks, set_back, lengths, pieces.states, pieces.reports)
+                  helps, clocks, set_back, lengths, pieces.states, pieces.reports, printed.taken,
+                  printed.run)
         return [fault for check in checks for fault in check()]
