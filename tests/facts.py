@@ -17,7 +17,7 @@ import printed
 import testkeys
 from drawn import answers, examples
 from lengths import lengths
-from typed import TOP, folder, typed
+from typed import TOP, folder, private_halves, typed
 
 # The calls of a roll, by the kinds of sets that its start and its two waits ask to watch.
 ROLLS = {
@@ -338,6 +338,22 @@ def set_back():
         yield f"draw writes over a file of the script: {text}"
 
 
+def damaged():
+    """A signed zone in whose records a field is lost or no number is no fault of the command."""
+    shutil.copy("start.script", "act.script")
+    private_halves()
+    act = ["act", "act.script", "--zone-file", "zone", "--out", "damaged", "--dry-run"]
+    typed(act[:-1], 205)
+    whole = Path("damaged").read_text()
+    for old, new in ((r"RRSIG\tDNSKEY 13 .*", "RRSIG\tDNSKEY 13"), (r"(SOA\t\S+ \S+) \d+", r"\1 x"),
+                     (r"(SOA\t\S+ \S+) \d+", r"\1 " + "1" * 5000), (r"\Z", "x. 1 IN NSEC3 1\n"),
+                     (r"\Z", "example.com. 1 IN NSEC3PARAM 1 x\n")):
+        Path("damaged").write_text(re.sub(old, new, whole, count=1))
+        text, status = typed(act, 206)
+        if status != 3 or Path("damaged").read_text() == whole:
+            yield f"with {new[:40]} in the signed zone it ends with {status}: {text}"
+
+
 def metrics():
     """What Prometheus reads has each series once."""
     text, _ = typed(["zones", ".", "--prometheus"])
@@ -352,6 +368,6 @@ def faults():
     """What the command says otherwise than it should."""
     with folder():
         checks = (screens, refusals, plans, drawn.pictures, by_the_command, emergencies, metrics,
-                  helps, clocks, set_back, lengths, pieces.states, pieces.reports, printed.taken,
-                  printed.run)
+                  helps, clocks, set_back, damaged, lengths, pieces.states, pieces.reports,
+                  printed.taken, printed.run)
         return [fault for check in checks for fault in check()]

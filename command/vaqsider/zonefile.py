@@ -107,17 +107,24 @@ class Zone:
     def of(cls, origin: str, path: Path) -> Zone:
         """Reads a file in which each record is in full."""
         zone = cls(origin, path)
-        for row in rows(path):
-            if row.kind == "RRSIG":
-                kind, by = covered(row.data)
-                zone.signed.setdefault((row.owner.lower(), kind), set()).add(by)
-            elif row.kind == "NSEC3":
-                zone.opt_out |= row.data.split(None, 2)[1] == "1"
-            if row.owner.lower() == origin.lower():
-                zone.top.setdefault(row.kind, []).append(row)
-        if len(zone.top.get("SOA", ())) != 1:
-            raise NotFull(f"{path}: it has no SOA record of {origin}, or more than one")
-        return zone
+        try:
+            for row in rows(path):
+                zone._take(row)
+            if len(zone.top.get("SOA", ())) == 1:
+                _ = zone.serial, zone.nsec3
+                return zone
+        except (ValueError, IndexError):
+            raise NotFull(f"{path}: a record has not the form of its type") from None
+        raise NotFull(f"{path}: it has no SOA record of {origin}, or more than one")
+
+    def _take(self, row: Row) -> None:
+        if row.kind == "RRSIG":
+            kind, by = covered(row.data)
+            self.signed.setdefault((row.owner.lower(), kind), set()).add(by)
+        elif row.kind == "NSEC3":
+            self.opt_out |= row.data.split(None, 2)[1] == "1"
+        if row.owner.lower() == self.origin.lower():
+            self.top.setdefault(row.kind, []).append(row)
 
     @property
     def soa(self) -> Row:
