@@ -121,8 +121,8 @@ module _ (name : List ℕ) where
   with_adds added set = record { set = set; added = added }
 
   -- a run whose last position has these keys, this phase and these adds
-  pub record Reached (cs : List Call) (entries : List Entry) (es : Entries) (phase : Option RollState)
-      (added : List ℕ → ℕ) : Type 0 where
+  pub record Reached (cs : List Call) (entries : List Entry) (es : Entries)
+      (phase : Option RollState) (added : List ℕ → ℕ) : Type 0 where
     pub lists : Lists
     pub run : IsRun name cs entries
     pub here : world_at name cs entries (length cs) ≡ world_of es phase lists added
@@ -153,7 +153,8 @@ module _ (name : List ℕ) where
       → new ≡ keyset.after (call_of c) old → keyset.Step old (call_of c) (reply_of r) new
   step-of old new c reply.Done accepted clear same next = (clear, same, next)
   step-of old new c (reply.Actions actions) accepted clear same next = (clear, same, next)
-  step-of old new c (reply.Refused cause) accepted clear same next = absurd (true≢false (sym accepted))
+  step-of old new c (reply.Refused cause) accepted clear same next =
+      absurd (true≢false (sym accepted))
 
   module _ (cs : List Call) (entries : List Entry) (es : Entries) (phase : Option RollState)
       (added : List ℕ → ℕ) (c : Call) (r : Reply) (p : Published)
@@ -306,9 +307,9 @@ module _ (name : List ℕ) where
         (ap (with_adds added) set ∙ sym (world at.lists)) (shown lists)
 
   -- the end of a roll
-  pub ended : (cs : List Call) (entries : List Entry) (es : Entries) (added : List ℕ → ℕ) (r : Reply)
-      (p : Published) (at : Reached cs entries es (Some Done) added) → is_accepted r ≡ true
-      → reply_of r ≡ keyset.Actions []
+  pub ended : (cs : List Call) (entries : List Entry) (es : Entries) (added : List ℕ → ℕ)
+      (r : Reply) (p : Published) (at : Reached cs entries es (Some Done) added)
+      → is_accepted r ≡ true → reply_of r ≡ keyset.Actions []
       → ((lists : Lists) → world_after (suc (length cs)) (world_of es (Some Done) lists added)
       (RollDone AlgorithmRoll) r ≡ record {
         set = record {

@@ -1,56 +1,37 @@
--- A list that keeps sets whole: a KSK and a ZSK come in by an algorithm roll, and by a second one a
--- KSK and a ZSK of another algorithm come in for them. For `premises_can_be_met`.
-use Rattle.std.proofs.Common.{◌≡◌, ℕ, zero, suc, ◌+◌, ◌*◌, ◌<◌, ◌≤◌, ◌^◌, ◌⊎◌, inl, inr, Bool}
-use Rattle.std.proofs.Common.{List, [], ◌∷◌, map, length, take, drop, Option, None, Some, true}
-use Rattle.std.proofs.Common.{false, ◌&&◌, ◌||◌, refl, sym, ap, ◌∙◌, subst, arith, Global, String}
+-- The course keeps sets whole, is plain, and is made by the clock. For `premises_can_be_met`.
+use Rattle.std.proofs.Common.{◌≡◌, ℕ, zero, suc, ◌+◌, ◌*◌, ◌<◌, ◌≤◌, ◌⊎◌, inl, inr, Bool}
+use Rattle.std.proofs.Common.{List, [], ◌∷◌, take, drop, Option, None, Some, true}
+use Rattle.std.proofs.Common.{false, ◌&&◌, ◌||◌, refl, sym, ap, ◌∙◌, subst, arith, Global}
 use Rattle.std.proofs.Common.{slice_index_or}
-use Rattle.std.proofs.Common.{Bor, slice_get, nat_eq, nat_le, true≢false, is_none, cond}
+use Rattle.std.proofs.Common.{slice_get, nat_eq, nat_le, true≢false, is_none, cond}
 use Rattle.std.proofs.lemmas.{Option.none-some, Option.same_Some, Bool.cases_Bool}
 use Rattle.std.specs.FinMap.{find, get}
 use Rattle.std.specs.Option.{option_map_or}
 use Rattle.std.specs.Ordering.{eq_by_cmp}
-use Rattle.dnssec_key.specs.declared.kind.KeyType.TheVariants.{Ksk, Zsk}
-use Rattle.dnssec_key.specs.declared.key.Available.TheVariants.{Available}
-use Rattle.dnssec_key.specs.declared.roll.Action.TheVariants.{CreateCdsRrset, RemoveCdsRrset}
-use Rattle.dnssec_key.specs.declared.roll.Action.TheVariants.{ReportDnskeyPropagated}
-use Rattle.dnssec_key.specs.declared.roll.Action.TheVariants.{ReportDsPropagated}
-use Rattle.dnssec_key.specs.declared.roll.Action.TheVariants.{ReportRrsigPropagated}
-use Rattle.dnssec_key.specs.declared.roll.Action.TheVariants.{UpdateDnskeyRrset, UpdateDsRrset}
-use Rattle.dnssec_key.specs.declared.roll.Action.TheVariants.{UpdateRrsig, WaitDnskeyPropagated}
-use Rattle.dnssec_key.specs.declared.roll.Action.TheVariants.{WaitRrsigPropagated}
-use Rattle.dnssec_key.specs.declared.roll.RollState.TheVariants.{CacheExpire1, CacheExpire2}
-use Rattle.dnssec_key.specs.declared.roll.RollState.TheVariants.{Done, Propagation1, Propagation2}
+use Rattle.dnssec_key.specs.declared.roll.RollState.TheVariants.{Propagation1}
 use Rattle.dnssec_key.specs.declared.roll.RollType.{RollType}
 use Rattle.dnssec_key.specs.declared.roll.RollType.TheVariants.{AlgorithmRoll}
-use Rattle.dnssec_key.specs.Key.{KeyParts, new_key, new_state}
-use Rattle.dnssec_key.specs.RollTable.{First, Second, after_report, after_start, after_wait, column}
+use Rattle.dnssec_key.specs.Key.{KeyParts}
+use Rattle.dnssec_key.specs.RollTable.{column}
 use Rattle.dnssec_zone.specs.Rolls.{same_roll}
-use Rattle.dnssec_zone.specs.Start.{is_listed}
 use Rattle.dnssec_run.proofs.Grow.{world_front}
 use Rattle.dnssec_run.specs.declared.call.Call.{Call}
-use Rattle.dnssec_run.specs.declared.call.Call.TheVariants.{AddKeyKsk, AddKeyZsk, CacheExpired1}
-use Rattle.dnssec_run.specs.declared.call.Call.TheVariants.{CacheExpired2, Propagation1Complete}
-use Rattle.dnssec_run.specs.declared.call.Call.TheVariants.{Propagation2Complete, RollDone}
-use Rattle.dnssec_run.specs.declared.call.Call.TheVariants.{StartRoll}
 use Rattle.dnssec_run.specs.declared.record.Entry.{Entry}
 use Rattle.dnssec_run.specs.declared.record.Mark.{Mark}
 use Rattle.dnssec_run.specs.declared.record.Mark.TheVariants.{Report}
-use Rattle.dnssec_run.specs.declared.record.Published.{Published}
-use Rattle.dnssec_run.specs.declared.record.PublishedKey.{PublishedKey}
-use Rattle.dnssec_run.specs.declared.record.Reply.{Reply}
-use Rattle.dnssec_run.specs.declared.record.Reply.TheVariants as reply
 use Rattle.dnssec_run.specs.ByAlgorithm.{HasKeyOf, KeepsWhole, algorithm_of, keeps_ksk, keeps_zsk}
 use Rattle.dnssec_run.specs.Plain.{DoesAt, IsPlain, needs_algorithm_roll, sets_only_others}
 use Rattle.dnssec_run.specs.Plain.{start_of}
 use Rattle.dnssec_run.specs.Published.{Id, World}
-use Rattle.dnssec_run.specs.Record.{added_by, world_at}
+use Rattle.dnssec_run.specs.Record.{world_at}
 use Rattle.dnssec_run.specs.Safe.{Position, blank, position_at, position_of}
-use Rattle.dnssec_network.proofs.CallByCall.{Entries, Reached, add-clear, begun, by, entry_of}
-use Rattle.dnssec_network.proofs.CallByCall.{ended, gets, goes-on, held, named, order, rolled}
-use Rattle.dnssec_network.proofs.CallByCall.{shows, start-clear, wait-clear, world_of}
+use Rattle.dnssec_network.proofs.CallByCall.{Entries, Reached}
+use Rattle.dnssec_network.proofs.CallByCall.{gets, order}
+use Rattle.dnssec_network.proofs.CallByCall.{world_of}
 use Rattle.dnssec_network.proofs.Models.{premises_can_be_met}
 use Rattle.dnssec_network.specs.Models.{IsByTheClock, NoTtlBelow}
 use Rattle.dnssec_network.specs.WholeSets.{HasDsBy, WholeSetsCanBeKept}
+use Rattle.dnssec_network.proofs.Course as course
 
 -- ---- tests of each element of a list
 
@@ -72,351 +53,29 @@ holds-at test p (y ∷ xs) all (suc n) x is =
     let same : suc p + n ≡ p + suc n = omega arith in
     subst (λ n. test n x ≡ true) same (holds-at test (suc p) xs rest n x is)
 
--- ---- the list
+-- ---- the course
 
 module _ (heap : Global) (name : List ℕ) (one other : ℕ) where
-  -- the references, in the order of their bytes: a KSK `d` and a ZSK `c` of the one algorithm, a
-  -- KSK `b` and a ZSK `a` of the other
-  abbrev a : String Global
-  a = named heap 97 (omega arith)
-
-  abbrev b : String Global
-  b = named heap 98 (omega arith)
-
-  abbrev c : String Global
-  c = named heap 99 (omega arith)
-
-  abbrev d : String Global
-  d = named heap 100 (omega arith)
-
-  abbrev lent : {X : Type 0} → X → Bor X
-  lent x = record { ref_ptr = (0, 0); now = x }
-
-  abbrev firsts : List (List ℕ)
-  firsts = (100 ∷ []) ∷ (99 ∷ []) ∷ []
-
-  abbrev seconds : List (List ℕ)
-  seconds = (98 ∷ []) ∷ (97 ∷ []) ∷ []
-
-  abbrev slice : List (List ℕ) → Bor (List (Bor (List ℕ)))
-  slice qs = lent (map (λ (q : List ℕ). lent q) qs)
-
-  abbrev second : ℕ → ℕ
-  second n = n * 1_000_000_000
-
-  abbrev add_d : Call
-  add_d = AddKeyKsk d None one 1 0 Available
-
-  abbrev add_c : Call
-  add_c = AddKeyZsk c None one 2 0 Available
-
-  abbrev add_b : Call
-  add_b = AddKeyKsk b None other 3 0 Available
-
-  abbrev add_a : Call
-  add_a = AddKeyZsk a None other 4 0 Available
-
-  abbrev starts : List (List ℕ) → List (List ℕ) → ℕ → Call
-  starts olds news n = StartRoll AlgorithmRoll (slice olds) (slice news) (second n)
-
-  abbrev reports1 : ℕ → Call
-  reports1 n = Propagation1Complete AlgorithmRoll 1 (second n)
-
-  abbrev waits1 : ℕ → Call
-  waits1 n = CacheExpired1 AlgorithmRoll (second n)
-
-  abbrev reports2 : ℕ → Call
-  reports2 n = Propagation2Complete AlgorithmRoll 1 (second n)
-
-  abbrev waits2 : ℕ → Call
-  waits2 n = CacheExpired2 AlgorithmRoll (second n)
-
-  abbrev ends : Call
-  ends = RollDone AlgorithmRoll
-
   abbrev calls : List Call
-  calls = add_d ∷ add_c ∷ add_b ∷ add_a
-      ∷ starts [] firsts 5 ∷ reports1 6 ∷ waits1 7 ∷ reports2 8 ∷ waits2 9 ∷ ends
-      ∷ starts firsts seconds 11 ∷ reports1 12 ∷ waits1 13 ∷ reports2 14 ∷ waits2 15 ∷ ends ∷ []
-
-  -- ---- what each leaves published
-
-  abbrev key : ℕ → String Global → PublishedKey
-  key n reference = record { added = n; reference = reference }
-
-  abbrev sets : (ds dnskey signers zone : List PublishedKey) → length ds < 2 ^ 63
-      → length dnskey < 2 ^ 63 → length signers < 2 ^ 63 → length zone < 2 ^ 63 → Published
-  sets ds dnskey signers zone p q r s = record {
-    ds = held heap ds p;
-    dnskey = held heap dnskey q;
-    dnskey_signers = held heap signers r;
-    zone_signers = held heap zone s;
-  }
-
-  abbrev nothing : Published
-  nothing = sets [] [] [] [] (omega arith) (omega arith) (omega arith) (omega arith)
-
-  abbrev come_in : Published
-  come_in = sets [] (key 2 c ∷ key 1 d ∷ []) (key 1 d ∷ []) (key 2 c ∷ []) (omega arith)
-      (omega arith) (omega arith) (omega arith)
-
-  abbrev of_one : Published
-  of_one = sets (key 1 d ∷ []) (key 2 c ∷ key 1 d ∷ []) (key 1 d ∷ []) (key 2 c ∷ [])
-      (omega arith) (omega arith) (omega arith) (omega arith)
-
-  abbrev all_keys : List PublishedKey
-  all_keys = key 4 a ∷ key 3 b ∷ key 2 c ∷ key 1 d ∷ []
-
-  abbrev of_both : Published
-  of_both = sets (key 1 d ∷ []) all_keys (key 3 b ∷ key 1 d ∷ []) (key 4 a ∷ key 2 c ∷ [])
-      (omega arith) (omega arith) (omega arith) (omega arith)
-
-  abbrev turned : Published
-  turned = sets (key 3 b ∷ []) all_keys (key 3 b ∷ key 1 d ∷ []) (key 4 a ∷ key 2 c ∷ [])
-      (omega arith) (omega arith) (omega arith) (omega arith)
-
-  abbrev of_other : Published
-  of_other = sets (key 3 b ∷ []) (key 4 a ∷ key 3 b ∷ []) (key 3 b ∷ []) (key 4 a ∷ [])
-      (omega arith) (omega arith) (omega arith) (omega arith)
-
-  -- ---- what each answers
-
-  abbrev asked_first : Reply
-  asked_first = reply.Actions (held heap (UpdateDnskeyRrset ∷ UpdateRrsig ∷ ReportDnskeyPropagated
-      ∷ ReportRrsigPropagated ∷ []) (omega arith))
-
-  abbrev asked_between : Reply
-  asked_between = reply.Actions (held heap (CreateCdsRrset ∷ UpdateDsRrset ∷ ReportDsPropagated
-      ∷ []) (omega arith))
-
-  abbrev asked_last : Reply
-  asked_last = reply.Actions (held heap (RemoveCdsRrset ∷ UpdateDnskeyRrset ∷ UpdateRrsig
-      ∷ WaitDnskeyPropagated ∷ WaitRrsigPropagated ∷ []) (omega arith))
-
-  abbrev none_asked : Reply
-  none_asked = reply.Actions (held heap [] (omega arith))
-
-  abbrev entry : Call → Reply → Published → Entry
-  entry call answer p = entry_of name call answer p
+  calls = course.calls heap name one other
 
   abbrev entries : List Entry
-  entries = entry add_d reply.Done nothing
-      ∷ entry add_c reply.Done nothing
-      ∷ entry add_b reply.Done nothing
-      ∷ entry add_a reply.Done nothing
-      ∷ entry (starts [] firsts 5) asked_first come_in
-      ∷ entry (reports1 6) none_asked come_in
-      ∷ entry (waits1 7) asked_between of_one
-      ∷ entry (reports2 8) none_asked of_one
-      ∷ entry (waits2 9) asked_last of_one
-      ∷ entry ends none_asked of_one
-      ∷ entry (starts firsts seconds 11) asked_first of_both
-      ∷ entry (reports1 12) none_asked of_both
-      ∷ entry (waits1 13) asked_between turned
-      ∷ entry (reports2 14) none_asked turned
-      ∷ entry (waits2 15) asked_last of_other
-      ∷ entry ends none_asked of_other
-      ∷ []
-
-  -- ---- the keys after each
-
-  abbrev ksk : ℕ → ℕ → KeyParts
-  ksk algorithm tag = new_key None (Ksk (new_state true)) algorithm tag 0
-
-  abbrev zsk : ℕ → ℕ → KeyParts
-  zsk algorithm tag = new_key None (Zsk (new_state true)) algorithm tag 0
-
-  abbrev keys1 : Entries
-  keys1 = (100 ∷ [], ksk one 1) ∷ []
-
-  abbrev keys2 : Entries
-  keys2 = (99 ∷ [], zsk one 2) ∷ keys1
-
-  abbrev keys3 : Entries
-  keys3 = (98 ∷ [], ksk other 3) ∷ keys2
-
-  abbrev keys4 : Entries
-  keys4 = (97 ∷ [], zsk other 4) ∷ keys3
-
-  abbrev started : List (List ℕ) → List (List ℕ) → ℕ → List ℕ → KeyParts → KeyParts
-  started olds news n q =
-      after_start AlgorithmRoll (second n) (is_listed olds q) (is_listed news q)
-
-  abbrev reported1 : ℕ → List ℕ → KeyParts → KeyParts
-  reported1 n q = after_report AlgorithmRoll First (second n)
-
-  abbrev waited1 : ℕ → List ℕ → KeyParts → KeyParts
-  waited1 n q = after_wait AlgorithmRoll First (second n)
-
-  abbrev reported2 : ℕ → List ℕ → KeyParts → KeyParts
-  reported2 n q = after_report AlgorithmRoll Second (second n)
-
-  abbrev waited2 : ℕ → List ℕ → KeyParts → KeyParts
-  waited2 n q = after_wait AlgorithmRoll Second (second n)
+  entries = course.entries heap name one other
 
   abbrev keys5 : Entries
-  keys5 = by name (started [] firsts 5) keys4
-
-  abbrev keys6 : Entries
-  keys6 = by name (reported1 6) keys5
-
-  abbrev keys7 : Entries
-  keys7 = by name (waited1 7) keys6
-
-  abbrev keys8 : Entries
-  keys8 = by name (reported2 8) keys7
-
-  abbrev keys9 : Entries
-  keys9 = by name (waited2 9) keys8
+  keys5 = course.keys5 heap name one other
 
   abbrev keys11 : Entries
-  keys11 = by name (started firsts seconds 11) keys9
+  keys11 = course.keys11 heap name one other
 
-  abbrev keys12 : Entries
-  keys12 = by name (reported1 12) keys11
+  abbrev added : List ℕ → ℕ
+  added = course.added4 heap name one other
 
-  abbrev keys13 : Entries
-  keys13 = by name (waited1 13) keys12
+  run5 : Reached name (take 5 calls) (take 5 entries) keys5 (Some Propagation1) added
+  run5 = course.run5 heap name one other
 
-  abbrev keys14 : Entries
-  keys14 = by name (reported2 14) keys13
-
-  abbrev keys15 : Entries
-  keys15 = by name (waited2 15) keys14
-
-  -- where each reference was added
-  abbrev none_added : List ℕ → ℕ
-  none_added q = 0
-
-  abbrev added1 : List ℕ → ℕ
-  added1 = added_by 1 add_d reply.Done none_added
-
-  abbrev added2 : List ℕ → ℕ
-  added2 = added_by 2 add_c reply.Done added1
-
-  abbrev added3 : List ℕ → ℕ
-  added3 = added_by 3 add_b reply.Done added2
-
-  abbrev added4 : List ℕ → ℕ
-  added4 = added_by 4 add_a reply.Done added3
-
-  -- ---- the run
-
-  run1 : Reached name (take 1 calls) (take 1 entries) keys1 None added1
-  run1 = let at = begun name in
-      goes-on name [] [] [] None none_added add_d reply.Done nothing keys1 None at.lists added1 at
-      refl (add-clear name [] (100 ∷ []) 1 tt refl refl) refl refl refl
-      (shows name nothing keys1 None at.lists added1 tt refl refl refl refl)
-
-  run2 : Reached name (take 2 calls) (take 2 entries) keys2 None added2
-  run2 = let at = run1 in
-      goes-on name (take 1 calls) (take 1 entries) keys1 None added1 add_c reply.Done nothing keys2
-      None at.lists added2 at refl (add-clear name keys1 (99 ∷ []) 2 tt refl refl) refl refl refl
-      (shows name nothing keys2 None at.lists added2 tt refl refl refl refl)
-
-  run3 : Reached name (take 3 calls) (take 3 entries) keys3 None added3
-  run3 = let at = run2 in
-      goes-on name (take 2 calls) (take 2 entries) keys2 None added2 add_b reply.Done nothing keys3
-      None at.lists added3 at refl (add-clear name keys2 (98 ∷ []) 3 tt refl refl) refl refl refl
-      (shows name nothing keys3 None at.lists added3 tt refl refl refl refl)
-
-  run4 : Reached name (take 4 calls) (take 4 entries) keys4 None added4
-  run4 = let at = run3 in
-      goes-on name (take 3 calls) (take 3 entries) keys3 None added3 add_a reply.Done nothing keys4
-      None at.lists added4 at refl (add-clear name keys3 (97 ∷ []) 4 tt refl refl) refl refl refl
-      (shows name nothing keys4 None at.lists added4 tt refl refl refl refl)
-
-  run5 : Reached name (take 5 calls) (take 5 entries) keys5 (Some Propagation1) added4
-  unfolding column
-  run5 = rolled name (take 4 calls) (take 4 entries) keys4 None added4 (starts [] firsts 5)
-      asked_first come_in (Some Propagation1) (started [] firsts 5) run4 tt refl
-      (λ lists. start-clear name keys4 lists [] firsts (second 5) refl refl refl refl) refl
-      (λ lists. refl) (λ lists. refl)
-      (λ lists. shows name come_in keys5 (Some Propagation1) lists added4 tt refl refl refl refl)
-
-  run6 : Reached name (take 6 calls) (take 6 entries) keys6 (Some (CacheExpire1 1)) added4
-  unfolding column
-  run6 = rolled name (take 5 calls) (take 5 entries) keys5 (Some Propagation1) added4 (reports1 6)
-      none_asked come_in (Some (CacheExpire1 1)) (reported1 6) run5 tt refl (λ lists. refl) refl
-      (λ lists. refl) (λ lists. refl)
-      (λ lists. shows name come_in keys6 (Some (CacheExpire1 1)) lists added4 tt refl refl refl
-      refl)
-
-  run7 : Reached name (take 7 calls) (take 7 entries) keys7 (Some Propagation2) added4
-  unfolding column
-  run7 = rolled name (take 6 calls) (take 6 entries) keys6 (Some (CacheExpire1 1)) added4 (waits1 7)
-      asked_between of_one (Some Propagation2) (waited1 7) run6 tt refl
-      (λ lists. wait-clear name First 1 (second 7) keys6 tt refl refl) refl
-      (λ lists. refl) (λ lists. refl)
-      (λ lists. shows name of_one keys7 (Some Propagation2) lists added4 tt refl refl refl refl)
-
-  run8 : Reached name (take 8 calls) (take 8 entries) keys8 (Some (CacheExpire2 1)) added4
-  unfolding column
-  run8 = rolled name (take 7 calls) (take 7 entries) keys7 (Some Propagation2) added4 (reports2 8)
-      none_asked of_one (Some (CacheExpire2 1)) (reported2 8) run7 tt refl (λ lists. refl) refl
-      (λ lists. refl) (λ lists. refl)
-      (λ lists. shows name of_one keys8 (Some (CacheExpire2 1)) lists added4 tt refl refl refl refl)
-
-  run9 : Reached name (take 9 calls) (take 9 entries) keys9 (Some Done) added4
-  unfolding column
-  run9 = rolled name (take 8 calls) (take 8 entries) keys8 (Some (CacheExpire2 1)) added4 (waits2 9)
-      asked_last of_one (Some Done) (waited2 9) run8 tt refl
-      (λ lists. wait-clear name Second 1 (second 9) keys8 tt refl refl) refl
-      (λ lists. refl) (λ lists. refl)
-      (λ lists. shows name of_one keys9 (Some Done) lists added4 tt refl refl refl refl)
-
-  run10 : Reached name (take 10 calls) (take 10 entries) keys9 None added4
-  unfolding column
-  run10 = ended name (take 9 calls) (take 9 entries) keys9 added4 none_asked of_one run9 refl refl
-      (λ lists. refl)
-      (λ lists. shows name of_one keys9 None lists added4 tt refl refl refl refl)
-
-  run11 : Reached name (take 11 calls) (take 11 entries) keys11 (Some Propagation1) added4
-  unfolding column
-  run11 = rolled name (take 10 calls) (take 10 entries) keys9 None added4
-      (starts firsts seconds 11) asked_first of_both (Some Propagation1) (started firsts seconds 11)
-      run10 tt refl
-      (λ lists. start-clear name keys9 lists firsts seconds (second 11) refl refl refl refl) refl
-      (λ lists. refl) (λ lists. refl)
-      (λ lists. shows name of_both keys11 (Some Propagation1) lists added4 tt refl refl refl refl)
-
-  run12 : Reached name (take 12 calls) (take 12 entries) keys12 (Some (CacheExpire1 1)) added4
-  unfolding column
-  run12 = rolled name (take 11 calls) (take 11 entries) keys11 (Some Propagation1) added4
-      (reports1 12) none_asked of_both (Some (CacheExpire1 1)) (reported1 12) run11 tt refl
-      (λ lists. refl) refl (λ lists. refl) (λ lists. refl)
-      (λ lists. shows name of_both keys12 (Some (CacheExpire1 1)) lists added4 tt refl refl refl
-      refl)
-
-  run13 : Reached name (take 13 calls) (take 13 entries) keys13 (Some Propagation2) added4
-  unfolding column
-  run13 = rolled name (take 12 calls) (take 12 entries) keys12 (Some (CacheExpire1 1)) added4
-      (waits1 13) asked_between turned (Some Propagation2) (waited1 13) run12 tt refl
-      (λ lists. wait-clear name First 1 (second 13) keys12 tt refl refl) refl
-      (λ lists. refl) (λ lists. refl)
-      (λ lists. shows name turned keys13 (Some Propagation2) lists added4 tt refl refl refl refl)
-
-  run14 : Reached name (take 14 calls) (take 14 entries) keys14 (Some (CacheExpire2 1)) added4
-  unfolding column
-  run14 = rolled name (take 13 calls) (take 13 entries) keys13 (Some Propagation2) added4
-      (reports2 14) none_asked turned (Some (CacheExpire2 1)) (reported2 14) run13 tt refl
-      (λ lists. refl) refl (λ lists. refl) (λ lists. refl)
-      (λ lists. shows name turned keys14 (Some (CacheExpire2 1)) lists added4 tt refl refl refl
-      refl)
-
-  run15 : Reached name (take 15 calls) (take 15 entries) keys15 (Some Done) added4
-  unfolding column
-  run15 = rolled name (take 14 calls) (take 14 entries) keys14 (Some (CacheExpire2 1)) added4
-      (waits2 15) asked_last of_other (Some Done) (waited2 15) run14 tt refl
-      (λ lists. wait-clear name Second 1 (second 15) keys14 tt refl refl) refl
-      (λ lists. refl) (λ lists. refl)
-      (λ lists. shows name of_other keys15 (Some Done) lists added4 tt refl refl refl refl)
-
-  run16 : Reached name calls entries keys15 None added4
-  unfolding column
-  run16 = ended name (take 15 calls) (take 15 entries) keys15 added4 none_asked of_other run15 refl
-      refl (λ lists. refl)
-      (λ lists. shows name of_other keys15 None lists added4 tt refl refl refl refl)
+  run11 : Reached name (take 11 calls) (take 11 entries) keys11 (Some Propagation1) added
+  run11 = course.run11 heap name one other
 
   -- ---- it is plain
 
@@ -548,12 +207,12 @@ module _ (heap : Global) (name : List ℕ) (one other : ℕ) where
       (found (HasZsk w) es all h.0 h.1 (sym (ap (λ f. f h.0) at) ∙ h.2) h.3)
 
   at5 : world_at name calls entries 5
-      ≡ world_of name keys5 (Some Propagation1) run5.lists added4
+      ≡ world_of name keys5 (Some Propagation1) run5.lists added
   at5 = world_front name (take 5 calls) (drop 5 calls) (take 5 entries) (drop 5 entries) 5
       (omega arith) (omega arith) ∙ run5.here
 
   at11 : world_at name calls entries 11
-      ≡ world_of name keys11 (Some Propagation1) run11.lists added4
+      ≡ world_of name keys11 (Some Propagation1) run11.lists added
   at11 = world_front name (take 11 calls) (drop 11 calls) (take 11 entries) (drop 11 entries) 11
       (omega arith) (omega arith) ∙ run11.here
 
@@ -563,7 +222,7 @@ module _ (heap : Global) (name : List ℕ) (one other : ℕ) where
 
   kept5 : KeptAt 4
   unfolding column
-  kept5 = rw at5 (kept keys5 (world_of name keys5 (Some Propagation1) run5.lists added4)
+  kept5 = rw at5 (kept keys5 (world_of name keys5 (Some Propagation1) run5.lists added)
       (gets keys5) (
         λ no_ksk. absurd (true≢false (sym no_ksk)),
         (
@@ -577,7 +236,7 @@ module _ (heap : Global) (name : List ℕ) (one other : ℕ) where
 
   kept11 : KeptAt 10
   unfolding column
-  kept11 = rw at11 (kept keys11 (world_of name keys11 (Some Propagation1) run11.lists added4)
+  kept11 = rw at11 (kept keys11 (world_of name keys11 (Some Propagation1) run11.lists added)
       (gets keys11) (
         λ no_ksk. absurd (true≢false (sym no_ksk)),
         (
@@ -629,7 +288,7 @@ pub whole_sets_can_be_kept : WholeSetsCanBeKept
 whole_sets_can_be_kept heap name one other time = (
   calls heap name one other,
   entries heap name one other,
-  (run16 heap name one other).run,
+  (course.run16 heap name one other).run,
   plain heap name one other,
   whole heap name one other,
   ds_one heap name one other,
