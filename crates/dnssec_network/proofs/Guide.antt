@@ -191,12 +191,12 @@ key_rules_suffice keeper signer time keeps its both = record {
 
 -- ---- lists of public keys
 
-mapped : {A B : Type 0} (f : A → B) (xs : List A) (x : A) → Contains xs x
+pub mapped : {A B : Type 0} (f : A → B) (xs : List A) (x : A) → Contains xs x
     → Contains (map f xs) (f x)
 mapped f xs x c =
     (c.0, omega (arith, length-map xs f, c.1), get_or-map f xs c.0 x (f x) c.1 ∙ ap f c.2)
 
-from_mapped : {A B : Type 0} (f : A → B) (xs : List A) (y : B) → Contains (map f xs) y
+pub from_mapped : {A B : Type 0} (f : A → B) (xs : List A) (y : B) → Contains (map f xs) y
     → (x : A) × Contains xs x × (f x ≡ y)
 from_mapped f [] y c = absurd (not_in_empty y c)
 from_mapped f (x ∷ xs) y (zero, lt, e) = (x, (0, omega arith, refl), e)
@@ -209,7 +209,7 @@ from_mapped f (x ∷ xs) y (suc i, lt, e) =
 
 module _ (keeper signer : Signer) (time : ℕ) (ds : HaveDsTogether keeper signer time) (p : ℕ)
     (held : MayBeHeld keeper.network Ds p time) where
-  ds_of_keeper : HasDsOf keeper time (ds_of_both keeper signer p)
+  pub ds_of_keeper : HasDsOf keeper time (ds_of_both keeper signer p)
   ds_of_keeper = record {
     version = p;
     held = held;
@@ -219,7 +219,7 @@ module _ (keeper signer : Signer) (time : ℕ) (ds : HaveDsTogether keeper signe
     some = or_map (ds.both p held) (λ e. e) (λ h. h.0);
   }
 
-  ds_of_signer : HasDsOf signer time (ds_of_both keeper signer p)
+  pub ds_of_signer : HasDsOf signer time (ds_of_both keeper signer p)
   ds_of_signer = record {
     version = p;
     held = ds.same p held;
@@ -230,7 +230,7 @@ module _ (keeper signer : Signer) (time : ℕ) (ds : HaveDsTogether keeper signe
   }
 
   module _ (algorithm : ℕ → ℕ) (same : HaveSameAlgorithms keeper signer algorithm time) where
-    each_of_keeper : HasEachAlgorithm keeper algorithm time (ds_of_both keeper signer p)
+    pub each_of_keeper : HasEachAlgorithm keeper algorithm time (ds_of_both keeper signer p)
         ds_of_keeper
     unfolding ds_of_keeper
     each_of_keeper d c = elim (Contains-append_cases (map keeper.public (shown keeper Ds p).ds)
@@ -244,7 +244,7 @@ module _ (keeper signer : Signer) (time : ℕ) (ds : HaveDsTogether keeper signe
               (own.0, own.1, own.2 ∙ ap algorithm k.2)
         ]
 
-    each_of_signer : HasEachAlgorithm signer algorithm time (ds_of_both keeper signer p)
+    pub each_of_signer : HasEachAlgorithm signer algorithm time (ds_of_both keeper signer p)
         ds_of_signer
     unfolding ds_of_signer
     each_of_signer d c = elim (Contains-append_cases (map keeper.public (shown keeper Ds p).ds)
@@ -258,16 +258,16 @@ module _ (keeper signer : Signer) (time : ℕ) (ds : HaveDsTogether keeper signe
               (k.0, k.1, ap algorithm k.2)
         ]
 
-abbrev dnskey_of : Signer → ℕ → List ℕ
+abbrev pub dnskey_of : Signer → ℕ → List ℕ
 dnskey_of s q = map s.public (shown s Dnskey q).dnskey
 
-abbrev signers_of : Signer → ℕ → List ℕ
+abbrev pub signers_of : Signer → ℕ → List ℕ
 signers_of s q = map s.public (shown s Dnskey q).signers
 
-abbrev zone_of : Signer → ℕ → List ℕ
+abbrev pub zone_of : Signer → ℕ → List ℕ
 zone_of s z = map s.public (shown s ZoneSigners z).zone
 
-keys_of : (s : Signer) (time q : ℕ) → MayBeHeld s.network Dnskey q time
+pub keys_of : (s : Signer) (time q : ℕ) → MayBeHeld s.network Dnskey q time
     → IsKeysOf s time (dnskey_of s q) (signers_of s q)
 keys_of s time q held = record {
   version = q;
@@ -276,7 +276,7 @@ keys_of s time q held = record {
   signed = mapped s.public (shown s Dnskey q).signers;
 }
 
-signed_by : (s : Signer) (time z : ℕ) → MayBeHeld s.network ZoneSigners z time
+pub signed_by : (s : Signer) (time z : ℕ) → MayBeHeld s.network ZoneSigners z time
     → IsZoneOf s time (zone_of s z)
 signed_by s time z held = record {
   version = z;

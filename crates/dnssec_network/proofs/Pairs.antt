@@ -33,7 +33,7 @@ module _ (first start ttl time : ℕ) (s : Signer) (is : IsPromptRun first start
     last = λ j here made. omega (arith, here, made, le, is.within);
   }
 
-  keeps : ttl ≤ 4_294_967_295 → KeepsRules one time
+  pub keeps : ttl ≤ 4_294_967_295 → KeepsRules one time
   keeps fits =
       let met = premises_can_be_met first start ttl time s.entries is.within is.begins fits is.clock
       is.low in

@@ -1,0 +1,151 @@
+-- One of two signers leaves: until it is over both keep the rules for two, and then caches have
+-- nothing of it.
+use Rattle.std.proofs.Common.{arith, inl, inr, map, sym, ℕ, ◌+◌, ◌*◌, ◌<◌, ◌≡◌, ◌≤◌}
+use Rattle.std.proofs.lemmas.Bool.{cases_lt}
+use Rattle.dnssec_run.proofs.Chain.Side.{or_map}
+use Rattle.dnssec_run.specs.Safe.{Dnskey, Ds, SetKind, ZoneSigners}
+use Rattle.dnssec_network.proofs.Either.{alone-chain, alone-each, both-chain, both-each, own-chain}
+use Rattle.dnssec_network.proofs.Either.{own-each}
+use Rattle.dnssec_network.proofs.Guide.{dnskey_of, signers_of, zone_of}
+use Rattle.dnssec_network.proofs.Pairs.{keeps, signers_can_be_met}
+use Rattle.dnssec_network.specs.Either.{One, Other, Which, signer_of}
+use Rattle.dnssec_network.specs.Guide.{ds_of_both}
+use Rattle.dnssec_network.specs.Leaving.{Leave, LeavesInOrder, LeavingCanBeMet, LeavingKeepsChain}
+use Rattle.dnssec_network.specs.Leaving.{LeavingKeepsEachChain, MayBeAsked, MayBeHeldOf}
+use Rattle.dnssec_network.specs.Leaving.{NothingIsLeft, ds_while_leaving}
+use Rattle.dnssec_network.specs.Network.{MayBeHeld}
+use Rattle.dnssec_network.specs.TwoSigners.{PublicChain, PublicChainByEach, Signer, shown}
+
+-- ---- nothing is left
+
+-- what was got while it might be asked isn't held any more
+dropped : (leave : Leave) (since time ttl : ℕ) → MayBeAsked leave since
+    → time < since + (ttl + 1) * 1_000_000_000
+    → leave.out + (leave.ttl + 1 + ttl + 1) * 1_000_000_000 ≤ leave.over → time < leave.over
+dropped leave since time ttl asked lasts wait =
+    omega (arith, asked.1, asked.2, asked.3, lasts, wait)
+
+pub nothing_is_left : NothingIsLeft
+nothing_is_left stays leaves leave v time order over = (
+  λ kept.
+      let held = kept.0 in
+      let wait = order.keys v held.since held.got kept.1 held.given in
+      let early = dropped leave held.since time (leaves.network.ttl Dnskey v) kept.1 held.lasts
+      wait in
+      omega (arith, over, early),
+  λ kept.
+      let held = kept.0 in
+      let wait = order.zone v held.since held.got kept.1 held.given in
+      let early = dropped leave held.since time (leaves.network.ttl ZoneSigners v) kept.1 held.lasts
+      wait in
+      omega (arith, over, early),
+)
+
+-- ---- which DS set
+
+ds-of-both : (stays leaves : Signer) (leave : Leave) (v : ℕ) → v < leave.alone
+    → ds_while_leaving stays leaves leave v ≡ ds_of_both stays leaves v
+ds-of-both stays leaves leave v lt = grind (arith, lt)
+
+ds-alone : (stays leaves : Signer) (leave : Leave) (v : ℕ) → leave.alone ≤ v
+    → ds_while_leaving stays leaves leave v ≡ map stays.public (shown stays Ds v).ds
+ds-alone stays leaves leave v ge = grind (arith, ge)
+
+module _ (stays leaves : Signer) (leave : Leave) (time : ℕ)
+    (order : LeavesInOrder stays leaves leave time) where
+  -- one of the other alone isn't given before it is over
+  of-both : time < leave.over → (p : ℕ) → MayBeHeld stays.network Ds p time
+      → ds_while_leaving stays leaves leave p ≡ ds_of_both stays leaves p
+  of-both lt p held = elim (cases_lt p leave.alone) [
+    | inl below ↦ ds-of-both stays leaves leave p below
+    | inr ge ↦
+        let late = order.ds p held.since ge held.got held.given in
+        absurd (omega (arith, lt, late, held.got))
+  ]
+
+  held-of : (w : Which) (kind : SetKind) (v : ℕ) → MayBeHeldOf stays leaves leave time w kind v
+      → MayBeHeld (signer_of stays leaves w).network kind v time
+  held-of One kind v held = held
+  held-of Other kind v held = held.0
+
+-- ---- at each time
+
+pub leaving_keeps_chain : LeavingKeepsChain
+leaving_keeps_chain stays leaves leave time rules order keeper signer p q z in_ds keys zone =
+    elim (cases_lt time leave.over) [
+      | inl lt ↦
+          rw (of-both stays leaves leave time order lt p in_ds)
+          (both-chain stays leaves time rules (order.both lt) keeper signer p q z in_ds
+          (held-of stays leaves leave time order keeper Dnskey q keys)
+          (held-of stays leaves leave time order signer ZoneSigners z zone))
+      | inr over ↦ after over keeper signer keys zone
+    ]
+  where
+    after : leave.over ≤ time → (keeper signer : Which)
+        → MayBeHeldOf stays leaves leave time keeper Dnskey q
+        → MayBeHeldOf stays leaves leave time signer ZoneSigners z
+        → PublicChain (ds_while_leaving stays leaves leave p)
+        (dnskey_of (signer_of stays leaves keeper) q) (signers_of (signer_of stays leaves keeper) q)
+        (zone_of (signer_of stays leaves signer) z)
+    after over One One keys zone = elim (cases_lt p leave.alone) [
+      | inl lt ↦
+          rw (ds-of-both stays leaves leave p lt)
+          (alone-chain stays leaves time rules p in_ds q z keys zone (order.other over p lt in_ds))
+      | inr ge ↦
+          rw (ds-alone stays leaves leave p ge)
+          (own-chain stays leaves time rules p in_ds q z keys zone)
+    ]
+    after over One Other keys zone =
+        absurd ((nothing_is_left stays leaves leave z time order over).1 zone)
+    after over Other signer keys zone =
+        absurd ((nothing_is_left stays leaves leave q time order over).0 keys)
+
+pub leaving_keeps_each_chain : LeavingKeepsEachChain
+leaving_keeps_each_chain stays leaves leave algorithm time rules order same keeper signer p q z
+    in_ds keys zone =
+    elim (cases_lt time leave.over) [
+      | inl lt ↦
+          rw (of-both stays leaves leave time order lt p in_ds)
+          (both-each stays leaves time rules (order.both lt) keeper signer p q z in_ds
+          (held-of stays leaves leave time order keeper Dnskey q keys)
+          (held-of stays leaves leave time order signer ZoneSigners z zone) algorithm same.mine
+          (same.both lt))
+      | inr over ↦ after over keeper signer keys zone
+    ]
+  where
+    after : leave.over ≤ time → (keeper signer : Which)
+        → MayBeHeldOf stays leaves leave time keeper Dnskey q
+        → MayBeHeldOf stays leaves leave time signer ZoneSigners z
+        → PublicChainByEach algorithm (ds_while_leaving stays leaves leave p)
+        (dnskey_of (signer_of stays leaves keeper) q) (signers_of (signer_of stays leaves keeper) q)
+        (zone_of (signer_of stays leaves signer) z)
+    after over One One keys zone = elim (cases_lt p leave.alone) [
+      | inl lt ↦
+          rw (ds-of-both stays leaves leave p lt)
+          (alone-each stays leaves time rules p in_ds q z keys zone algorithm same.mine
+          (order.other over p lt in_ds) (same.other over p lt in_ds))
+      | inr ge ↦
+          rw (ds-alone stays leaves leave p ge)
+          (own-each stays leaves time rules p in_ds q z keys zone algorithm same.mine)
+    ]
+    after over One Other keys zone =
+        absurd ((nothing_is_left stays leaves leave z time order over).1 zone)
+    after over Other signer keys zone =
+        absurd ((nothing_is_left stays leaves leave q time order over).0 keys)
+
+-- ---- two in step
+
+pub leaving_can_be_met : LeavingCanBeMet
+leaving_can_be_met first start ttl time stays leaves leave fits mine its count keys ds wait some
+    late =
+    let here = signers_can_be_met first start ttl time stays leaves fits mine its count
+    (λ p. (keys p).0) ds in
+    let there = signers_can_be_met first start ttl time leaves stays fits its mine (sym count)
+    (λ p. (keys p).1) (λ p. or_map (ds p) (λ e. (e.1, e.0)) (λ h. (h.1, h.0))) in
+    record {
+      both = λ lt. (keeps first start ttl time leaves its fits, here.0, there.0, here.1);
+      keys = λ v t le asked given. wait;
+      zone = λ v t le asked given. wait;
+      ds = λ v t ge le given. grind (arith, given.2, ge, some, late);
+      other = λ over v lt held. or_map (here.1.both v held) (λ e. e) (λ h. h.0);
+    }
