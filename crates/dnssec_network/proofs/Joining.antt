@@ -1,7 +1,7 @@
 -- A second signer joins: the one alone, and then both.
-use Rattle.std.proofs.Common.{arith, inl, inr, ℕ, ◌<◌, ◌≤◌}
+use Rattle.std.proofs.Common.{arith, inl, inr, ℕ, ◌<◌}
 use Rattle.std.proofs.lemmas.Bool.{cases_lt}
-use Rattle.dnssec_run.specs.Safe.{Dnskey, Ds, SetKind, ZoneSigners}
+use Rattle.dnssec_run.specs.Safe.{Dnskey, SetKind, ZoneSigners}
 use Rattle.dnssec_network.proofs.Either.{alone-chain, alone-each, both-chain, both-each}
 use Rattle.dnssec_network.proofs.Guide.{dnskey_of, signers_of, zone_of}
 use Rattle.dnssec_network.specs.Either.{One, Other, Which, signer_of}

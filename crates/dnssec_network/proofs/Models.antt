@@ -14,7 +14,7 @@ use Rattle.dnssec_run.specs.declared.record.Entry.{Entry}
 use Rattle.dnssec_network.proofs.Held.{report-within}
 use Rattle.dnssec_network.proofs.Noted.{notes_make_reports_true}
 use Rattle.dnssec_network.specs.Facts.{AreTrueFrom, news_of, ttl_before}
-use Rattle.dnssec_network.specs.Models.{IsByTheClock, MeetsPremises, NoTtlBelow}
+use Rattle.dnssec_network.specs.Models.{IsByTheClock, NoTtlBelow}
 use Rattle.dnssec_network.specs.Models.{PremisesCanBeMet, made_since, prompt}
 use Rattle.dnssec_network.specs.Network.{IsNetworkOf, Network, NoneLiesAhead}
 use Rattle.dnssec_network.specs.Network.{ReportsAreTrue}

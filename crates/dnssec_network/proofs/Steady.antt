@@ -8,7 +8,7 @@ use Rattle.dnssec_key.specs.declared.roll.RollType.{RollType}
 use Rattle.dnssec_zone.proofs.Flags.{Early, Late, Quiet, Stage, Zone, affects}
 use Rattle.dnssec_run.proofs.Chain.BothSides.{Inv}
 use Rattle.dnssec_run.proofs.Chain.Family.{algorithm-law, of_algorithm, whole-law}
-use Rattle.dnssec_run.proofs.Chain.Flags.{Own, Shared, SideSet, first_set, second_set, switches}
+use Rattle.dnssec_run.proofs.Chain.Flags.{Own, Shared, first_set, second_set, switches}
 use Rattle.dnssec_run.proofs.Chain.History.{Without}
 use Rattle.dnssec_run.proofs.Chain.Invariant.{Alive, At, LateOf, used-some}
 use Rattle.dnssec_run.proofs.Chain.Places.{side}

@@ -1,7 +1,7 @@
 -- Two signers: the keeper's chain down to its DNSKEY set, and a key of the signer that signs the
 -- zone and stands in each of its own sets in caches, so in that of the keeper too.
-use Rattle.std.proofs.Common.{List, arith, inl, inr, length, refl, subst, suc, sym, true, zero, ℕ}
-use Rattle.std.proofs.Common.{[], ◌+◌, ◌<◌, ◌∙◌, ◌∷◌, ◌≡◌, ◌≤◌}
+use Rattle.std.proofs.Common.{List, arith, inl, inr, length, refl, subst, suc, sym, zero, ℕ}
+use Rattle.std.proofs.Common.{◌+◌, ◌<◌, ◌∙◌, ◌≤◌}
 use Rattle.std.proofs.lemmas.Bool.{cases_Bool, cases_lt, true≢false}
 use Rattle.std.proofs.lemmas.Map.Views.{Contains-from_any, list_any-from_Contains}
 use Rattle.std.specs.Cmp.{nat_eq_equiv}
@@ -12,14 +12,14 @@ use Rattle.dnssec_run.proofs.Chain.History.{base-lies-below, not_in_empty}
 use Rattle.dnssec_run.proofs.Chain.Trust.{chain-holds, each-holds}
 use Rattle.dnssec_run.specs.Published.{Id}
 use Rattle.dnssec_run.proofs.Since.{origin-le, origin-same}
-use Rattle.dnssec_run.specs.Origins.{CachedSet, origin, set_at}
+use Rattle.dnssec_run.specs.Origins.{CachedSet, origin}
 use Rattle.dnssec_run.specs.Safe.{Dnskey, Ds, HasChain, MayBeCached, Position, SetKind, TrustsKeys}
 use Rattle.dnssec_run.specs.Safe.{TrustsZone, ZoneSigners, position_at}
 use Rattle.dnssec_network.proofs.Held.{IsHeldAs, LastMade, held-cached, held-chain, held-each}
 use Rattle.dnssec_network.proofs.Held.{held-published, last-made, may-be-cached, report-within}
 use Rattle.dnssec_network.proofs.Steady.{SteadyKey, steady-each, steady-key}
 use Rattle.dnssec_network.specs.Network.{IsPublished, MayBeHeld}
-use Rattle.dnssec_network.specs.TwoSigners.{EachPublishesItsOwn, HasHadSince, HasKey, HasKeysSince}
+use Rattle.dnssec_network.specs.TwoSigners.{EachPublishesItsOwn, HasKey, HasKeysSince}
 use Rattle.dnssec_network.specs.TwoSigners.{HavingAllSuffices, IsKeysOf, KeepsRules}
 use Rattle.dnssec_network.specs.TwoSigners.{PublishesKeysOf, Signer, SignsZone, TwoSignersFindChain}
 use Rattle.dnssec_network.specs.TwoSigners.{TwoSignersFindEachChain, shown}
