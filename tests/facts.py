@@ -336,6 +336,11 @@ def set_back():
     text, status = typed(["draw", "back.script", "--out", "./back.look"], 10**6)
     if status != 64 or Path("back.look").read_text() != wanted:
         yield f"draw writes over a file of the script: {text}"
+    private_halves()
+    for how in (["--out", "back.notes"], ["--nsec3", f"1 0 {'1' * 5000} -"]):
+        text, status = typed(["act", "back.script", "--zone-file", "zone", *how], 10**6)
+        if status != 64 or Path("back.notes").exists():
+            yield f"act {how[0]} ends with {status}: {text}"
 
 
 def damaged():

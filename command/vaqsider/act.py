@@ -22,7 +22,7 @@ from keyset.file import Writer
 from keyset.notes import Seen
 
 from . import place, serial, signing, status, words, zonefile
-from .arguments import file_name
+from .arguments import expect_other, file_name
 from .errors import UNAVAILABLE, Failure
 from .history import Call, History
 from .keysets import KeySets
@@ -115,6 +115,7 @@ class Act:
         """The signed zone may not take the place of the unsigned one."""
         if self.signed.exists() and self.signed.samefile(self.zone_file):
             raise Failure(f"{self.signed} is the unsigned zone: choose another --out")
+        expect_other(self.signed, self.args.SCRIPT)
 
     def expect_own(self, last: Zone | None) -> None:
         """The last version has a key that is due, or one that this script took out. Else nobody has

@@ -40,7 +40,8 @@ def expect_other(out, script):
     """A file to write may not be one of the script's own."""
     own = [Path(script).with_suffix(suffix) for suffix in (".notes", ".look", ".act")]
     for path in (Path(script), *own):
-        if Path(out).exists() and path.exists() and path.samefile(out):
+        is_same = Path(out).exists() and path.exists() and path.samefile(out)
+        if is_same or Path(out).resolve() == path.resolve():
             raise Failure(f"{out} is one of the script's own files: choose another --out")
 
 

@@ -34,7 +34,8 @@ class Nsec3:
         """Reads `1 0 0 -`: algorithm, flags, iterations and salt."""
         *numbers, salt = text.split() or [""]
         is_salt = salt == "-" or len(salt) % 2 == 0 and set(salt.lower()) <= set("0123456789abcdef")
-        if len(numbers) != 3 or not (is_salt and all(map(str.isdecimal, numbers))):
+        are_numbers = all(it.isdecimal() and len(it) <= 5 for it in numbers)
+        if len(numbers) != 3 or not (is_salt and are_numbers):
             raise Failure(f"NSEC3 parameters are as '1 0 0 -', not '{text}'")
         algorithm, flags, iterations = map(int, numbers)
         return cls(algorithm, flags, iterations, salt)
