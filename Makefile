@@ -17,8 +17,8 @@ PYTHON ?= $(shell for python in python3 /usr/bin/python3; do \
 PACKAGES = python3-dnspython python3-cryptography python3-jsonschema
 
 PROGRAM = crates/keyset/out/keyset
-PARTS = dnssec_base dnssec_key dnssec_zone dnssec_keyset dnssec_run dnssec_sets dnssec_judge \
-	dnssec_script dnssec_record keyset
+PARTS = dnssec_base dnssec_key dnssec_zone dnssec_keyset dnssec_run dnssec_network dnssec_sets \
+	dnssec_judge dnssec_script dnssec_record dnssec_status dnssec_notes keyset
 SOURCES = crates.txt \
 	$(wildcard $(foreach part,$(PARTS),$(addprefix crates/$(part)/,src specs proofs)))
 
@@ -29,7 +29,7 @@ CALLERS = has-cc has-pkg-config has-cargo has-rustc
 prove = mkdir -p crates/$(1)/out && cd crates/$(1) && \
 	{ rt $(2) >out/build.log 2>&1 || { cat out/build.log >&2; exit 1; }; }
 
-.PHONY: run build notes lib install uninstall made noted arm dist try-dist check fmt clean test \
+.PHONY: run build lib install uninstall made noted arm dist try-dist check fmt clean test \
 	wrong live docs memory test-lib test-arm valgrind asan fuzz types mutants signers help python \
 	modules packages logs
 
@@ -42,18 +42,14 @@ run: ## answers SCRIPT: make run SCRIPT=FILE
 		cd crates/keyset && rt try; \
 	fi <"$(SCRIPT)"
 
-build: ## proves and builds the programs keyset and keyset_status, as crates/NAME/out/NAME
+build: ## proves and builds the program keyset, as crates/keyset/out/keyset
 	@$(call prove,keyset,run <stdin)
-	@$(call prove,keyset_status,run <stdin)
-
-notes: ## proves and builds the program keyset_notes, which says which reports are due
-	@$(call prove,keyset_notes,run <stdin)
 
 lib: ## proves and builds the library for C, Rust and Python: library/out
 	@$(call prove,keyset_c,lib)
 	@library/pack.sh crates/keyset_c/out/libkeyset_c.a library/out
 
-install: python made ## installs programs, library, command and manual: PREFIX=/usr/local DESTDIR=
+install: python made ## installs program, library, command and manual: PREFIX=/usr/local DESTDIR=
 	@packaging/install.py install "$(PREFIX)" --destdir "$(DESTDIR)" --libdir "$(LIBDIR)" \
 		$(addprefix --without ,$(WITHOUT))
 
@@ -62,19 +58,17 @@ uninstall: python ## removes what make install has installed
 
 # By what is in the sources, not by their times. One after the other: these share proofs.
 made: python
-	@packaging/built.py || $(MAKE) -j1 build notes lib noted
+	@packaging/built.py || $(MAKE) -j1 build lib noted
 noted:
 	@packaging/built.py --keep
 
-# The toolchain makes no programs for ARM: those in C over the library have their names.
-arm: made has-aarch64-linux-gnu-gcc ## builds the library and programs for ARM: library/out-aarch64
+# The toolchain makes no programs for ARM: the one in C over the library has the same name.
+arm: made has-aarch64-linux-gnu-gcc ## builds the library and program for ARM: library/out-aarch64
 	@tests/archive.py library/out-aarch64 aarch64
-	@for name in keyset keyset_status keyset_notes; do \
-		mkdir -p library/out-aarch64/programs/$$name/out && \
-		aarch64-linux-gnu-gcc -std=c99 -O2 -Wall -Wextra -Ilibrary/out-aarch64/include \
-			-o library/out-aarch64/programs/$$name/out/$$name library/programs/$$name.c \
-			library/out-aarch64/lib/libkeyset.a || exit 1; \
-	done
+	@mkdir -p library/out-aarch64/programs/keyset/out
+	@aarch64-linux-gnu-gcc -std=c99 -O2 -Wall -Wextra -Ilibrary/out-aarch64/include \
+		-o library/out-aarch64/programs/keyset/out/keyset library/programs/*.c \
+		library/out-aarch64/lib/libkeyset.a
 
 # CONTRIBUTING says how a release is made, and what it wants. PROOFS names what the gate has printed.
 dist: logs made arm has-dpkg-deb has-cargo ## makes a release in dist by the logs PROOFS='FILE ..'
@@ -106,26 +100,26 @@ wrong: python ## tries the wrong bodies that the gate leaves out: make wrong CRA
 	@tests/wrong.py $(CRATES)
 
 # The table of changes is tests/mutants.txt.
-mutants: modules build notes ## changes a line of the command at a time: a test has to see it
+mutants: modules build ## changes a line of the command at a time: a test has to see it
 	@$(PYTHON) tests/mutants.py
 
-signers: modules build notes ## signs by the real tools of BIND and ldns, and verifies each zone
+signers: modules build ## signs by the real tools of BIND and ldns, and verifies each zone
 	@$(PYTHON) tests/signers.py
 
 # It needs the packages that live/README.md names.
 live: ## rolls keys on real name servers, within an hour; LIVE=--short within ten minutes
-	@echo 'first the programs are proved: half an hour, or seconds if their proofs are kept'
-	@$(MAKE) --no-print-directory build notes
+	@echo 'first the program is proved: half an hour, or seconds if its proof is kept'
+	@$(MAKE) --no-print-directory build
 	@live/run.py $(LIVE)
 
 docs: python ## compares what the documents print with the examples and the callers
 	@tests/docs.py
 
-memory: python has-cc build notes ## lets each request for memory fail in turn
+memory: python has-cc build ## lets each request for memory fail in turn
 	@$(call prove,callers,run </dev/null)
 	@tests/memory.py
 
-test-lib: python $(CALLERS) build notes lib ## tests the library, its callers and the install
+test-lib: python $(CALLERS) build lib ## tests the library, its callers and the install
 	@tests/library.py library/out
 asan: python has-cc lib ## tests the library in C under the address sanitizer
 	@tests/library.py library/out $@

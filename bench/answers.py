@@ -1,8 +1,8 @@
-"""What answers cost by length: those of `keyset_notes`, of `keyset_status`, and a session's lines.
+"""What answers cost by length: those of `keyset notes`, of `keyset status`, and a session's lines.
 
     python3 bench/answers.py [--only WORD]
 
-It takes the programs of `make build notes` and the library of `make lib`. Each script has a length
+It takes the program of `make build` and the library of `make lib`. Each script has a length
 that a user controls, and is measured at three of them, each twice the one before. A row prints, of
 the longest: its lines, how many calls are accepted, the least processor seconds of some runs, and
 the greatest memory in MB. A growth is that of the instructions, as valgrind counts them, or of the
@@ -26,6 +26,7 @@ from successive_rolls import FIRST, ROLL, script as rolls
 
 TOP = Path(__file__).resolve().parent.parent
 LIBRARY = TOP / "library" / "out"
+PROGRAM = TOP / "crates" / "keyset" / "out" / "keyset"
 RUNS = 3
 LONG = "L" * 1_000_000
 BEFORE = "before 3600 3600 3600"
@@ -33,10 +34,10 @@ BEFORE = "before 3600 3600 3600"
 
 @dataclass
 class Row:
-    """A script by its length, for a program, and the longest of three lengths."""
+    """A script by its length, for a word of the program, and the longest of three lengths."""
 
     name: str
-    program: str
+    word: str
     longest: int
     make: Callable[[int], str]
 
@@ -175,7 +176,7 @@ def toggled_then_ended(count):
     return toggled(count * 2 // 3) + joined(["add-zsk Z1 - 13 3 150 yes"], turns)
 
 
-NOTES, STATUS = "keyset_notes", "keyset_status"
+NOTES, STATUS = "notes", "status"
 ROWS = [
     Row("rolls, and as many questions", NOTES, 8_000, rolls_with_questions),
     Row("a reference of 1 MB, refused calls, one question", NOTES, 4_000, long_reference_noted),
@@ -221,12 +222,20 @@ def accepted(bench, text):
     """How many calls of the first script the program `keyset` accepts."""
     script = text.partition("\n\n")[0].rstrip("\n")
     given = bench.script("script", f"{script}\n")
-    bench.run(str(TOP / "crates" / "keyset" / "out" / "keyset"), given)
+    bench.run(str(PROGRAM), given)
     return sum(line.startswith("ok") for line in Path(bench.answers).read_text().splitlines())
 
 
+def linked(bench, word):
+    """A link by whose name the program does what a word says."""
+    link = Path(bench.path(f"keyset_{word}"))
+    if not link.is_symlink():
+        link.symlink_to(PROGRAM)
+    return str(link)
+
+
 def cells(bench, row):
-    program = str(TOP / "crates" / row.program / "out" / row.program)
+    program = linked(bench, row.word)
     instructions, memory = [], []
     for count in (row.longest // 4, row.longest // 2, row.longest):
         text = row.make(count)
@@ -272,9 +281,9 @@ def main():
     parser.add_argument("--only", default="", help="the rows whose names have this word")
     only = parser.parse_args().only
     with Bench() as bench:
-        for program in (NOTES, STATUS):
-            print(f"`{program}`:\n")
-            chosen = [row for row in ROWS if row.program == program and only in row.name]
+        for word in (NOTES, STATUS):
+            print(f"`keyset {word}`:\n")
+            chosen = [row for row in ROWS if row.word == word and only in row.name]
             table(["Script", "Lines", "Accepted", "Seconds", "Growth", "MB", "Growth"],
                   (list(cells(bench, row)) for row in chosen))
         table(["Lines of a session", "Lines", "Accepted", "First", "Last", "Slowest"],

@@ -180,8 +180,8 @@ struct keyset_answered keyset_status(const struct keyset_session *session, uint8
 uint32_t keyset_note(struct keyset_session *session, const uint8_t *line, size_t line_length);
 
 /* Writes the reports that the rolls wait for, as they would be made at this second since 1970: a
-   line for each, in the form that docs/NOTES.md has. They are those that the program keyset_notes
-   answers for the lines of the session and of its notes (told). It is malformed if and only if the
+   line for each, in the form that docs/NOTES.md has. They are those that `keyset notes` answers
+   for the lines of the session and of its notes (told). It is malformed if and only if the
    session has no notes (no_notes). Else it is as the three functions above. */
 struct keyset_answered keyset_due(const struct keyset_session *session, uint64_t seconds,
                                   uint8_t *out, size_t out_length);

@@ -1,5 +1,5 @@
 #!/usr/bin/env python3
-"""Says whether the programs and the library were made from the sources that are here.
+"""Says whether the program and the library were made from the sources that are here.
 
     packaging/built.py           ends with 0 if they were, and else with 1
     packaging/built.py --keep    notes that they were

@@ -3,7 +3,7 @@
 
     packaging/dist.py FOLDER [--untagged] --proofs LOG [LOG ..]
 
-It wants a clean tree whose commit has the tag of the release, what `make build notes lib arm` has
+It wants a clean tree whose commit has the tag of the release, what `make build lib arm` has
 made of it, the logs of gates or of `packaging/proved.py` in which each of its proofs is told, and
 the tools of Python, Rust and Debian. --untagged makes it of any clean tree, to try it. Each file has
 the same bytes wherever it is made.
@@ -39,7 +39,7 @@ def check(untagged):
     if not untagged and f"v{version()}" not in tags:
         raise Fault(f"this commit isn't tagged v{version()}")
     if not is_built():
-        raise Fault("what is built isn't of these sources: 'make build notes lib' makes it")
+        raise Fault("what is built isn't of these sources: 'make build lib' makes it")
     if not ARM.is_dir():
         raise Fault(f"{ARM} isn't there: 'make arm' makes it")
 

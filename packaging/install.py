@@ -1,5 +1,5 @@
 #!/usr/bin/env python3
-"""Installs what `make build notes lib` has made, and removes it again.
+"""Installs what `make build lib` has made, and removes it again.
 
     packaging/install.py install PREFIX [--destdir FOLDER] [--libdir FOLDER] [--without PART]
     packaging/install.py uninstall PREFIX [--destdir FOLDER]

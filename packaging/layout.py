@@ -1,4 +1,4 @@
-"""What an install has: the programs, the library and the command, each file with its place."""
+"""What an install has: the program, the library and the command, each file with its place."""
 
 import os
 import re
@@ -7,7 +7,9 @@ from pathlib import Path
 
 TOP = Path(__file__).resolve().parent.parent
 BUILT = TOP / "library" / "out"
-PROGRAMS = ("keyset", "keyset_status", "keyset_notes")
+PROGRAMS = ("keyset",)
+# Names by which the program does what one of its words says.
+LINKS = ("keyset_status", "keyset_notes")
 PARTS = ("programs", "library", "command")
 
 SHARE = Path("share/vaqsider")
@@ -15,7 +17,7 @@ SHARE = Path("share/vaqsider")
 LIST = SHARE / "installed"
 DOCUMENTS = Path("share/doc/vaqsider")
 # The manual pages of a part.
-PAGES = {"programs": PROGRAMS, "command": ("vaqsider",)}
+PAGES = {"programs": (*PROGRAMS, *LINKS), "command": ("vaqsider",)}
 # The folders of Python that the command consists of.
 PACKAGES = (TOP / "library" / "python" / "keyset", TOP / "command" / "vaqsider")
 
@@ -70,6 +72,8 @@ class Layout:
     def _programs(self, made):
         for name in PROGRAMS:
             yield File(Path("bin") / name, self.programs / name / "out" / name, 0o755)
+        for link in LINKS:
+            yield File(Path("bin") / link, self.programs / "keyset" / "out" / "keyset", None)
         yield from self._pages(made, "programs")
 
     def _library(self, made):

@@ -24,17 +24,17 @@ TOP = Path(__file__).resolve().parent.parent
 PAGES = {
     "keyset": (
         "answer a script of a DNSSEC key set",
-        "keyset < SCRIPT",
+        "keyset [WORD] < SCRIPT",
         ["crates/keyset/README.md", "docs/SCRIPTS.md"],
     ),
     "keyset_status": (
         "show where the keys and rolls of a DNSSEC zone are, as JSON",
-        "keyset_status < SCRIPT",
-        ["crates/keyset_status/README.md", "docs/STATUS.md"],
+        "keyset status < SCRIPT",
+        ["docs/STATUS.md"],
     ),
     "keyset_notes": (
         "work out the reports that are due, by a script and notes",
-        '{ cat SCRIPT; echo; cat NOTES; echo "due $(date +%s)"; } | keyset_notes',
+        '{ cat SCRIPT; echo; cat NOTES; echo "due $(date +%s)"; } | keyset notes',
         ["docs/NOTES.md"],
     ),
     "vaqsider": (

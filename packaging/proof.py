@@ -27,7 +27,7 @@ Commit: {commit}
 Sources: {digest}
     {command}
 
-To compare: `rt ci --anew` proves all from nothing. `make build notes lib` then builds, and sha256sum
+To compare: `rt ci --anew` proves all from nothing. `make build lib` then builds, and sha256sum
 has to print the sums below.
 
 Each crate was proved from nothing by `rt ci` from these sources. Here are the sum of what its proof

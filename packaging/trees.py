@@ -85,7 +85,7 @@ def install(root, layout):
         files = list(layout.files(Path(pages)))
         for file in files:
             if not file.source.exists():
-                raise Missing(f"{file.source} isn't there: 'make build notes lib' makes it")
+                raise Missing(f"{file.source} isn't there: 'make build lib' makes it")
         before, folders = map(set, listed(root))
         names = {str(LIST), *(str(file.place) for file in files)}
         for name in names:

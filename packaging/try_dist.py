@@ -39,8 +39,18 @@ vaqsider call example.com.script 'add-zsk Z9 - 13 9 0 yes'
 ! vaqsider call example.com.script 'add-zsk Z9 - 13 9 0 yes'
 grep -q Z9 example.com.script
 """
-# The first example of README: the answers are those that are stored.
-BY_PROGRAM = f"keyset <{{examples}}/{EXAMPLE}.script | cmp - {{examples}}/{EXAMPLE}.answers\n"
+# The first example of README, and one of each word: the answers are those that are stored.
+BY_PROGRAM = f"""
+keyset --version
+keyset --help
+keyset <{{examples}}/{EXAMPLE}.script | cmp - {{examples}}/{EXAMPLE}.answers
+for program in 'keyset status' keyset_status; do
+    $program <{{examples}}/algorithm-roll.script | cmp - {{examples}}/algorithm-roll.json
+done
+for program in 'keyset notes' keyset_notes; do
+    $program <{{examples}}/lowered-ttl.notes | cmp - {{examples}}/lowered-ttl.reports
+done
+"""
 IN_PYTHON = """
 import keyset, keyset.library
 keys = keyset.KeySet("example.com")

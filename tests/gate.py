@@ -198,16 +198,15 @@ def main():
 
 def prove_and_test(free, folder):
     """Runs `rt ci` and the tests beside it, of which some share the library in a folder."""
-    programs = ["keyset", "keyset_status", "keyset_notes"]
     # The library takes no proof of `keyset_c`, only of the crates below it.
     archive = After("archive", folder, after=["dnssec_status", "dnssec_notes"])
-    library = After("library", folder, after=[*programs, "archive"])
+    library = After("library", folder, after=["keyset", "archive"])
     archive.later.append(library)
     scripts = [
-        After("memory", after=["callers", "keyset_status", "keyset_notes"]),
+        After("memory", after=["callers", "keyset"]),
         After("sets", after=["callers"]),
-        After("notes", after=["keyset_notes"]),
-        After("command", after=programs),
+        After("notes", after=["keyset"]),
+        After("command", after=["keyset"]),
         archive,
         library,
     ]

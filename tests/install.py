@@ -1,15 +1,15 @@
 #!/usr/bin/env python3
-"""Installs the programs, the library and the command into a new folder, and uses them there.
+"""Installs the program, the library and the command into a new folder, and uses them there.
 
     tests/install.py FOLDER    takes the library that `make lib` has left there
 
 A caller in C is built by `pkg-config`, the folder is moved, and the caller is built again. The
-programs and the command answer from the new place, without the repository. Each file that names a
-version names that of the file VERSION. Each manual page has the form that `man` reads. A second
-install changes nothing. An install over an older list removes the files that only the old list has.
-An install below another folder of libraries is found by `pkg-config` there, one without a part lacks
-just its files, and a shared object of an older interface stays. After `uninstall` only the files of
-others are left.
+program, its links and the command answer from the new place, without the repository. Each file that
+names a version names that of the file VERSION. Each manual page has the form that `man` reads. A
+second install changes nothing. An install over an older list removes the files that only the old
+list has. An install below another folder of libraries is found by `pkg-config` there, one without a
+part lacks just its files, and a shared object of an older interface stays. After `uninstall` only
+the files of others are left.
 """
 
 import json
@@ -19,7 +19,7 @@ import sys
 import tempfile
 from pathlib import Path
 
-from tools import CRATES, STRICT, TOP, Wrong, run
+from tools import CRATES, NOTED, SHOWN, STRICT, TOP, Wrong, run
 
 sys.path.append(str(TOP / "packaging"))
 
@@ -31,6 +31,8 @@ VERSION = (TOP / "VERSION").read_text().strip()
 EXAMPLE = TOP / "examples" / "ksk-roll.script"
 ANSWERS = EXAMPLE.with_suffix(".answers").read_text()
 PAGES = ("keyset", "keyset_notes", "keyset_status", "vaqsider")
+# The links to the program, with what they read and write.
+LINKS = {"keyset_notes": NOTED, "keyset_status": SHOWN}
 LIST = "share/vaqsider/installed"
 
 # The commands of roff that a page may have, and what a backslash may begin in its text.
@@ -86,8 +88,9 @@ def build_in_c(prefix, program, libraries="lib"):
 def expect_versions(prefix):
     told = run("pkg-config", "--modversion", "keyset", env=apart(prefix)).strip()
     expect(told == VERSION, f"keyset.pc has version {told}")
-    told = run(prefix / "bin" / "vaqsider", "--version", env=apart(prefix)).strip()
-    expect(told == f"vaqsider {VERSION}", f"the command says that it is {told}")
+    for name in ("vaqsider", "keyset"):
+        told = run(prefix / "bin" / name, "--version", env=apart(prefix)).strip()
+        expect(told == f"{name} {VERSION}", f"{name} says that it is {told}")
     header = (prefix / "include" / "keyset.h").read_text()
     expect(f'#define KEYSET_RELEASE "{VERSION}"' in header, "the header is of another release")
     for name in ("libkeyset.a", "libkeyset.so"):
@@ -99,12 +102,13 @@ def expect_versions(prefix):
 
 
 def expect_programs(prefix, room):
-    """The programs answer what is stored. The command shows a zone with the library if there are no
-    programs, and with the programs if there is no library."""
-    for name in ("keyset_status", "keyset_notes"):
-        given = (CRATES / name / "stdin").read_bytes()
-        answered = run(prefix / "bin" / name, input=given)
-        expect(answered == (CRATES / name / "stdout").read_text(), f"{name} answers something else")
+    """The program and its links answer what is stored. The command shows a zone with the library if
+    there is no program, and with the program if there is no library."""
+    for name, (given, wanted) in LINKS.items():
+        path = prefix / "bin" / name
+        expect(path.is_symlink() and os.readlink(path) == "keyset", f"{name} is no link")
+        answered = run(path, input=given.read_bytes())
+        expect(answered == wanted.read_text(), f"{name} answers something else")
     answered = run(prefix / "bin" / "keyset", input=EXAMPLE.read_bytes())
     expect(answered == ANSWERS, "keyset answers something else")
     zone = room / "example.com.script"
@@ -205,7 +209,10 @@ def expect_parts(room, library, whole):
 
 def expect_older(prefix, library):
     """An install removes a file that it lacks, and leaves a shared object of an older interface, to
-    which programs may be linked. Gives the path of that."""
+    which programs may be linked. Gives the path of that. A link takes the place of a program that
+    had its name."""
+    (prefix / "bin/keyset_status").unlink()
+    (prefix / "bin/keyset_status").write_text("")
     older, shared = prefix / "share/vaqsider/older.py", prefix / "lib/libkeyset.so.1"
     for path in (older, shared):
         path.write_text("")
@@ -213,6 +220,7 @@ def expect_older(prefix, library):
         names.writelines(f"{path.relative_to(prefix)}\n" for path in (older, shared))
     packaging("install", prefix, "--library", library)
     expect(not older.exists(), "an install leaves a file of an older one")
+    expect((prefix / "bin/keyset_status").is_symlink(), "an install leaves an older program")
     expect(shared.exists(), "an install removes the library of an older interface")
 
 
@@ -236,7 +244,7 @@ def expect_tarball(room, library, whole):
 
 
 def test(library):
-    """Tests an install of this library, and of the programs that `rt ci` has made. Gives a line."""
+    """Tests an install of this library, and of the program that `rt ci` has made. Gives a line."""
     with tempfile.TemporaryDirectory() as room:
         room = Path(room)
         first, moved = room / "first", room / "moved"

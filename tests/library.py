@@ -7,7 +7,7 @@
                                               the compiler CC, run under RUNNER
 
 A script and its answers are those of `replay/scripts.txt`. The program `keyset` has to answer them,
-damaged scripts and long ones as the library does, and `keyset_status` has to show what sessions
+damaged scripts and long ones as the library does, and `keyset status` has to show what sessions
 show.
 """
 
@@ -30,11 +30,11 @@ import programs
 import release
 import rust
 import sessions
-from tools import C99, CC, CRATES, RUNNER, STRICT, TOP, WRAPPED, Wrong, c_flags, kit, run
+import words
+from tools import C99, CC, NOTED, PROGRAM, RUNNER, STATUS, STRICT, TOP, WRAPPED, Wrong, c_flags
+from tools import kit, run
 
 LIBRARY = TOP / "library"
-PROGRAM = CRATES / "keyset" / "out" / "keyset"
-STATUS = CRATES / "keyset_status" / "out" / "keyset_status"
 STORED = TOP / "replay" / "scripts.txt"
 EXAMPLES = sorted((TOP / "examples").rglob("*.script"))
 
@@ -91,7 +91,7 @@ def test_accepted(folder, room):
 
 
 def test_notes(folder, room):
-    return run(noted.build(folder, room / "notes"), *noted.EXAMPLE).strip()
+    return run(noted.build(folder, room / "notes"), *NOTED).strip()
 
 
 def test_statuses(folder):
@@ -105,7 +105,7 @@ def under_valgrind(folder, room):
     names = "sessions", "accepted"
     tests = library, *(build_sessions(folder, room / name, "-g") for name in names)
     told = [run(*before, test_of, STORED, STEP) for test_of in tests]
-    told.append(run(*before, noted.build(folder, room / "notes", "-g"), *noted.EXAMPLE, STEP))
+    told.append(run(*before, noted.build(folder, room / "notes", "-g"), *NOTED, STEP))
     return "".join(told).strip()
 
 
@@ -120,7 +120,7 @@ def under_asan(folder, room):
         text = f"{wrong}\nthe C compiler wants its runtime libraries of {flags[1]} here"
         raise Wrong(text) from None
     told = [run(test_of, STORED, STEP) for test_of in tests]
-    return "".join([*told, run(notes, *noted.EXAMPLE, STEP)]).strip()
+    return "".join([*told, run(notes, *NOTED, STEP)]).strip()
 
 
 def elsewhere(folder, room):
@@ -131,10 +131,12 @@ def elsewhere(folder, room):
              *(build_sessions(folder, room / name) for name in names)]
     told = [run(*RUNNER, test_of, STORED, STEP) for test_of in tests]
     notes = noted.build(folder, room / "notes")
-    told.append(run(*RUNNER, notes, *noted.EXAMPLE, STEP))
+    told.append(run(*RUNNER, notes, *NOTED, STEP))
     for caller, flags in (("C", c_flags(folder)), ("C by the shared object", shared_flags(folder))):
         told.append(test_c_caller(room, caller, flags) + "\n")
-    told.append(programs.test(folder, room, stored_scripts(), STEP // 6))
+    program = programs.build(folder, room)
+    told.append(programs.test(program, stored_scripts(), STEP // 6) + "\n")
+    told.append(words.test(program))
     return "".join(told).strip()
 
 
@@ -159,9 +161,9 @@ def stored_scripts():
         yield name, script, answer
 
 
-def as_program(script, program=PROGRAM):
-    """How a program answers: its status, what it writes, and what it says on standard error."""
-    ran = subprocess.run([program], input=script, capture_output=True)
+def as_program(script, command=(PROGRAM,)):
+    """How the program answers: its status, what it writes, and what it says on standard error."""
+    ran = subprocess.run(command, input=script, capture_output=True)
     return ran.returncode, ran.stdout.decode(), ran.stderr.decode()
 
 
@@ -227,7 +229,7 @@ def test_in_python(keyset):
 
 
 def test_status_program(keyset):
-    """The program `keyset_status` writes the status that a session shows."""
+    """The program `keyset status` writes the status that a session shows."""
     scripts = 0
     for name, script, _ in stored_scripts():
         zone, *lines = script.splitlines()
@@ -236,10 +238,10 @@ def test_status_program(keyset):
             session.call(line)
         status, written, told = as_program(script.encode(), STATUS)
         if (status, told) != (0, "") or json.loads(written) != session.status():
-            raise Wrong(f"{name}: keyset_status ends with {status}, and writes {written}{told}")
+            raise Wrong(f"{name}: keyset status ends with {status}, and writes {written}{told}")
         session.close()
         scripts += 1
-    return f"keyset_status writes the status of {scripts} sessions"
+    return f"keyset status writes the status of {scripts} sessions"
 
 
 def test_resumed(keyset):
@@ -266,7 +268,7 @@ def test_resumed(keyset):
 
 def test_damaged(keyset):
     """Stored scripts, and examples with damaged bytes, are answered by the library as by the
-    program; `keyset_status` calls the same ones malformed."""
+    program; `keyset status` calls the same ones malformed."""
     chance = random.Random("damaged")
     scripts = [b"", b"\n", b"zone .", b"zone example.com\n"]
     scripts += (script.encode() for _, script, _ in stored_scripts())
@@ -280,7 +282,7 @@ def test_damaged(keyset):
         if as_library(keyset, script) != wanted:
             raise Wrong(f"the library doesn't answer as the program: {script!r}")
         if wanted[0] and as_program(script, STATUS) != wanted:
-            raise Wrong(f"keyset_status doesn't end as the program: {script!r}")
+            raise Wrong(f"keyset status doesn't end as the program: {script!r}")
     malformed = statuses.count(1)
     return f"{len(scripts)} scripts answered as by the program, {malformed} of them malformed"
 
@@ -301,7 +303,7 @@ def test_malformed(keyset):
             if given != wanted:
                 raise Wrong(f"the {answerer} ends with {given}, and {wanted} is right: {script!r}")
         if line and as_program(script, STATUS) != wanted:
-            raise Wrong(f"keyset_status doesn't end as the program: {script!r}")
+            raise Wrong(f"keyset status doesn't end as the program: {script!r}")
         rows += 1
     return f"{rows} rows of malformed scripts, and beginnings of zone lines"
 
@@ -353,28 +355,6 @@ def test_frozen(keyset):
                     raise Wrong(f"{name}: the {answerer} doesn't answer as release {version} did")
             count += 1
     return f"{count} frozen scripts answered as by their releases"
-
-
-def test_devices():
-    """If the disk is full, nobody reads the pipe, or the input is a folder, the programs end with
-    status 2 and its text."""
-    script = EXAMPLES[0].read_bytes()
-    reading, broken = os.pipe()
-    os.close(reading)
-    folder = os.open(TOP, os.O_RDONLY)
-    ends = {
-        "a full disk": {"input": script, "stdout": open("/dev/full", "wb")},
-        "a broken pipe": {"input": script, "stdout": broken},
-        "a folder": {"stdin": folder, "stdout": subprocess.PIPE},
-    }
-    for name, how in ends.items():
-        for program in (PROGRAM, STATUS):
-            ran = subprocess.run([program], stderr=subprocess.PIPE, **how)
-            if (ran.returncode, ran.stderr) != (2, b"input or output fault\n") or ran.stdout:
-                raise Wrong(f"{name}: {ran}")
-    os.close(broken)
-    os.close(folder)
-    return f"the programs end with status 2 over {len(ends)} devices: {', '.join(ends)}"
 
 
 def expect_rolls(caller, command, **how):
@@ -432,7 +412,9 @@ def short_tests(folder, room):
     yield "library", test_notes(folder, room)
     yield "library", test_c_caller(room, "C", c_flags(folder))
     yield "library", test_c_caller(room, "C over the shared object", shared_flags(folder))
-    yield "library", programs.test(folder, room, stored_scripts())
+    program = programs.build(folder, room)
+    yield "library", programs.test(program, stored_scripts())
+    yield "library", words.test(program)
     yield "library", test_rust_caller(folder, room)
     yield "library", rust.test_project(folder, room)
     yield "library", rust.test_package(folder, room)
@@ -449,7 +431,6 @@ def short_tests(folder, room):
     yield "library", test_damaged(keyset)
     yield "library", test_frozen(keyset)
     yield "long", test_long(folder, keyset)
-    yield "library", test_devices()
     yield "install", install.test(folder)
 
 

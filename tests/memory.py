@@ -6,8 +6,9 @@ those of each call.)
 
 It runs the program `callers`, which `rt ci` has made by then, once for each request of each of
 these works, with `tests/memory.c` in place of the C library's allocator. The requests of the
-programs `keyset_status` and `keyset_notes` fail in the same way. Of `keyset_notes` it checks by the
-number of requests that a further question doesn't run the script again.
+program `keyset` fail in the same way, with each of its words. Of `keyset notes` it checks by the
+number of requests that a further question doesn't run the script again. If nothing is read, there
+is no request.
 """
 
 import os
@@ -19,9 +20,9 @@ import time
 from dataclasses import dataclass
 from pathlib import Path
 
-from tools import CRATES, STRICT, TOP, Wrong, run
+from tools import CRATES, NOTES, PROGRAM, STATUS, STRICT, TOP, Wrong, run
 
-PROGRAM = CRATES / "callers" / "out" / "callers"
+CALLERS = CRATES / "callers" / "out" / "callers"
 STORED = TOP / "replay" / "scripts.txt"
 
 # The scripts that the works begin with.
@@ -57,9 +58,11 @@ everywhere dnskey 10
 due 90
 """
 ADDS = "".join(f"add-zsk A{tag} - 13 {tag} 0 yes\n" for tag in range(3, 99))
-# The programs, and what they are asked.
-ASKED = {"keyset_status": BEGUN, "keyset_notes": BEGUN + NOTED}
-# What they say of a request that fails.
+# The program with its words, and what it is asked.
+ASKED = {(PROGRAM,): BEGUN, STATUS: BEGUN, NOTES: BEGUN + NOTED}
+# Words with which it reads nothing.
+UNREAD = ("--version", "--help", "none")
+# What it says of a request that fails.
 LACKED = re.compile(r"((script|notes): )?out of memory\n")
 
 
@@ -80,14 +83,14 @@ def build(folder):
     return allocator
 
 
-def outcome_of(allocator, program, text, failing):
+def outcome_of(allocator, command, text, failing):
     """The outcome of a program on this input if its request of this number fails. None does if it
     is 0."""
     made = {**os.environ, "LD_PRELOAD": str(allocator), "FAILING_REQUEST": str(failing)}
-    ran = subprocess.run([program], input=text, capture_output=True, text=True, env=made)
+    ran = subprocess.run(command, input=text, capture_output=True, text=True, env=made)
     told = MADE.fullmatch(ran.stderr)
     if not told:
-        raise Wrong(f"{program}: request {failing}: status {ran.returncode}\n{ran.stderr}")
+        raise Wrong(f"{command}: request {failing}: status {ran.returncode}\n{ran.stderr}")
     return Outcome(ran.stdout, told["said"], ran.returncode, int(told["made"]))
 
 
@@ -99,7 +102,7 @@ def in_turn(allocator, letter, script):
     made = range(first + 1, with_ample(allocator, letter, script) + 1)
     refused = 0
     for failing in made:
-        outcome = outcome_of(allocator, PROGRAM, letter + script, failing)
+        outcome = outcome_of(allocator, [CALLERS], letter + script, failing)
         if outcome.made < failing:
             raise Wrong(f"{work}: request {failing} was not made: {outcome}")
         refused += is_refused(f"{work}: request {failing}", outcome)
@@ -115,7 +118,7 @@ def in_turn(allocator, letter, script):
 
 def with_ample(allocator, letter, script):
     """How many requests a work makes if none fails."""
-    outcome = outcome_of(allocator, PROGRAM, letter + script, 0)
+    outcome = outcome_of(allocator, [CALLERS], letter + script, 0)
     if outcome.status or outcome.said or outcome.written != "ample\n":
         raise Wrong(f"{letter}: it doesn't go well with ample memory: {outcome}")
     return outcome.made
@@ -129,16 +132,16 @@ def is_refused(where, outcome):
     return outcome.written == "refused\n"
 
 
-def in_turn_of_program(allocator, name):
-    """Lets each request of a program fail. It then says so and answers nothing, or asks for less
+def in_turn_of_program(allocator, command, text):
+    """Lets each request of the program fail. It then says so and answers nothing, or asks for less
     and answers as with ample memory. Gives how many failed."""
-    program, text = CRATES / name / "out" / name, ASKED[name]
-    ample = outcome_of(allocator, program, text, 0)
+    name = " ".join([PROGRAM.name, *command[1:]])
+    ample = outcome_of(allocator, command, text, 0)
     if ample.status or ample.said or not ample.written or not ample.made:
         raise Wrong(f"{name}: it doesn't go well with ample memory: {ample}")
     refused = 0
     for failing in range(1, ample.made + 1):
-        outcome = outcome_of(allocator, program, text, failing)
+        outcome = outcome_of(allocator, command, text, failing)
         is_refused = outcome.status == 3 and not outcome.written and LACKED.fullmatch(outcome.said)
         is_ample = (outcome.status, outcome.written, outcome.said) == (0, ample.written, "")
         if not (is_refused or is_ample):
@@ -148,17 +151,23 @@ def in_turn_of_program(allocator, name):
     return ample.made
 
 
+def expect_none(allocator):
+    """The program makes no request if it reads nothing."""
+    for word in UNREAD:
+        if made := outcome_of(allocator, [PROGRAM, word], "", 0).made:
+            raise Wrong(f"keyset {word}: {made} requests for memory")
+
+
 def run_once(allocator):
     """A further question makes as many requests for memory after a long script as after a short
     one."""
-    program = CRATES / "keyset_notes" / "out" / "keyset_notes"
     made = [
-        [outcome_of(allocator, program, script + NOTED + more, 0).made for more in ("", "due 91\n")]
+        [outcome_of(allocator, NOTES, script + NOTED + more, 0).made for more in ("", "due 91\n")]
         for script in (BEGUN, BEGUN + ADDS)
     ]
     (short, short_more), (long, long_more) = made
     if short_more - short != long_more - long:
-        raise Wrong(f"keyset_notes: a further question runs the script again: {made} requests")
+        raise Wrong(f"keyset notes: a further question runs the script again: {made} requests")
 
 
 def stored_script(name):
@@ -176,14 +185,15 @@ def main():
             for name in SCRIPTS:
                 for letter in [*WORKS][1:]:
                     total += in_turn(allocator, letter, stored_script(name))
-            programs = sum(in_turn_of_program(allocator, name) for name in ASKED)
+            programs = sum(in_turn_of_program(allocator, *asked) for asked in ASKED.items())
+            expect_none(allocator)
             run_once(allocator)
     except Wrong as wrong:
         print(wrong)
         return 1
     seconds = time.monotonic() - began
     print(
-        f"memory: {total} requests of calls and {programs} requests of programs failed in turn,"
+        f"memory: {total} requests of calls and {programs} requests of the program failed in turn,"
         f" {seconds:.0f} s"
     )
     return 0

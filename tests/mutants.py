@@ -26,10 +26,9 @@ from pathlib import Path
 
 TOP = Path(__file__).resolve().parent.parent
 TABLE = TOP / "tests" / "mutants.txt"
-COPIED = ("command", "crates/keyset_notes", "docs", "examples", "library", "replay", "tests",
-          "VERSION", "LICENSE")
+COPIED = ("command", "docs", "examples", "library", "replay", "tests", "VERSION", "LICENSE")
 NOT_COPIED = shutil.ignore_patterns("__pycache__", "target", "out", "frozen")
-PROGRAMS = ("keyset", "keyset_status", "keyset_notes")
+PROGRAM = TOP / "crates" / "keyset" / "out" / "keyset"
 LIBRARY = TOP / "library" / "out" / "lib"
 SECONDS = 900
 
@@ -80,11 +79,9 @@ def copy(folder):
 
 
 def environment(programs):
-    """The programs answer; the Rust crate has the library."""
-    for name in PROGRAMS:
-        made = TOP / "crates" / name / "out" / name
-        if made.is_file():
-            (programs / name).symlink_to(made)
+    """The program answers; the Rust crate has the library."""
+    if PROGRAM.is_file():
+        (programs / PROGRAM.name).symlink_to(PROGRAM)
     given = {"KEYSET_PROGRAMS": str(programs), "KEYSET_LIBRARY": "", "KEYSET_LIB": str(LIBRARY)}
     return {**given, **os.environ, "PYTHONDONTWRITEBYTECODE": "1"}
 

@@ -3,7 +3,7 @@
        noted INPUT ANSWERS [STEP]
 
    The calls and the notes of INPUT are handed in line by line, and each question is answered as the
-   program keyset_notes has answered it: in a buffer of each length (only every STEP lengths, if a
+   program keyset notes has answered it: in a buffer of each length (only every STEP lengths, if a
    checker of memory makes it slow), and after each request for memory has failed in turn. The notes
    are also handed in as early as they are taken, between the calls, and a copy goes on each time.
    Lines that can't be taken are refused by their status, and change nothing. */

@@ -1,16 +1,14 @@
 """Tests notes beside sessions of the library: in C at the border, in Python over what operators of
 `tests/runbooks.py` note, and the callers that say which reports are due. Each answer has to be that
-of the program `keyset_notes` for the same lines."""
+of the program `keyset notes` for the same lines."""
 
 import os
 import sys
 
 import notes
-from tools import CC, C99, CRATES, STRICT, TOP, WRAPPED, Wrong, c_flags, run
+from tools import CC, C99, NOTED, STRICT, TOP, WRAPPED, Wrong, c_flags, run
 
 LIBRARY = TOP / "library"
-# A script with its notes and questions, and what keyset_notes answers.
-EXAMPLE = [CRATES / "keyset_notes" / name for name in ("stdin", "stdout")]
 ZONES = 12
 
 
@@ -21,10 +19,10 @@ def build(folder, program, *flags):
 
 
 def answered(text):
-    """What keyset_notes answers."""
+    """What keyset notes answers."""
     done = notes.asked(text)
     if done.returncode:
-        raise Wrong(f"keyset_notes ends with {done.returncode}: {done.stderr}")
+        raise Wrong(f"keyset notes ends with {done.returncode}: {done.stderr}")
     return done.stdout
 
 
@@ -61,12 +59,12 @@ def test_in_python(keyset, questions):
         expect_fault(keyset, text.splitlines(), fault)
     return (
         f"{zones} sessions in Python go on with their notes, and answer {len(questions)} questions"
-        f" and {len(notes.ANSWERS)} notes as keyset_notes"
+        f" and {len(notes.ANSWERS)} notes as keyset notes"
     )
 
 
 def expect_fault(keyset, lines, fault):
-    """A session takes these notes, or refuses one of them as keyset_notes does."""
+    """A session takes these notes, or refuses one of them as keyset notes does."""
     zone, *calls = notes.SCRIPT.splitlines()
     session, told = keyset.open_session(zone), ""
     for line in calls:
@@ -90,8 +88,8 @@ def test_callers(folder, room, questions):
         "Rust": [room / "rust" / "debug" / "examples" / "due"],
         "Python": [sys.executable, "-B", LIBRARY / "python" / "due.py"],
     }
-    for text in (EXAMPLE[0].read_text(), notes.text_of(questions)):
+    for text in (NOTED[0].read_text(), notes.text_of(questions)):
         for caller, command in callers.items():
             if run(*command, input=text.encode(), env=made) != answered(text):
-                raise Wrong(f"the caller in {caller} doesn't answer as keyset_notes")
-    return f"the callers in {', '.join(callers)} say which reports are due as keyset_notes does"
+                raise Wrong(f"the caller in {caller} doesn't answer as keyset notes")
+    return f"the callers in {', '.join(callers)} say which reports are due as keyset notes does"

@@ -1,7 +1,7 @@
 #!/usr/bin/env python3
 """Operators of `tests/runbooks.py` who keep notes, as docs/NOTES.md has them.
 
-The program `keyset_notes` is asked for each report. Its answer has to be what the rule of
+The program `keyset notes` is asked for each report. Its answer has to be what the rule of
 docs/NOTES.md says, for which `tests/game/notes.py` has code of its own. It may be no more than rule
 1 of docs/OPERATORS.md, as it is played, except for the difference of clocks. Half of the operators
 report what their notes say, and no zone breaks by it. With one second less zones break. At
@@ -22,8 +22,8 @@ from game.book import left_out, runbooks as book
 from game.notes import Notes
 from game.points import PAIRS, POINTS
 from tables import ROLLS
+from tools import NOTES
 
-PROGRAM = runbooks.TOP / "crates" / "keyset_notes" / "out" / "keyset_notes"
 
 # A script of three calls, and what is answered to notes beside it and a question.
 SCRIPT = """zone example.com
@@ -157,7 +157,7 @@ def broken_by_less(orders, wrong):
 
 
 def asked(text):
-    return subprocess.run([PROGRAM], input=text, capture_output=True, text=True)
+    return subprocess.run(NOTES, input=text, capture_output=True, text=True)
 
 
 def check(text, wanted, wrong):
@@ -183,7 +183,7 @@ def answer_in_little_room(wrong):
     keys = [f"add-zsk {LONG} - 13 3 9 yes", f"set-present {LONG} yes 9"]
     script = "\n".join([SCRIPT, *keys, *["wait1 zsk-roll 9"] * CALLS])
     done = subprocess.run(
-        [PROGRAM], input=f"{script}\n\nbefore 1 1 1\ndue 9\n", capture_output=True, text=True,
+        NOTES, input=f"{script}\n\nbefore 1 1 1\ndue 9\n", capture_output=True, text=True,
         preexec_fn=lambda: resource.setrlimit(resource.RLIMIT_AS, (ROOM, ROOM)),
     )
     if (done.returncode, done.stdout) != (0, f"{NOT_YET}\n"):

@@ -1,49 +1,49 @@
-"""The programs in C over the library answer as the proved ones: stored scripts, malformed ones, and
-notes with their questions. They are for machines that the toolchain makes no programs for."""
+"""The program in C over the library answers as the proved one: stored scripts, malformed ones, and
+notes with their questions, with each word. It is for machines that the toolchain makes no programs
+for."""
 
 import subprocess
 
 import malformed
 import notes
-from tools import C99, CC, CRATES, RUNNER, STRICT, TOP, Wrong, c_flags, run
-
-NAMES = ("keyset", "keyset_status", "keyset_notes")
+from tools import C99, CC, NOTED, PROGRAM, RUNNER, STRICT, TOP, Wrong, c_flags, run
 
 
-def build(folder, room, name):
-    """Builds a program in C, and gives the words that run it."""
-    source = TOP / "library" / "programs" / f"{name}.c"
-    run(CC, *STRICT, *C99, "-o", room / f"{name}.c", source, *c_flags(folder))
-    return [*RUNNER, room / f"{name}.c"]
+def build(folder, room):
+    """Builds the program in C, and gives its path."""
+    made = room / "programs" / "keyset"
+    made.parent.mkdir(exist_ok=True)
+    sources = sorted((TOP / "library" / "programs").glob("*.c"))
+    run(CC, *STRICT, *C99, "-o", made, *sources, *c_flags(folder))
+    return made
 
 
 def asked_of(stored):
-    """What each program is asked: texts, with the name of the program."""
+    """What the program is asked: its words, and a text."""
     scripts = [script.encode() for _, script, _ in stored]
     scripts += [script for script, _ in malformed.scripts()]
     for script in scripts:
-        yield "keyset", script
-        yield "keyset_status", script
+        yield [], script
+        yield ["status"], script
     for text in notes.ANSWERS:
-        yield "keyset_notes", f"{notes.SCRIPT}\n\n{text}\ndue 9".encode()
+        yield ["notes"], f"{notes.SCRIPT}\n\n{text}\ndue 9".encode()
     for text in notes.INPUTS:
-        yield "keyset_notes", text.encode()
-    yield "keyset_notes", (CRATES / "keyset_notes" / "stdin").read_bytes()
+        yield ["notes"], text.encode()
+    yield ["notes"], NOTED[0].read_bytes()
 
 
-def answered(words, text):
-    ran = subprocess.run(list(map(str, words)), input=text, capture_output=True)
+def answered(command, text):
+    ran = subprocess.run(list(map(str, command)), input=text, capture_output=True)
     return ran.returncode, ran.stdout, ran.stderr
 
 
-def test(folder, room, stored, step=1):
-    """Compares each answer, or one of `step`. Gives a line."""
-    programs = {name: build(folder, room, name) for name in NAMES}
+def test(program, stored, step=1):
+    """Compares each answer of the program in C, or one of `step`. Gives a line."""
     count = 0
-    for name, text in list(asked_of(stored))[::step]:
-        wanted = answered([CRATES / name / "out" / name], text)
-        given = answered(programs[name], text)
+    for words, text in list(asked_of(stored))[::step]:
+        wanted = answered([PROGRAM, *words], text)
+        given = answered([*RUNNER, program, *words], text)
         if given != wanted:
-            raise Wrong(f"{name} in C answers {text[:300]!r} by {given}, and not by {wanted}")
+            raise Wrong(f"{words} in C answers {text[:300]!r} by {given}, and not by {wanted}")
         count += 1
-    return f"the programs in C answer {count} texts as the proved ones"
+    return f"the program in C answers {count} texts as the proved one"

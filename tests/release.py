@@ -39,6 +39,7 @@ NAMED = (
     ("library/rust/Cargo.lock", r'name = "keyset"\nversion = "(.*)"'),
     ("library/python/keyset/__init__.py", r'__version__ = "(.*)"'),
     ("pyproject.toml", r'version = "(.*)"'),
+    ("crates/keyset/src/main.rt", r'const VERSION: &str = "keyset (.*)\\n";'),
     ("crates/keyset_c/src/texts.rt", r'const RELEASE: &str = "(.*)";'),
     ("crates/keyset_c/wrong/release_of_another.edit", r'old: const RELEASE: &str = "(.*)";'),
 )

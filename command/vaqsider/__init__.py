@@ -8,5 +8,5 @@ from pathlib import Path
 if find_spec("keyset") is None:
     sys.path.append(str(Path(__file__).resolve().parents[2] / "library" / "python"))
 
-# That the programs answer: they do for an operator, who makes a few calls.
+# That the program answers: it does for an operator, who makes a few calls.
 warnings.filterwarnings("ignore", "libkeyset isn't there", RuntimeWarning)

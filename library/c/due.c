@@ -1,9 +1,8 @@
-/* Says which reports are due by notes, as the program keyset_notes does: it reads a script, an
-   empty line, and the notes, with lines `due SECOND` among them. A session takes each line as it
-   comes.
+/* Says which reports are due by notes, as `keyset notes` does: it reads a script, an empty line,
+   and the notes, with lines `due SECOND` among them. A session takes each line as it comes.
 
        cc -o due due.c $(pkg-config --cflags --libs keyset)
-       ./due <../../crates/keyset_notes/stdin */
+       ./due <../../examples/lowered-ttl.notes */
 
 #include <keyset.h>
 

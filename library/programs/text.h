@@ -1,5 +1,5 @@
-/* Texts that grow, for programs over the library. Where there is no memory, a program ends with
-   status 3, as the proved ones do. */
+/* Texts that grow, for the program over the library, and its ends: without memory it ends with
+   status 3, as the proved one does. */
 
 #ifndef TEXT_H
 #define TEXT_H
@@ -10,8 +10,8 @@
 #include <stdlib.h>
 #include <string.h>
 
-/* The statuses that the programs end with. */
-enum { ANSWERED = 0, MALFORMED = 1, DEVICE = 2, OUT_OF_MEMORY = 3 };
+/* The statuses that the program ends with. The last is that of sysexits.h. */
+enum { ANSWERED = 0, MALFORMED = 1, DEVICE = 2, OUT_OF_MEMORY = 3, USAGE = 64 };
 
 struct text {
     uint8_t *bytes;

@@ -1,7 +1,7 @@
-"""Says which reports are due by notes, as the program `keyset_notes` does: reads a script, an empty
-line, and the notes, with lines `due SECOND` among them.
+"""Says which reports are due by notes, as `keyset notes` does: reads a script, an empty line, and
+the notes, with lines `due SECOND` among them.
 
-    python3 due.py <../../crates/keyset_notes/stdin
+    python3 due.py <../../examples/lowered-ttl.notes
 """
 
 import sys

@@ -1,5 +1,5 @@
 """Which library the package takes, from wherever it stands. It is never in silence replaced by the
-programs. KEYSET_LIBRARY names the library that is tried here."""
+program. KEYSET_LIBRARY names the library that is tried here."""
 
 import os
 import shutil
@@ -18,6 +18,8 @@ ASK = "import keyset; print(type(keyset.open_session('zone example.com')).__name
 # As on a system whose loader knows no such library.
 NONE = "import ctypes; from unittest import mock; mock.patch('ctypes.CDLL', side_effect=OSError)"
 UNKNOWN = f"{NONE}.start(); "
+# What a program writes that is called with each word.
+RUN = "from keyset.programs import run; print([run(word, []) for word in ('', 'status', 'notes')])"
 BY_LIBRARY, BY_PROGRAMS = ("LibrarySession\n", ""), ("ProgramSession\n", "")
 
 
@@ -87,6 +89,27 @@ class Found(unittest.TestCase):
         self.assertEqual(self.asked(UNKNOWN + ASK)[0], BY_PROGRAMS[0])
         for asks in ({"KEYSET_LIBRARY": ""}, {"KEYSET_PROGRAMS": str(PROGRAMS)}):
             self.assertEqual(self.asked(UNKNOWN + ASK, **asks), BY_PROGRAMS)
+
+    def place_program(self, name):
+        """A program that writes its name and its arguments."""
+        path = self.top / "bin" / name
+        path.parent.mkdir(exist_ok=True)
+        path.write_text(f"#!/bin/sh\necho {name} $*\n")
+        path.chmod(0o755)
+        return str(path.parent)
+
+    def test_a_word_is_handed_to_the_program(self):
+        told = "['keyset\\n', 'keyset status\\n', 'keyset notes\\n']\n"
+        folder = self.place_program("keyset")
+        for how in ({"KEYSET_PROGRAMS": folder}, {"PATH": f"{folder}:/bin:/usr/bin"}):
+            self.assertEqual(self.asked(RUN, **how), (told, ""))
+
+    def test_a_program_of_an_older_release_is_found_by_its_name(self):
+        told = "['keyset\\n', 'keyset_status\\n', 'keyset_notes\\n']\n"
+        for name in ("keyset", "keyset_status", "keyset_notes"):
+            folder = self.place_program(name)
+        for how in ({"KEYSET_PROGRAMS": folder}, {"PATH": f"{folder}:/bin:/usr/bin"}):
+            self.assertEqual(self.asked(RUN, **how), (told, ""))
 
     def test_one_call_needs_the_library(self):
         text = f"{UNKNOWN}import keyset; keyset.answer(b'zone example.com')"

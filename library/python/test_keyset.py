@@ -1,4 +1,4 @@
-"""What a caller relies on, over the library that `make lib` has made, or over the programs."""
+"""What a caller relies on, over the library that `make lib` has made, or over the program."""
 
 import inspect
 import json
@@ -269,7 +269,7 @@ class Files(unittest.TestCase):
 
     def test_notes_are_those_of_the_example(self):
         # docs/NOTES.md shows them.
-        stored = (Path(__file__).parents[2] / "crates/keyset_notes/stdin").read_text().splitlines()
+        stored = (Path(__file__).parents[2] / "examples/lowered-ttl.notes").read_text().splitlines()
         wanted = [line for line in stored if line.startswith(("before", "published", "everywhere"))]
         Notes.create(self.path, [3600, 43200, 43200])
         first = Notes(self.path)

@@ -1,21 +1,111 @@
-//! The program `keyset`: answers the script on its standard input.
+//! The program `keyset`: answers a script, or does what its word asks for.
 //!
-//! It takes no arguments. It ends with status 0, or with the status of the fault, whose text it
-//! writes to standard error: 1 for a malformed script, 2 for the input or the output, 3 for memory.
+//! Its help says what it reads and writes, and with which status it ends: that of its fault, whose
+//! text goes to standard error. Before a fault of `status` or `notes` it writes nothing, unless the
+//! output fails.
 #![tactic(auto)]
 
-use dnssec_record::{Std, run_script};
+mod due;
+mod fault;
+mod words;
+
+use crate::due::answer_all;
+use crate::fault::Fault;
+use crate::words::{Task, task_of};
+use dnssec_record::{ScriptFault, Session, Std, run_script};
+use dnssec_status::status;
+use std::alloc::Global;
+use std::io::{self, ErrorKind, Read, Write};
 use std::process::ExitCode;
 
+/// The name and the release, which the file VERSION has too.
+const VERSION: &str = "keyset 1.1.0\n";
+
+const HELP: &str = "\
+usage: keyset [WORD]
+
+Reads a script of a DNSSEC key set from standard input, and writes
+
+  without a word  the answer to each call, the published sets and the verdict
+  status          the status of the zone after the script, as JSON
+  notes           the reports that are due, by notes: after the script come an
+                  empty line, the notes and questions
+  --version       its name and version; it reads nothing
+  --help          this text; it reads nothing
+
+Called as keyset_status or keyset_notes, it does as with that word. It ends with
+
+  0   if all was answered
+  1   if the script or the notes are malformed, or the notes refused
+  2   if the input or the output fails
+  3   if there is no memory
+  64  if there is no such word, or more than one
+
+and unless that is 0, standard error says why.
+";
+
 fn main(rt: HostRuntime) -> ExitCode {
-    let mut input = Std::new(rt.stdin());
-    let mut output = Std::new(rt.stdout());
-    match run_script(rt.alloc(), &mut input, &mut output) {
+    match run(&rt) {
         Ok(()) => ExitCode::SUCCESS,
         Err(fault) => {
             // The status says the fault too, so its text may be lost.
             let _ = eprintln!(rt; "{fault}");
             ExitCode::from(fault.status())
         }
+    }
+}
+
+/// Does what the arguments ask for.
+fn run(rt: &HostRuntime) -> Result<(), Fault> {
+    let alloc = rt.alloc();
+    match task_of(rt)? {
+        Task::Script => {
+            let mut input = Std::new(rt.stdin());
+            let mut output = Std::new(rt.stdout());
+            Ok(run_script(alloc, &mut input, &mut output)?)
+        }
+        Task::Status => {
+            let script = read_all(alloc, rt.stdin())?;
+            write(rt.stdout(), &status_after(alloc, &script)?)
+        }
+        Task::Notes => {
+            let scripts = read_all(alloc, rt.stdin())?;
+            write(
+                rt.stdout(),
+                answer_all(alloc, &scripts)?.as_str().as_bytes(),
+            )
+        }
+        Task::Version => write(rt.stdout(), VERSION.as_bytes()),
+        Task::Help => write(rt.stdout(), HELP.as_bytes()),
+    }
+}
+
+/// All of the input.
+fn read_all<R: Read + Drop>(alloc: Global, mut input: R) -> Result<Vec<u8>, ScriptFault> {
+    let mut all = Vec::new(alloc);
+    match input.read_to_end(&mut all) {
+        Ok(_) => Ok(all),
+        Err(error) => Err(fault_of_input(&error)),
+    }
+}
+
+/// Why the input was not read.
+fn fault_of_input(error: &io::Error) -> ScriptFault {
+    match error.kind() {
+        ErrorKind::OutOfMemory => ScriptFault::OutOfMemory,
+        _ => ScriptFault::Device,
+    }
+}
+
+/// The status after the calls of a script.
+fn status_after(alloc: Global, script: &[u8]) -> Result<Vec<u8>, ScriptFault> {
+    let session = Session::resume(alloc, script)?;
+    Ok(status(alloc, &session)?)
+}
+
+fn write<W: Write + Drop>(mut output: W, text: &[u8]) -> Result<(), Fault> {
+    match output.write_all(text) {
+        Ok(()) => Ok(()),
+        Err(_) => Err(Fault::Script(ScriptFault::Device)),
     }
 }

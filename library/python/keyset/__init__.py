@@ -1,5 +1,5 @@
 """A proved DNSSEC key set for Python: sessions over its shared library, and a file of the lines
-that were accepted. If the library isn't there, the programs answer."""
+that were accepted. If the library isn't there, the program answers."""
 
 import sys
 from importlib import import_module

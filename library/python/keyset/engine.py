@@ -1,4 +1,4 @@
-"""What answers: sessions of the shared library, or the programs if that isn't there. Both take a
+"""What answers: sessions of the shared library, or the program if that isn't there. Both take a
 script line by line and answer the same."""
 
 from __future__ import annotations
@@ -20,17 +20,17 @@ __all__ = ["answer", "due", "follow", "open_session", "refused", "run", "status"
 
 
 class Slow(RuntimeWarning):
-    """The library isn't there, and nobody has asked for the programs."""
+    """The library isn't there, and nobody has asked for the program."""
 
 
 @functools.lru_cache(maxsize=None)
 def _has_library() -> bool:
-    """Whether the library answers. The programs do if it isn't there, and never in silence, unless
-    KEYSET_LIBRARY is empty or KEYSET_PROGRAMS names their folder."""
+    """Whether the library answers. The program does if it isn't there, and never in silence, unless
+    KEYSET_LIBRARY is empty or KEYSET_PROGRAMS names its folder."""
     if library() is not None:
         return True
     if not {"KEYSET_LIBRARY", "KEYSET_PROGRAMS"} & os.environ.keys():
-        text = "libkeyset isn't there, so the programs answer: each call runs all lines again"
+        text = "libkeyset isn't there, so the program answers: each call runs all lines again"
         warnings.warn(text, Slow, stacklevel=4)
     return False
 

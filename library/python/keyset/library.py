@@ -60,7 +60,7 @@ class _Answered(ctypes.Structure):
 @functools.lru_cache(maxsize=None)
 def library() -> Optional[ctypes.CDLL]:
     """The shared library. None: there is none, or KEYSET_LIBRARY is empty, which asks for the
-    programs. `Unavailable`: it can't be used."""
+    program. `Unavailable`: it can't be used."""
     named = os.environ.get("KEYSET_LIBRARY")
     if named is not None:
         return _checked(named, _loaded(named)) if named else None

@@ -1,7 +1,7 @@
-"""The programs, and sessions over them: each call runs all lines so far again.
+"""The program, and sessions over it: each call runs all lines so far again.
 
-They are those in the folder KEYSET_PROGRAMS, or those that `make build notes` has made, or those
-that are installed, or those on the path."""
+It is the one in the folder KEYSET_PROGRAMS, or the one that `make build` has made, or the one that
+is installed, or the one on the path."""
 
 from __future__ import annotations
 
@@ -17,9 +17,11 @@ from .lines import why_malformed
 from .members import Status
 from .session import MALFORMED, NO_NOTES, NOT_TAKEN, OUT_OF_MEMORY, Guard, Session
 
+PROGRAM = "keyset"
+
 
 class ProgramSession(Session):
-    """A session of the programs."""
+    """A session of the program."""
 
     def __init__(self, line: str, *more: str) -> None:
         self._guard = Guard()
@@ -62,7 +64,7 @@ class ProgramSession(Session):
             lines = self._kept()
             if "\n" in line or not line or line.startswith("due "):
                 raise Malformed(len(self._notes) + 1, NOT_TAKEN[MALFORMED])
-            run("keyset_notes", [*lines, "", *self._notes, line, "due 0"])
+            run("notes", [*lines, "", *self._notes, line, "due 0"])
             self._notes.append(line)
 
     def due(self, moment: int) -> str:
@@ -90,38 +92,42 @@ class ProgramSession(Session):
 
 def answers(lines: Sequence[str]) -> List[str]:
     """What `keyset` answers to a script."""
-    return run("keyset", lines).splitlines()
+    return run("", lines).splitlines()
 
 
 def status(lines: Sequence[str]) -> Status:
-    """What `keyset_status` answers to a script."""
-    return cast(Status, json.loads(run("keyset_status", lines)))
+    """What `keyset status` answers to a script."""
+    return cast(Status, json.loads(run("status", lines)))
 
 
 def due(lines: Sequence[str], notes: Sequence[str], moment: int) -> str:
-    """What `keyset_notes` answers to a question."""
-    return run("keyset_notes", [*lines, "", *notes, f"due {moment}"])
+    """What `keyset notes` answers to a question."""
+    return run("notes", [*lines, "", *notes, f"due {moment}"])
 
 
-def find(name: str) -> str:
-    """The path of a program."""
+def find(word: str) -> List[str]:
+    """The command that does what a word says. The program of release 1.0.0 takes no words, and has
+    another program beside it for each. These are links today, so a link goes first."""
     import shutil
 
     folder = os.environ.get("KEYSET_PROGRAMS")
-    places = [Path(folder)] if folder else [TREE / "crates" / name / "out", TREE / "bin"]
-    made = (str(place / name) for place in places)
-    found = next(filter(os.path.isfile, made), None) or shutil.which(name)
-    if found is None:
-        raise Unavailable(f"the program {name} isn't there: 'make build notes' makes it")
-    return found
+    places = [Path(folder)] if folder else [TREE / "crates" / "keyset" / "out", TREE / "bin"]
+    forms = [[f"{PROGRAM}_{word}"], [PROGRAM, word]] if word else [[PROGRAM]]
+    made = [[str(place / name), *words] for place in places for name, *words in forms]
+    if found := next((command for command in made if os.path.isfile(command[0])), None):
+        return found
+    for name, *words in forms:
+        if path := shutil.which(name):
+            return [path, *words]
+    raise Unavailable(f"the program {PROGRAM} isn't there: 'make build' makes it")
 
 
-def run(name: str, lines: Sequence[str]) -> str:
-    """What a program writes for these lines."""
+def run(word: str, lines: Sequence[str]) -> str:
+    """What the program writes for this word, or for none if it is empty, and these lines."""
     import subprocess
 
     text = "".join(f"{line}\n" for line in lines).encode("utf-8", "surrogatepass")
-    done = subprocess.run([find(name)], input=text, capture_output=True)
+    done = subprocess.run(find(word), input=text, capture_output=True)
     said = done.stderr.decode(errors="replace")
     if found := re.fullmatch(r"(?:script: )?line (\d+): malformed\n", said):
         number = int(found[1])
@@ -132,5 +138,6 @@ def run(name: str, lines: Sequence[str]) -> str:
     if done.returncode == OUT_OF_MEMORY:
         raise OutOfMemory("out of memory")
     if done.returncode:
+        name = f"{PROGRAM} {word}".rstrip()
         raise Unavailable(f"{name}: status {done.returncode}: {said.strip()}")
     return done.stdout.decode()

@@ -1,4 +1,4 @@
-"""A session: a key set that takes a script line by line, of the library or of the programs."""
+"""A session: a key set that takes a script line by line, of the library or of the program."""
 
 from __future__ import annotations
 

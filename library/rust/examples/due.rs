@@ -1,7 +1,7 @@
-//! Says which reports are due by notes, as the program `keyset_notes` does: it reads a script, an
-//! empty line, and the notes, with lines `due SECOND` among them.
+//! Says which reports are due by notes, as `keyset notes` does: it reads a script, an empty line,
+//! and the notes, with lines `due SECOND` among them.
 //!
-//!     cargo run --example due <../../crates/keyset_notes/stdin
+//!     cargo run --example due <../../examples/lowered-ttl.notes
 
 use keyset::{Error, Session};
 use std::io::{stdin, Read};

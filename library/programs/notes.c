@@ -1,8 +1,8 @@
-/* The program keyset_notes over the library, for machines that the toolchain makes no programs for:
-   says which reports are due, by scripts and notes on its standard input. docs/NOTES.md has the form
-   of both. It ends as the proved program does, and writes no answer if it ends with a fault. */
+/* The reports that are due, by scripts and their notes. docs/NOTES.md has the form of both. No
+   answer is written if one of them has a fault. */
 
 #include "session.h"
+#include "tasks.h"
 
 #include <stdbool.h>
 
@@ -10,7 +10,7 @@
 struct zone {
     struct text script;
     struct keyset_session session;
-    bool in_notes, is_noted, is_asked, ends_in_question;
+    bool in_notes, is_noted, is_asked;
     size_t lines;
 };
 
@@ -68,7 +68,7 @@ static void end_zone(struct zone *zone)
     *zone = (struct zone){0};
 }
 
-int main(void)
+void answer_questions(void)
 {
     struct text all = read_all(), answers = {NULL, 0, 0};
     struct zone zone = {0};
@@ -97,5 +97,4 @@ int main(void)
     if (zone.in_notes || zone.script.length > 0 || is_first)
         end_zone(&zone);
     write_all(&answers);
-    return ANSWERED;
 }

@@ -1,0 +1,28 @@
+/* The answers to a script. */
+
+#include "tasks.h"
+#include "text.h"
+
+void answer_script(void)
+{
+    struct text script = read_all(), answer = {NULL, 0, 0};
+    reserve(&answer, 4096);
+    for (;;) {
+        struct keyset_answered told =
+            keyset_answer(script.bytes, script.length, answer.bytes, answer.room);
+        switch (told.status) {
+        case KEYSET_ANSWERED:
+            answer.length = told.length;
+            write_all(&answer);
+            return;
+        case KEYSET_SHORT:
+            reserve(&answer, told.length);
+            break;
+        case KEYSET_MALFORMED:
+            end_at_line("", told.line, "malformed");
+            break;
+        default:
+            end(OUT_OF_MEMORY, "", "out of memory");
+        }
+    }
+}
