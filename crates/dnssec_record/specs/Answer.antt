@@ -59,8 +59,8 @@ abbrev pub TakesAtMost : Option (List ℕ) → Option (List ℕ) → Option (Lis
 TakesAtMost left old new =
     Keeps old new ⊎ IfSome left (λ script. TakesBeginning script old new)
 
--- the fault of these bytes, before anything is written: memory isn't missing if the first line names
--- no zone
+-- the fault of these bytes, before anything is written: memory isn't missing if the first line
+-- names no zone
 abbrev pub AnswerFault : List ℕ → ScriptFault → Type 0
 AnswerFault script (Malformed n) = IsFirstMalformed script n
 AnswerFault script Device = ⊥

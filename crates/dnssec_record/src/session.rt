@@ -382,12 +382,13 @@ impl Session {
     }
 }
 
-/// An error if a call was refused for lack of memory.
+/// An error if a call was refused for lack of memory, and only then.
 fn check_memory(reply: Reply) -> Result<(), AllocError>
-    ensures { IfOk result (λ _. reply ≢ Refused OutOfMemory) }
+    ensures ok { IfOk result (λ _. reply ≢ Refused OutOfMemory) }
+    ensures err { IfErr result (λ _. reply ≡ Refused OutOfMemory) }
 {
-    if reply == Reply::Refused(Error::OutOfMemory) {
-        return Err(AllocError);
+    match reply {
+        Reply::Refused(Error::OutOfMemory) => Err(AllocError),
+        _ => Ok(()),
     }
-    Ok(())
 }

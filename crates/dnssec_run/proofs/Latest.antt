@@ -59,7 +59,8 @@ pub moments-more : (es : List Entry) (e : Entry)
     ≡ moments_of es ++ max (time_at es (length es)) (unwrap_or e.moment 0) ∷ []
 unfolding time_at position_at
 moments-more es e =
-    let count : length (es ++ e ∷ []) ≡ suc (length es) = omega (arith, length-append es (e ∷ [])) in
+    let count : length (es ++ e ∷ []) ≡ suc (length es) =
+    omega (arith, length-append es (e ∷ [])) in
     let before = times-front es (e ∷ []) (length es) (omega arith) in
     let time = time-front es (e ∷ []) (length es) (omega arith) in
     let here = at_end es e in

@@ -2,7 +2,8 @@
 use Rattle.std.proofs.Common.{◌≡◌, ℕ, true, false, cond, List, Some, refl, sym, ap, ◌∙◌, ◌∷◌, subst}
 use Rattle.std.proofs.Common.{map, [], ◌++◌, string_bytes, Global, arith, suc, length}
 use Rattle.std.proofs.Common.{length-append}
-use Rattle.std.specs.{Prelude.Option, Prelude.if◌then◌else◌, Option.option_map, Str.bytes_eq}
+use Rattle.std.specs.Prelude.{Option, None, if◌then◌else◌, is_some}
+use Rattle.std.specs.{Option.option_map, Str.bytes_eq}
 use Rattle.std.specs.{FinMap.get, FinMap.get-empty, BTreeMap.BTreeMap, Map.lookup, List.AllZip}
 use Rattle.std.specs.{Ordering.nat_cmp, Ordering.is_eq, Cmp.Lexicographic.slice_cmp}
 use Rattle.std.specs.declared.string.String.{String}
@@ -31,6 +32,12 @@ module _ (n : ℕ) (w : World) (at : List ℕ → Option ℕ)
       → positions_after n (reference_added c) (reference_deleted c) at q ≡ option_map
       (λ k. with_added n (reference_added c) w.added q) (get (after c w.set).keys q)
   next c q = grind (arith, agrees q, looked-up w.set (after c w.set) c (after-changes w.set c) q)
+
+pub map-none : {A B : Type 0} (f : A → B) (o : Option A) → option_map f o ≡ None → o ≡ None
+map-none f o none = grind arith
+
+pub map-some : {A B : Type 0} (f : A → B) (o : Option A) → is_some (option_map f o) ≡ is_some o
+map-some f o = grind arith
 
 -- an accepted call
 pub agrees-accepted : (n : ℕ) (w : World) (old new : KeySetParts) (at later : List ℕ → Option ℕ)

@@ -3,7 +3,7 @@
 use Rattle.std.proofs.Common.{◌≡◌, ◌≤◌, ◌<◌, ◌∙◌, ℕ, zero, suc, Bool, true, false, cond, List, []}
 use Rattle.std.proofs.Common.{◌∷◌, map, length, get_or, Some, None, refl, sym, ap, subst, arith}
 use Rattle.std.proofs.Common.{string_bytes, inl, inr}
-use Rattle.std.specs.Prelude.{Option, T, not, is_some, IsSortedBy}
+use Rattle.std.specs.Prelude.{Option, T, not, is_some, IsSortedBy, ◌≢◌, ◌||◌}
 use Rattle.std.specs.declared.cmp.Ordering.TheVariants.{Less, Equal, Greater}
 use Rattle.std.specs.FinMap.Entries.{below_all, find-put, find-where_key, is_sorted-put}
 use Rattle.std.specs.FinMap.Entries.{is_sorted-where_key, put, where_key}
@@ -12,14 +12,15 @@ use Rattle.std.specs.{declared.cmp.Ordering.Ordering, Cmp.Lexicographic.nat_list
 use Rattle.std.specs.{Cmp.Lexicographic.bytes_decides, Option.option_map, FinMap.get, List.insert}
 use Rattle.std.specs.List.{remove, Sorted.IsNonDecreasingBy, Sorted.IsPartitionPoint}
 use Rattle.std.{specs.Str.bytes_eq, proofs.lemmas.List.Sorted.searchable_from_sorted}
+use Rattle.std.proofs.lemmas.List.{length-map, Edits.length-insert, Edits.length-remove}
 use Rattle.std.proofs.lemmas.{Map.Text.is_eq-slice_cmp, Bool.cases_lt}
 use Rattle.dnssec_key.specs.{declared.kind.KeyType.KeyType, Key.KeyParts}
 use Rattle.dnssec_keyset.specs.KeySet.{KeySetParts}
 use Rattle.dnssec_zone.proofs.Quantified.{first, second}
-use Rattle.dnssec_run.specs.declared.record.PublishedKey.{PublishedKey}
+use Rattle.dnssec_run.specs.declared.record.{Published.Published, PublishedKey.PublishedKey}
 use Rattle.dnssec_run.specs.Published.{Id, World, id_of, keys_where}
-use Rattle.dnssec_run.specs.Recorder.{Agrees, ChangesAt, IsAscending, SetsPlace, position_after}
-use Rattle.dnssec_run.specs.Recorder.{position_in, position_shown}
+use Rattle.dnssec_run.specs.Recorder.{Agrees, ChangesAt, HasSameKeys, IsAscending, SetsPlace}
+use Rattle.dnssec_run.specs.Recorder.{position_after, position_in, position_shown}
 use Rattle.dnssec_run.proofs.Positions.{equal-keys, order, shown-ascending, shown-by, shown-found}
 
 abbrev reference : PublishedKey → List ℕ
@@ -225,6 +226,38 @@ module _ (r : List ℕ) where
     found = same-at None (position_in (ids keys))
         (sym (absent keys (gap-apart keys i (missed.1 (rising keys up)))));
   }
+
+-- ---- whether anything has changed
+
+-- what is taken out makes a set shorter, and what is put in makes it longer
+pub shorter : (old new : List PublishedKey) (i : ℕ) → i < length old → new ≡ remove old i
+    → length old ≢ length new
+shorter old new i within is same =
+    absurd (omega (arith, length-remove old i within, ap length is, same))
+
+pub longer : (old new : List PublishedKey) (i : ℕ) (k : PublishedKey) → i ≤ length old
+    → new ≡ insert old i k → length old ≢ length new
+longer old new i k within is same =
+    absurd (omega (arith, length-insert old i k within, ap length is, same))
+
+as-many : (one other : List PublishedKey) → ids one ≡ ids other → length one ≡ length other
+as-many one other same =
+    sym (length-map one id_of) ∙ ap length same ∙ length-map other id_of
+
+-- so if one of the four sets has changed, they don't have the same keys
+pub other-keys : (old new : Published) (a b c d : Bool) → (((a || b) || c) || d) ≡ true
+    → (a ≡ true → length old.ds.items ≢ length new.ds.items)
+    → (b ≡ true → length old.dnskey.items ≢ length new.dnskey.items)
+    → (c ≡ true → length old.dnskey_signers.items ≢ length new.dnskey_signers.items)
+    → (d ≡ true → length old.zone_signers.items ≢ length new.zone_signers.items)
+    → HasSameKeys old new → ⊥
+other-keys old new true b c d some ds dnskey signers zone same = ds refl (as-many _ _ same.ds)
+other-keys old new false true c d some ds dnskey signers zone same =
+    dnskey refl (as-many _ _ same.dnskey)
+other-keys old new false false true d some ds dnskey signers zone same =
+    signers refl (as-many _ _ same.dnskey_signers)
+other-keys old new false false false d some ds dnskey signers zone same =
+    zone some (as-many _ _ same.zone_signers)
 
 -- ---- the set that is published
 

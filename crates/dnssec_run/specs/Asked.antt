@@ -1,8 +1,8 @@
 -- Nothing changes unasked: what is published changes only if the reply asks the operator to publish
 -- it, and a report retires exactly what the operator was asked to report.
 use Rattle.std.specs.Prelude.{◌≡◌, ◌⊎◌, ◌↔◌, ℕ, zero, suc, Bool, true, false, List, []}
-use Rattle.std.specs.Prelude.{slice_get, Some}
-use Rattle.std.specs.List.{Contains}
+use Rattle.std.specs.Prelude.{◌||◌, slice_get, Some}
+use Rattle.std.specs.List.{Contains, list_any}
 use Rattle.std.specs.Option.{option_map_or}
 use Rattle.dnssec_key.specs.declared.roll.Action.{Action}
 use Rattle.dnssec_key.specs.declared.roll.Action.TheVariants.{UpdateDnskeyRrset, UpdateDsRrset}
@@ -48,6 +48,12 @@ updates Ds UpdateDsRrset = true
 updates Dnskey UpdateDnskeyRrset = true
 updates ZoneSigners UpdateRrsig = true
 updates _ _ = false
+
+-- the reply asks to publish sets of some kind anew
+abbrev pub asks_to_publish : Reply → Bool
+asks_to_publish reply =
+    let asks = λ (kind : SetKind). list_any (updates kind) (asked_by reply) in
+    asks Ds || asks Dnskey || asks ZoneSigners
 
 -- the action that asks to report when all servers have them
 abbrev pub report_of : SetKind → Action

@@ -1,11 +1,11 @@
 //! The places of one key in the sets.
-ghost use Rattle.std.specs.Prelude.{◌≡◌, ◌||◌, map, IfOk, IfErr, OnOk, true, false};
+ghost use Rattle.std.specs.Prelude.{◌≡◌, ◌≢◌, map, IfOk, IfErr, OnOk, true, false, length};
 ghost use Rattle.std.specs.BTreeMap as tree;
 ghost use Rattle.std.specs.Option.{option_map};
 ghost use Rattle.dnssec_base.specs.declared.error.Error.TheVariants.{OutOfMemory};
 ghost use Rattle.dnssec_run.specs.Published.{IsPublished, World, id_of};
-ghost use Rattle.dnssec_run.specs.Recorder.{Agrees, ChangesAt, IsAscending, Leaves, SetsPlace};
-ghost use Rattle.dnssec_run.specs.Recorder.{position_shown, shows};
+ghost use Rattle.dnssec_run.specs.Recorder.{Agrees, ChangesAt, HasSameKeys, IsAscending, Leaves};
+ghost use Rattle.dnssec_run.specs.Recorder.{SetsPlace, position_shown, shows};
 
 use crate::record::{Published, PublishedKey, Touched};
 use crate::sets::Shown;
@@ -23,6 +23,7 @@ pub(crate) fn renew_key(
     reference: &str,
 ) -> Result<bool, Error>
     ensures kept { IfOk result (λ changed. changed ≡ false → sets.new ≡ sets.old) }
+    ensures changed { IfOk result (λ changed. changed ≡ true → ¬ HasSameKeys sets.old sets.new) }
     ensures read { OnOk result ((v w : World) → IsPublished sets.old v → Leaves touched.entry v w →
         ChangesAt reference.now v w → Agrees keyset.now (tree.get_by_text added.now) w →
         IsPublished sets.new w) }
@@ -63,6 +64,8 @@ fn renew_place(
     reference: &str,
 ) -> Result<bool, Error>
     ensures kept { IfOk result (λ changed. changed ≡ false → keys.new ≡ keys.old) }
+    ensures changed { IfOk result (λ changed. changed ≡ true →
+        length keys.old.items ≢ length keys.new.items) }
     ensures ok { OnOk result (is_touched ≡ true → IsAscending (map id_of keys.old.items) →
         SetsPlace reference.now at (map id_of keys.old.items) (map id_of keys.new.items)) }
     ensures left { OnOk result (is_touched ≡ false →
@@ -84,6 +87,8 @@ fn set_place(
     reference: &str,
 ) -> Result<bool, Error>
     ensures kept { IfOk result (λ changed. changed ≡ false → keys.new ≡ keys.old) }
+    ensures changed { IfOk result (λ changed. changed ≡ true →
+        length keys.old.items ≢ length keys.new.items) }
     ensures ok { OnOk result (IsAscending (map id_of keys.old.items) →
         SetsPlace reference.now at (map id_of keys.old.items) (map id_of keys.new.items)) }
     ensures err { IfErr result (λ e. e ≡ OutOfMemory) }

@@ -1,6 +1,6 @@
 //! What a run leaves: its entries, with what was published at each position. And which sets a call
 //! has touched.
-ghost use Rattle.std.specs.Prelude.{◌≡◌, ◌||◌, [], Some, true, false, map};
+ghost use Rattle.std.specs.Prelude.{◌≡◌, ◌||◌, [], Some, false, map};
 ghost use Rattle.std.specs.List.{list_any};
 ghost use Rattle.dnssec_run.specs.Asked.{asked_by, updates};
 ghost use Rattle.dnssec_run.specs.Origins.{set_in};
@@ -119,7 +119,8 @@ impl Published {
 
     /// The set of a kind, with its signers. Only a DNSKEY set has some.
     pub fn of(&self, kind: SetKind) -> (&[PublishedKey], &[PublishedKey])
-        ensures { (map id_of result.0.now, map id_of result.1.now) ≡ set_in (kind_of kind) self.now }
+        ensures { (map id_of result.0.now, map id_of result.1.now)
+            ≡ set_in (kind_of kind) self.now }
     {
         match kind {
             SetKind::Ds => (self.ds.as_slice(), &[]),
@@ -165,8 +166,8 @@ pub struct Outcome {
     /// The moment that the call was given as `now`, as in its entry.
     pub moment: Option<UnixTime>,
     pub mark: Mark,
-    /// Whether the call may have changed what is published. If not, the sets are those of the
-    /// position before.
+    /// Whether the call may have changed what is published: its reply asks to publish a set, or it
+    /// set a key by hand and so changed a set. If not, the sets are those of the position before.
     pub may_publish: bool,
 }
 

@@ -1,20 +1,19 @@
 //! Runs of lists of calls, with their records.
 ghost use Rattle.std.specs.Prelude.{◌≡◌, ◌++◌, ◌∷◌, ℕ, List, [], vec_len, IfOk, IfErr, OnOk};
 ghost use Rattle.std.specs.BTreeMap as tree;
-ghost use Rattle.std.specs.HashMap as hash;
 ghost use Rattle.std.specs.Option.{option_map};
-ghost use Rattle.std.specs.Prelude.{false, Some, None, if◌then◌else◌};
+ghost use Rattle.std.specs.Prelude.{true, false, IsSome, Some, None, if◌then◌else◌};
 ghost use Rattle.dnssec_base.specs.declared.error.Error.TheVariants.{OutOfMemory};
-ghost use Rattle.dnssec_run.specs.Asked.{ChangesAsAsked, RetiresAsAsked};
+ghost use Rattle.dnssec_run.specs.Asked.{ChangesAsAsked, RetiresAsAsked, asks_to_publish};
 ghost use Rattle.dnssec_run.specs.EarlyEnds.{UndoesStarts};
 ghost use Rattle.dnssec_run.specs.WholeRolls.{GoesOn, NeverMissesStamp, RollsFinish};
 ghost use Rattle.dnssec_run.specs.WholeRolls.{SettlesBetweenRolls, WaitsExactly};
 ghost use Rattle.dnssec_run.specs.Plain.{StaysSafe};
 ghost use Rattle.dnssec_run.specs.ByAlgorithm.{StaysSafeByEach};
 ghost use Rattle.dnssec_run.specs.Record.{IsRun, KeepsSidesApart};
-ghost use Rattle.dnssec_run.specs.Record.{NeighboursMayBeExchanged, StaysSound, world_at};
+ghost use Rattle.dnssec_run.specs.Record.{NeighboursMayBeExchanged, StaysSound, call_of, world_at};
 ghost use Rattle.dnssec_run.specs.Recorder.{HasSameKeys, IsCopyOf, Records, TellsOutcome};
-ghost use Rattle.dnssec_run.specs.Recorder.{positions_after, put_by, taken_by};
+ghost use Rattle.dnssec_run.specs.Recorder.{positions_after, put_by, reference_set, taken_by};
 ghost use Rattle.dnssec_run.specs.declared.call.Call.{Call};
 ghost use Rattle.dnssec_run.specs.declared.record.Entry.{Entry};
 
@@ -110,6 +109,10 @@ impl Recorder {
             Records name (calls ++ call.entry ∷ []) (entries ++ entry ∷ []) self.new) }
         ensures kept { IfOk result (λ outcome. outcome.may_publish ≡ false →
             self.new.published ≡ self.old.published) }
+        ensures asked { IfOk result (λ outcome. reference_set (call_of call.entry) ≡ None →
+            outcome.may_publish ≡ asks_to_publish outcome.reply) }
+        ensures by_hand { IfOk result (λ outcome. IsSome (reference_set (call_of call.entry)) →
+            outcome.may_publish ≡ true → ¬ HasSameKeys self.old.published self.new.published) }
         ensures err { IfErr result (λ e. e ≡ OutOfMemory) }
     {
         let Some(at) = self.at.checked_add(1) else {

@@ -1,6 +1,6 @@
 //! What is published of a key set, read in the order of its references.
 ghost use Rattle.std.specs.Prelude.{◌≡◌, ◌≤◌, ◌++◌, ◌∷◌, [], IfOk, IfErr, OnOk, map, true, false};
-ghost use Rattle.std.specs.Prelude.{string_bytes, vec_len};
+ghost use Rattle.std.specs.Prelude.{◌||◌, IsSome, None, string_bytes, vec_len};
 ghost use Rattle.std.specs.BTreeMap as tree;
 ghost use Rattle.std.specs.HashMap as hash;
 ghost use Rattle.std.specs.Option.{option_map};
@@ -306,8 +306,8 @@ fn read_sets(
     Ok(())
 }
 
-/// Renews the sets that a call has touched, and says whether they may have changed. After a setter
-/// it looks only at that key.
+/// Renews the sets that a call has touched, and says whether there are any. After a setter it looks
+/// only at that key, and says whether they have changed.
 pub(crate) fn renew(
     alloc: Global,
     keyset: &KeySet,
@@ -317,6 +317,10 @@ pub(crate) fn renew(
     touched: Touched<'_>,
 ) -> Result<bool, Error>
     ensures kept { IfOk result (λ changed. changed ≡ false → sets.new ≡ sets.old) }
+    ensures walked { IfOk result (λ changed. touched.entry.only ≡ None → changed
+        ≡ (touched.entry.ds || touched.entry.dnskey || touched.entry.zone_signers)) }
+    ensures by_hand { IfOk result (λ changed. IsSome touched.entry.only → changed ≡ true →
+        ¬ HasSameKeys sets.old sets.new) }
     ensures read { OnOk result ((v w : World) → IsPublished sets.old v → Leaves touched.entry v w →
         ChangesOnly (option_map (λ r. r.now) touched.entry.only) v w →
         Agrees keyset.now (tree.get_by_text added.now) w → IsPublished sets.new w) }

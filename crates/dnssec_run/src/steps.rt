@@ -5,7 +5,7 @@ ghost use Rattle.dnssec_key.specs.declared.roll.RollType.{RollType};
 ghost use Rattle.dnssec_run.specs.Origins.{same_ids, same_set, set_at};
 ghost use Rattle.dnssec_run.specs.Published.{id_of};
 ghost use Rattle.dnssec_run.specs.Safe.{SetKind as AnyKind, is_step, kind_of, position_at};
-ghost use Rattle.dnssec_run.specs.Steps.{AreStepsOf, origin_in, origins_at, step_of};
+ghost use Rattle.dnssec_run.specs.Steps.{AreStepsOf, origin_in, step_of};
 
 use crate::caches::SetKind;
 use crate::record::{Entry, Mark, PublishedKey};

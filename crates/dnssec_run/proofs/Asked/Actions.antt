@@ -1,5 +1,5 @@
 -- What each column asks for, and what it changes, as finite facts: for `changes` and `retires`.
-use Rattle.std.proofs.Common.{◌≡◌, Bool, true, false, ◌||◌, List, arith, get_or, subst}
+use Rattle.std.proofs.Common.{◌≡◌, Bool, true, false, ◌||◌, List, None, arith, get_or, subst}
 use Rattle.std.proofs.lemmas.Bool.{and_parts}
 use Rattle.std.proofs.lemmas.List.Folds.{Any-from_list_any, list_any-from_Any}
 use Rattle.std.specs.{List.Contains, List.list_any, Prelude.if◌then◌else◌}
@@ -11,7 +11,7 @@ use Rattle.dnssec_key.specs.{Key.all_states, Key.KeyParts, Setters.Setting, Sett
 use Rattle.dnssec_run.specs.Asked.{update_of, report_of, updates, flag_shown, sets_flag, sets_shown}
 use Rattle.dnssec_run.specs.Safe.{SetKind, Ds, Dnskey, ZoneSigners, retires}
 use Rattle.dnssec_run.specs.WholeRolls.{propagation, is_second}
-use Rattle.dnssec_run.specs.{declared.sets.Shown.Shown, Recorder.shows}
+use Rattle.dnssec_run.specs.{declared.sets.Shown.Shown, Recorder.reference_set, Recorder.shows}
 use Rattle.dnssec_zone.proofs.Flags.{started, ended}
 use Rattle.dnssec_run.specs.declared.sets.Shown.TheVariants as lists
 use Rattle.dnssec_keyset.specs.Step as keyset
@@ -87,3 +87,7 @@ set-stays s x e b k = grind arith
 -- a call that sets no flag sets none that is shown
 pub no-flag : (kind : SetKind) (c : keyset.Call) → sets_flag c ≡ false → sets_shown kind c ≡ false
 no-flag kind c calm = grind arith
+
+-- nor does one that sets nothing by hand
+pub unset : (kind : SetKind) (c : keyset.Call) → reference_set c ≡ None → sets_shown kind c ≡ false
+unset kind c none = grind arith

@@ -2,7 +2,7 @@
 use Rattle.std.proofs.Common.{◌∙◌}
 use Rattle.std.specs.BTreeMap as tree
 use Rattle.dnssec_run.specs.Published.{in_dnskey, in_ds, signs_dnskey, signs_zone}
-use Rattle.dnssec_run.proofs.OneKey.{renewed}
+use Rattle.dnssec_run.proofs.OneKey.{other-keys, renewed}
 use Rattle.dnssec_run.proofs.places.renew_key.Goals as goal
 
 pub returns-clause-read : goal.returns-clause-read
@@ -26,3 +26,7 @@ returns-clause-read c v w was leaves only agrees =
           renewed signs_zone _ v w q set at _ _ _ _ _ found placed c.position-to-4.ensures
           done.ok done.left was.zone_signers only agrees leaves.zone_signers;
     }
+
+pub returns-clause-changed : goal.returns-clause-changed
+returns-clause-changed c = λ changed. other-keys _ _ _ _ _ _ changed c.in_ok-ds.ensures.changed
+    c.in_ok-dnskey.ensures.changed c.in_ok-signers.ensures.changed c.in_ok-zone.ensures.changed

@@ -1,8 +1,8 @@
 -- A search ends at the key, or in the gap for it.
-use Rattle.std.proofs.Common.{◌∙◌, rules, subst, sym}
+use Rattle.std.proofs.Common.{◌∙◌, ◌≤◌, ◌<◌, length, rules, subst, sym}
 use Rattle.std.proofs.lemmas.Fn.{always_returns_same}
-use Rattle.dnssec_run.proofs.OneKey.{IsFound, IsMissed, leaves-gap, leaves-key, puts-key}
-use Rattle.dnssec_run.proofs.OneKey.{stands, takes-key}
+use Rattle.dnssec_run.proofs.OneKey.{IsFound, IsMissed, leaves-gap, leaves-key, longer, puts-key}
+use Rattle.dnssec_run.proofs.OneKey.{shorter, stands, takes-key}
 use Rattle.dnssec_run.proofs.places.set_place.Goals as goal
 
 pub returns-then-is_some-clause-ok : goal.returns-then-is_some-clause-ok
@@ -26,6 +26,11 @@ returns-else-is_some-clause-ok c up =
     ))
     c.remove.ensures.items up
 
+pub returns-else-is_some-clause-changed : goal.returns-else-is_some-clause-changed
+returns-else-is_some-clause-changed c = λ changed. shorter _ _ c.in-Ok.place
+    (subst (λ keys. c.in-Ok.place < length keys) c.deref.ensures.value c.in-Ok.ensures.bound)
+    c.remove.ensures.items
+
 pub returns-in_default-clause-ok : goal.returns-in_default-clause-ok
 returns-in_default-clause-ok c up =
     let q = c.args.reference.now in
@@ -46,3 +51,9 @@ returns-in_ok-insert-in-Err-clause-ok c up =
           (always_returns_same _ _ _ (λ a r f k. (search rules, search rules))),
     ))
     c.in_ok-insert-in-Err.ensures.items c.in_ok-key-in-Err.ensures.ok up)
+
+pub returns-in_ok-insert-in-Err-clause-changed : goal.returns-in_ok-insert-in-Err-clause-changed
+returns-in_ok-insert-in-Err-clause-changed c = λ changed.
+    longer _ _ c.in-Err.place c.in_ok-key-in-Err.key
+    (subst (λ keys. c.in-Err.place ≤ length keys) c.deref.ensures.value c.in-Err.ensures.bound)
+    c.in_ok-insert-in-Err.ensures.items

@@ -1,5 +1,5 @@
 -- No key is left of the one, or some is.
-use Rattle.std.proofs.Common.{◌≡◌, ◌∙◌, List, [], ◌∷◌, ap, arith, drop, length, map, refl, sym}
+use Rattle.std.proofs.Common.{◌≡◌, ◌∙◌, List, [], ◌∷◌, ap, arith, length, map, refl, sym}
 use Rattle.std.proofs.lemmas.List.{drop_all}
 use Rattle.std.specs.Prelude.{◌==◌}
 use Rattle.dnssec_run.specs.declared.record.PublishedKey.{PublishedKey}

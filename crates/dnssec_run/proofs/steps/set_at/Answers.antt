@@ -7,7 +7,8 @@ use Rattle.dnssec_run.proofs.steps.set_at.Goals as goal
 
 pub returns-in_default : goal.returns-in_default
 returns-in_default c =
-    set-none c.args.entries.now (kind_of c.args.kind) c.args.position (omega (arith, c.in_default.ensures))
+    set-none c.args.entries.now (kind_of c.args.kind) c.args.position
+    (omega (arith, c.in_default.ensures))
 
 pub returns-in-Some-get : goal.returns-in-Some-get
 returns-in-Some-get c =

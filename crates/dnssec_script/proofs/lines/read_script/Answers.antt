@@ -57,7 +57,8 @@ returns-in_default-2-clause-read c =
 
 pub returns-in-None-2-clause-read : goal.returns-in-None-2-clause-read
 returns-in-None-2-clause-read c =
-    let at = c.loop-line in let first = first_line (goal.at.returns-in-None-2-clause-read c).In-Some _
+    let at = c.loop-line in
+    let first = first_line (goal.at.returns-in-None-2-clause-read c).In-Some _
     c.into_iter-line-iterator.ensures.into_iter_gives in
     let named = rw c.in-Some-2.is at c.in_ok-name.ensures.found in
     let turn = YieldsList-turn first.2 at.yielded _ at.yielded_by _ _ c.in-Some-line.line

@@ -56,7 +56,8 @@ says_after c row is =
 
 pub returns-in-Some-find : goal.returns-in-Some-find
 returns-in-Some-find c =
-    let says = says_after (goal.at.returns-in-Some-find c).After-find _ c.in-Some-find.is in record {
+    let says = says_after (goal.at.returns-in-Some-find c).After-find _ c.in-Some-find.is in
+    record {
       read = IfOk-weaker c.call_of_word.result _ _ (λ found same. same ∙ says)
           c.call_of_word.ensures.read;
       memory = IfErr-weaker c.call_of_word.result _ _ (λ e some. ap is_some (sym says) ∙ some)

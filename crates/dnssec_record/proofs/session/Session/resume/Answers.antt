@@ -18,8 +18,9 @@ loop-statement-preserved c =
     let next = made.advances h.name h.calls h.entries h.so.0 in
     one_made _ _ h made.call _ c.in-Some.ensures.steps.0 c.in-Some.ensures.steps.1 made.is_call (
       next.stands,
-      All-push (λ entry. entry.reply ≢ Refused OutOfMemory) h.entries next.entry h.so.1 (subst
-          (λ reply. reply ≢ Refused OutOfMemory) (sym next.is_reply) c.in_ok-check_memory.ensures),
+      All-push (λ entry. entry.reply ≢ Refused OutOfMemory) h.entries next.entry h.so.1
+          (subst (λ reply. reply ≢ Refused OutOfMemory) (sym next.is_reply)
+          c.in_ok-check_memory.ensures.ok),
     )
 
 pub returns-clause-ok : goal.returns-clause-ok

@@ -1,14 +1,15 @@
 -- A call that is made adds one call and its entry to the record.
 use Rattle.std.proofs.Common.{◌≡◌, ◌∙◌, List, Bor, length, ap, refl, rules, subst, sym, true}
 use Rattle.std.proofs.Common.{arith, false, ℕ}
-use Rattle.std.{proofs.lemmas.Bool.or_parts, specs.Option.option_map}
+use Rattle.std.{proofs.lemmas.Bool.or_parts, specs.Option.option_map, specs.Prelude.is_some}
 use Rattle.dnssec_keyset.{proofs.After.step-after, specs.KeySet.KeySetParts}
 use Rattle.dnssec_run.specs.{Published.World, Record.call_of, Record.is_accepted, Record.reply_of}
 use Rattle.dnssec_run.specs.Record.{world_after, world_at}
 use Rattle.dnssec_run.specs.Recorder.{ChangesOnly, positions_after}
-use Rattle.dnssec_run.proofs.Asked.Changes.{leaves}
-use Rattle.dnssec_run.proofs.Next.{agrees-accepted, agrees-refused, changes-only, mark-accepted}
-use Rattle.dnssec_run.proofs.Next.{mark-refused, published-refused, records-more}
+use Rattle.dnssec_run.proofs.Asked.Changes.{leaves, touches-asked}
+use Rattle.dnssec_run.proofs.Next.{agrees-accepted, agrees-refused, changes-only, map-none}
+use Rattle.dnssec_run.proofs.Next.{map-some, mark-accepted, mark-refused, published-refused}
+use Rattle.dnssec_run.proofs.Next.{records-more}
 use Rattle.std.specs.BTreeMap as tree
 use Rattle.dnssec_keyset.specs.Step as keyset
 use Rattle.dnssec_run.proofs.running.Recorder.advance.Goals as goal
@@ -57,5 +58,19 @@ returns c = record {
       c.make-reply.ensures (c.mark-mark.ensures ∙ mark-accepted x r ok) c.moment-moment.ensures
       agrees shown;
   kept = c.in_ok-may_publish.ensures.kept;
+  asked = λ none.
+      let hand = c.by_hand-by_hand.ensures in
+      let touched = c.touched-touched.ensures in
+      let only = ap (option_map (λ (r : Bor (List ℕ)). r.now)) touched.only ∙ hand.only in
+      c.in_ok-may_publish.ensures.walked (map-none _ _ (only ∙ none))
+      ∙ touches-asked (call_of c.args.call) c.make-reply.result c.by_hand-by_hand.result
+      c.touched-touched.result none hand.ds hand.dnskey hand.zone_signers touched.ds touched.dnskey
+      touched.zone_signers;
+  by_hand = λ some changed.
+      let hand = c.by_hand-by_hand.ensures in
+      let only = ap (option_map (λ (r : Bor (List ℕ)). r.now)) c.touched-touched.ensures.only
+      ∙ hand.only in
+      c.in_ok-may_publish.ensures.by_hand
+      (sym (map-some (λ (r : Bor (List ℕ)). r.now) _) ∙ ap is_some only ∙ some) changed;
   err = tt;
 }

@@ -1,5 +1,5 @@
 -- The parts are those that `split` gives, and each is a reference.
-use Rattle.std.proofs.Common.{◌≡◌, ◌==◌, ◌∙◌, false, length, true, ap, rules, sym, tests}
+use Rattle.std.proofs.Common.{◌≡◌, ◌==◌, ◌∙◌, false, length, ap, rules, sym, tests}
 use Rattle.std.proofs.lemmas.Bool.{false≢true}
 use Rattle.std.proofs.lemmas.Iterator.Consumers.{YieldsList-end, YieldsList-turn}
 use Rattle.std.proofs.lemmas.Iterator.Splits.{YieldsList-from_slice_split}
