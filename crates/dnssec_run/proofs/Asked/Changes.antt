@@ -47,8 +47,17 @@ pub touches-asked : (c : keyset.Call) (r : Reply) (hand t : Touched) → referen
     → t.zone_signers ≡ (hand.zone_signers || list_any (updates ZoneSigners) (asked_by r))
     → (t.ds || t.dnskey || t.zone_signers) ≡ asks_to_publish r
 touches-asked c r hand t none ds dnskey zone is_ds is_dnskey is_zone =
-    rw (is_ds, is_dnskey, is_zone, ds, dnskey, zone, unset Ds c none, unset Dnskey c none,
-    unset ZoneSigners c none) refl
+    rw (
+      is_ds,
+      is_dnskey,
+      is_zone,
+      ds,
+      dnskey,
+      zone,
+      unset Ds c none,
+      unset Dnskey c none,
+      unset ZoneSigners c none,
+    ) refl
 
 -- ---- one call
 
