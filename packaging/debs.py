@@ -1,4 +1,5 @@
-"""The packages for Debian: `vaqsider` with programs and command, `libkeyset3` (by the interface's version), `libkeyset-dev`."""
+"""The packages for Debian: `vaqsider` with programs and command, the shared object by the version
+of its interface, as `libkeyset3`, and `libkeyset-dev`."""
 
 import gzip
 import hashlib
@@ -11,7 +12,7 @@ from email.utils import format_datetime
 from pathlib import Path
 
 from artefact import Built, entries, releases, run, seconds, version
-from layout import LIST, TOP, Layout, interface, shared
+from layout import DOCUMENTS, LIST, TOP, Layout, functions, interface, shared
 from trees import install
 
 # A change of these packages alone raises it.
@@ -38,8 +39,26 @@ vaqsider ({release}-{revision}) unstable; urgency=medium
 """
 
 
-# What lintian doesn't have to say: these packages are no upload to Debian.
-OVERRIDES = "initial-upload-closes-no-bugs"
+# Python's compiled files of a package that is no module of Debian's Python.
+POSTINST = """\
+#!/bin/sh
+set -e
+if command -v py3compile >/dev/null; then
+	py3compile -p vaqsider /usr/share/vaqsider
+fi
+"""
+PRERM = """\
+#!/bin/sh
+set -e
+if command -v py3clean >/dev/null; then
+	py3clean -p vaqsider /usr/share/vaqsider
+fi
+"""
+# What lintian needn't say, with the reason.
+HELP = """\
+# The command prints this text: it is no document.
+vaqsider: package-contains-documentation-outside-usr-share-doc *help.txt*
+"""
 
 
 @dataclass(frozen=True)
@@ -54,6 +73,9 @@ class Package:
     relations: "dict[str, str]"
     short: str
     long: str
+    # What dpkg runs, by its names, and what lintian needn't say.
+    scripts: "tuple[tuple[str, str], ...]" = ()
+    overrides: str = ""
 
 
 PACKAGES = (
@@ -68,6 +90,8 @@ PACKAGES = (
         "It keeps the keys that sign a zone, and says which action is due and when a\n"
         "step of a roll may be made. No list of calls that keeps its rules leaves\n"
         "resolvers without a chain of trust: that is proved.",
+        (("postinst", POSTINST), ("prerm", PRERM)),
+        HELP,
     ),
     Package(
         LIBRARY, "libs", ("library",), re.compile(rf".*/{re.escape(shared())}$"),
@@ -81,7 +105,11 @@ PACKAGES = (
         re.compile(rf"(?!.*/{re.escape(shared())}$)(include|lib|share/man|share/doc)/"),
         {"Depends": f"{LIBRARY} (= {{version}})", "Multi-Arch": "same"},
         "proved DNSSEC key set (development files)",
-        "The header, the static library, the pages of the library, and examples.",
+        "Scripts of calls and their answers, sessions of zones and their status, for C\n"
+        "and for languages that call C.\n"
+        ".\n"
+        "This package has the header, the static library, the pages of the library,\n"
+        "and examples of scripts and of callers.",
     ),
 )
 
@@ -104,9 +132,9 @@ def compress(path, text):
         packed.write(text)
 
 
-def documents(folder, name):
+def documents(folder, package):
     """What Debian's rules want of each package: its licence and its changes."""
-    place = folder / "usr/share/doc" / name
+    place = folder / "usr/share/doc" / package.name
     place.mkdir(parents=True, exist_ok=True)
     licence = (TOP / "LICENSE").read_text(encoding="utf-8").strip()
     holder = re.search(r"Copyright (?:\(c\) )?(.*)", licence)[1].rstrip(".")
@@ -119,23 +147,27 @@ def documents(folder, name):
         for release, date in releases()
     )
     compress(place / "changelog.Debian.gz", said.encode())
-    overrides = folder / "usr/share/lintian/overrides" / name
-    overrides.parent.mkdir(parents=True)
-    overrides.write_text(f"{name}: {OVERRIDES}\n")
+    if package.overrides:
+        overrides = folder / "usr/share/lintian/overrides" / package.name
+        overrides.parent.mkdir(parents=True)
+        overrides.write_text(package.overrides)
 
 
 def take(whole, folder, package, built: Built):
     """Puts the files of a package into its folder, as Debian has them."""
     for source in entries(whole):
         place = source.relative_to(whole)
-        if source.is_dir() or place == LIST or not package.files.match(str(place)):
+        is_taken = package.files.match(str(place)) and place not in (LIST, DOCUMENTS / "LICENSE")
+        if source.is_dir() or not is_taken:
             continue
         target = folder / "usr" / rename(place, package.name)
         target.parent.mkdir(parents=True, exist_ok=True)
+        packed = ".gz" if "share/man" in str(place) else ""
+        target = target.with_name(f"{target.name}{packed}")
         if source.is_symlink():
-            target.symlink_to(os.readlink(source))
-        elif "share/man" in str(place):
-            compress(target.with_name(f"{target.name}.gz"), source.read_bytes())
+            target.symlink_to(f"{os.readlink(source)}{packed}")
+        elif packed:
+            compress(target, source.read_bytes())
         else:
             shutil.copy2(source, target)
             if source.name.startswith(shared()) or place.parts[0] == "bin" and is_elf(source):
@@ -173,7 +205,13 @@ def control(folder, package, built: Built):
     (about / "control").write_text("".join(lines))
     if package.name == LIBRARY:
         (about / "shlibs").write_text(f"libkeyset {interface()} {LIBRARY} (>= {version()})\n")
+        symbols = "".join(f" {name}@Base {version()}\n" for name in sorted(functions()))
+        head = f"{shared()} {LIBRARY} #MINVER#\n* Build-Depends-Package: libkeyset-dev\n"
+        (about / "symbols").write_text(head + symbols)
         (about / "triggers").write_text("activate-noawait ldconfig\n")
+    for name, script in package.scripts:
+        (about / name).write_text(script)
+        (about / name).chmod(0o755)
     inside = (path for path in entries(folder) if path.is_file() and not path.is_symlink())
     sums = (
         f"{hashlib.md5(path.read_bytes()).hexdigest()}  {path.relative_to(folder)}\n"
@@ -198,7 +236,7 @@ def build_deb(folder, package, built: Built):
         libraries = Path("lib") / built.architecture.folder
         install(whole, Layout(package.parts, libraries, built.library, built.programs))
         take(whole, made, package, built)
-        documents(made, package.name)
+        documents(made, package)
         control(made, package, built)
         set_times(made)
         environment = {**os.environ, "SOURCE_DATE_EPOCH": str(seconds())}

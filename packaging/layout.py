@@ -37,6 +37,7 @@ sys.exit(main())
 # A shared object is named by its interface.
 SHARED = re.compile(r"libkeyset\.so\.\d+")
 VERSIONED = re.compile(r"#define KEYSET_VERSION (\d+)")
+FUNCTION = re.compile(r"^\S.* \*?(keyset_\w+)\(", re.MULTILINE)
 
 
 @dataclass(frozen=True)
@@ -83,7 +84,10 @@ class Layout:
         for source in sorted((self.built / "lib").glob("libkeyset.so.*")):
             yield File(self.libraries / source.name, source)
             yield File(self.libraries / "libkeyset.so", source, None)
-        yield File(Path("share/man/man3/keyset.3"), made / "keyset.3")
+        manual = Path("share/man/man3")
+        yield File(manual / "keyset.3", made / "keyset.3")
+        for name in functions():
+            yield File(manual / f"{name}.3", made / "keyset.3", None)
 
     def _command(self, made):
         yield File(Path("bin/vaqsider"), made / "vaqsider", 0o755)
@@ -106,10 +110,18 @@ class Layout:
                 yield File(DOCUMENTS / folder / source.name, source)
 
 
+def header():
+    return (TOP / "library" / "keyset.h").read_text(encoding="utf-8")
+
+
 def interface():
     """The version of the library's interface, which the header has."""
-    header = (TOP / "library" / "keyset.h").read_text(encoding="utf-8")
-    return VERSIONED.search(header)[1]
+    return VERSIONED.search(header())[1]
+
+
+def functions():
+    """The functions that the header declares, and the library exports."""
+    return FUNCTION.findall(header())
 
 
 def shared():

@@ -1,7 +1,10 @@
 """Puts what is installed into its place, and removes it again."""
 
+import fcntl
+import os
 import shutil
 import tempfile
+from contextlib import contextmanager, suppress
 from pathlib import Path
 
 import man
@@ -28,22 +31,52 @@ def make_folder(folder):
         made.append(folder)
         folder = folder.parent
     for new in reversed(made):
-        new.mkdir()
+        new.mkdir(exist_ok=True)
         new.chmod(0o755)
     return made
 
 
-def put(file, root):
-    """Puts a file in its place in one step: whoever uses the old one goes on with it."""
-    place = root / file.place
+class Gone(Exception):
+    """A folder was removed before it could be locked."""
+
+
+@contextmanager
+def locked(root):
+    """Keeps others from installing below a folder, or from uninstalling there, meanwhile."""
+    try:
+        folder = os.open(root, os.O_RDONLY | os.O_DIRECTORY)
+    except FileNotFoundError:
+        raise Gone from None
+    try:
+        fcntl.flock(folder, fcntl.LOCK_EX)
+        if os.fstat(folder).st_nlink == 0:
+            raise Gone
+        yield
+    finally:
+        os.close(folder)
+
+
+@contextmanager
+def replacing(place):
+    """A name beside a place, for what comes into the place in one step: whoever uses the old file
+    goes on with it. If it can't be made, nothing is left of it."""
     new = place.with_name(f".{place.name}.new")
     new.unlink(missing_ok=True)
-    if file.mode is None:
-        new.symlink_to(file.source.name)
-    else:
-        shutil.copyfile(file.source, new)
-        new.chmod(file.mode)
-    new.replace(place)
+    try:
+        yield new
+        new.replace(place)
+    finally:
+        new.unlink(missing_ok=True)
+
+
+def put(file, root):
+    """Puts a file in its place."""
+    with replacing(root / file.place) as new:
+        if file.mode is None:
+            new.symlink_to(file.source.name)
+        else:
+            shutil.copyfile(file.source, new)
+            new.chmod(file.mode)
 
 
 def listed(root):
@@ -54,9 +87,10 @@ def listed(root):
 
 
 def remove_file(root, name):
-    """Removes a file, and what Python has compiled of it."""
+    """Removes a file, and what Python has compiled of it. A folder in its place isn't ours."""
     path = root / name
-    path.unlink(missing_ok=True)
+    with suppress(IsADirectoryError):
+        path.unlink(missing_ok=True)
     if path.suffix == ".py":
         cache = path.parent / "__pycache__"
         for kept in cache.glob(f"{path.stem}.*.pyc"):
@@ -68,8 +102,9 @@ def remove_file(root, name):
 def keep(root, names, folders):
     """Writes the list of what was installed, which anybody may read."""
     rows = [*sorted(names), *sorted(folders)]
-    (root / LIST).write_text("".join(f"{row}\n" for row in rows), encoding="utf-8")
-    (root / LIST).chmod(0o644)
+    with replacing(root / LIST) as new:
+        new.write_text("".join(f"{row}\n" for row in rows), encoding="utf-8")
+        new.chmod(0o644)
 
 
 def is_older_library(name):
@@ -86,15 +121,24 @@ def install(root, layout):
         for file in files:
             if not file.source.exists():
                 raise Missing(f"{file.source} isn't there: 'make build lib' makes it")
-        before, folders = map(set, listed(root))
-        names = {str(LIST), *(str(file.place) for file in files)}
-        for name in names:
-            made = make_folder((root / name).parent)
-            ours = (path for path in made if path == root or root in path.parents)
-            folders.update(f"{path.relative_to(root)}/" for path in ours)
-        keep(root, before | names, folders)
-        for file in files:
-            put(file, root)
+        made = []
+        while True:
+            made += make_folder(root)
+            with suppress(Gone), locked(root):
+                return put_all(root, files, made)
+
+
+def put_all(root, files, made):
+    """Puts all files in their places. `made` are the folders that were made for them before."""
+    before, folders = map(set, listed(root))
+    names = {str(LIST), *(str(file.place) for file in files)}
+    for name in names:
+        made += make_folder((root / name).parent)
+    ours = (path for path in made if path == root or root in path.parents)
+    folders.update(f"{path.relative_to(root)}/" for path in ours)
+    keep(root, before | names, folders)
+    for file in files:
+        put(file, root)
     stay = set(filter(is_older_library, before))
     for name in before - names - stay:
         remove_file(root, name)
@@ -104,13 +148,14 @@ def install(root, layout):
 
 def uninstall(root):
     """Removes what was installed, and the folders that were made for it."""
-    files, folders = listed(root)
-    if not files:
-        raise Missing(f"{root / LIST} isn't there: nothing is installed here")
-    for name in files:
-        remove_file(root, name)
-    for name in sorted(folders, reverse=True):
-        folder = root / name
-        if folder.is_dir() and not any(folder.iterdir()):
-            folder.rmdir()
-    return files
+    with suppress(Gone), locked(root):
+        files, folders = listed(root)
+        for name in files:
+            remove_file(root, name)
+        for name in sorted(folders, reverse=True):
+            folder = root / name
+            if folder.is_dir() and not any(folder.iterdir()):
+                folder.rmdir()
+        if files:
+            return files
+    raise Missing(f"{root / LIST} isn't there: nothing is installed here")

@@ -9,7 +9,7 @@ names a version names that of the file VERSION. Each manual page has the form th
 second install changes nothing. An install over an older list removes the files that only the old
 list has. An install below another folder of libraries is found by `pkg-config` there, one without a
 part lacks just its files, and a shared object of an older interface stays. After `uninstall` only
-the files of others are left.
+the files of others are left. Mishaps are those of `tests/mishaps.py`.
 """
 
 import json
@@ -19,6 +19,7 @@ import sys
 import tempfile
 from pathlib import Path
 
+import mishaps
 from tools import CRATES, NOTED, SHOWN, STRICT, TOP, Wrong, run
 
 sys.path.append(str(TOP / "packaging"))
@@ -179,6 +180,7 @@ def expect_functions(page):
     expect(len(names) > 10, "the functions aren't found in keyset.h")
     for name in names:
         expect(re.search(rf"^[a-z].* {name}\(", text, re.M), f"keyset.3 doesn't declare {name}")
+        expect(os.path.samefile(page, page.with_name(f"{name}.3")), f"{name} has no manual page")
 
 
 def expect_other_folder(room, library):
@@ -226,7 +228,7 @@ def expect_older(prefix, library):
 
 def expect_tarball(room, library, whole):
     """The tarball of a release installs the same files by `install.sh`, over older ones too, and
-    removes them. It has the same bytes when it is made again."""
+    removes them. It has the same bytes when it is made again. Gives the path of the script."""
     made = [room / "dist" / name for name in ("one", "two")]
     for folder in made:
         folder.mkdir(parents=True)
@@ -241,6 +243,7 @@ def expect_tarball(room, library, whole):
     run(prefix / "bin" / "vaqsider", "--version", env={"PATH": os.environ["PATH"]})
     run(script, "--uninstall", prefix)
     expect(list(tree(prefix)) == [], f"install.sh --uninstall leaves {list(tree(prefix))}")
+    return script
 
 
 def test(library):
@@ -267,7 +270,8 @@ def test(library):
         expect(modes - {"link"} == {0o644, 0o755}, f"files have the modes {modes}")
         expect_other_folder(room, library)
         expect_parts(room, library, whole)
-        expect_tarball(room, library, whole)
+        script = expect_tarball(room, library, whole)
+        befell = mishaps.test(room, library, script, tree, whole)
         expect(tree(moved) == whole, "the use of what is installed changes it")
 
         below = room / "below"
@@ -287,7 +291,7 @@ def test(library):
         packaging("uninstall", "/usr", "--destdir", below)
         expect(list(tree(below)) == [], f"uninstall leaves {list(tree(below))}")
     files = sum(content is not None for _, content in whole.values())
-    return f"{files} files installed, used, moved, used, and uninstalled"
+    return f"{files} files installed, used, moved, used, and uninstalled; {befell}"
 
 
 def main():
