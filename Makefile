@@ -29,9 +29,9 @@ CALLERS = has-cc has-pkg-config has-cargo has-rustc
 prove = mkdir -p crates/$(1)/out && cd crates/$(1) && \
 	{ rt $(2) >out/build.log 2>&1 || { cat out/build.log >&2; exit 1; }; }
 
-.PHONY: run build lib install uninstall made noted arm dist try-dist check fmt clean test \
-	wrong live docs memory test-lib test-arm valgrind asan fuzz types mutants signers help python \
-	modules packages logs
+.PHONY: run build lib install uninstall made noted arm armed dist try-dist check fmt clean test \
+	wrong live docs memory test-lib test-arm test-go valgrind asan fuzz types mutants signers help \
+	python modules packages logs
 
 # The proved program answers if it is newer than its sources, else one that is built at once.
 run: ## answers SCRIPT: make run SCRIPT=FILE
@@ -64,17 +64,20 @@ noted:
 
 # The toolchain makes no programs for ARM: the one in C over the library has the same name.
 arm: made has-aarch64-linux-gnu-gcc ## builds the library and program for ARM: library/out-aarch64
+	@packaging/built.py library/out-aarch64 || $(MAKE) -j1 armed
+armed:
 	@tests/archive.py library/out-aarch64 aarch64
 	@mkdir -p library/out-aarch64/programs/keyset/out
-	@aarch64-linux-gnu-gcc -std=c99 -O2 -Wall -Wextra -Ilibrary/out-aarch64/include \
+	@aarch64-linux-gnu-gcc -std=c99 -O2 -Wall -Wextra -Wl,-z,now -Ilibrary/out-aarch64/include \
 		-o library/out-aarch64/programs/keyset/out/keyset library/programs/*.c \
 		library/out-aarch64/lib/libkeyset.a
+	@packaging/built.py --keep library/out-aarch64
 
-# CONTRIBUTING says how a release is made, and what it wants. PROOFS names what the gate has printed.
+# CONTRIBUTING says how a release is made, and what it wants. PROOFS names what the gate printed.
 dist: logs made arm has-dpkg-deb has-cargo ## makes a release in dist by the logs PROOFS='FILE ..'
 	@packaging/dist.py dist $(DIST) --proofs $(PROOFS)
 
-try-dist: logs python has-debootstrap ## makes it twice, installs each file in a bare Debian, uses it
+try-dist: logs python has-debootstrap ## makes it twice, installs and uses each in a bare Debian
 	@packaging/twice.py $(DIST) --proofs $(PROOFS)
 	@packaging/try_dist.py dist
 
@@ -119,19 +122,21 @@ memory: python has-cc build ## lets each request for memory fail in turn
 	@$(call prove,callers,run </dev/null)
 	@tests/memory.py
 
-test-lib: python $(CALLERS) build lib ## tests the library, its callers and the install
+test-lib: $(CALLERS) made ## tests the library, its callers and the install
 	@tests/library.py library/out
-asan: python has-cc lib ## tests the library in C under the address sanitizer
+asan: python has-cc made ## tests the library in C under the address sanitizer
 	@tests/library.py library/out $@
-valgrind: python has-cc has-valgrind lib ## tests the library in C under valgrind
+valgrind: python has-cc has-valgrind made ## tests the library in C under valgrind
 	@tests/library.py library/out $@
 
-test-arm: arm has-qemu-aarch64 ## tests the library for ARM in C, under qemu
-	@CC=aarch64-linux-gnu-gcc RUNNER='qemu-aarch64 -L /usr/aarch64-linux-gnu' \
-		tests/library.py library/out-aarch64 elsewhere
+test-arm: arm has-qemu-aarch64 has-go ## tests the library for ARM in C, Go and Python, under qemu
+	@tests/arm.py library/out-aarch64
+
+test-go: python has-go has-cc made ## tests the module for Go
+	@tests/go.py library/out
 
 # The library and a second reader have to agree on each text, and the tables on some.
-fuzz: python has-clang lib ## lets libFuzzer make RUNS texts: it needs clang with its runtime
+fuzz: python has-clang made ## lets libFuzzer make RUNS texts: it needs clang with its runtime
 	@tests/fuzz.py library/out $(RUNS)
 
 # What mypy has to find stands in the test.

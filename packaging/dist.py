@@ -3,10 +3,10 @@
 
     packaging/dist.py FOLDER [--untagged] --proofs LOG [LOG ..]
 
-It wants a clean tree whose commit has the tag of the release, what `make build lib arm` has
-made of it, the logs of gates or of `packaging/proved.py` in which each of its proofs is told, and
-the tools of Python, Rust and Debian. --untagged makes it of any clean tree, to try it. Each file has
-the same bytes wherever it is made.
+It wants a clean tree whose commit has the tag of the release, what `make arm` has made of it, the
+logs of gates or of `packaging/proved.py` that have each of its proofs, and the tools of Python, Rust
+and Debian. --untagged makes it of any clean tree, to try it. Each file has the same bytes wherever
+it is made.
 """
 
 import argparse
@@ -23,6 +23,7 @@ from built import is_built  # noqa: E402
 from debs import build_debs  # noqa: E402
 from layout import BUILT, TOP  # noqa: E402
 from modules import build_crate, build_module  # noqa: E402
+from notes import write as write_notes  # noqa: E402
 from proof import write as write_proof  # noqa: E402
 from tarballs import pack_built, pack_sources  # noqa: E402
 from wheels import build_sources, build_wheel  # noqa: E402
@@ -38,10 +39,9 @@ def check(untagged):
     tags = run("git", "-C", TOP, "tag", "--points-at", "HEAD").split()
     if not untagged and f"v{version()}" not in tags:
         raise Fault(f"this commit isn't tagged v{version()}")
-    if not is_built():
-        raise Fault("what is built isn't of these sources: 'make build lib' makes it")
-    if not ARM.is_dir():
-        raise Fault(f"{ARM} isn't there: 'make arm' makes it")
+    for built in BUILDS:
+        if not is_built(built.library):
+            raise Fault(f"{built.library} isn't made of these sources: 'make arm' makes it")
 
 
 def artefacts(folder, logs):
@@ -54,6 +54,7 @@ def artefacts(folder, logs):
         yield pack_built(folder, built)
         yield build_wheel(folder, built)
         yield from build_debs(folder, built)
+    yield write_notes(folder)
     yield write_proof(folder, BUILDS, logs)
 
 

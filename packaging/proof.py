@@ -27,8 +27,8 @@ Commit: {commit}
 Sources: {digest}
     {command}
 
-To compare: `rt ci --anew` proves all from nothing. `make build lib` then builds, and sha256sum
-has to print the sums below.
+To compare: `rt ci --anew` proves all from nothing. `make build lib` then builds, and
+sha256sum has to print the sums below.
 
 Each crate was proved from nothing by `rt ci` from these sources. Here are the sum of what its proof
 has read, as `packaging/proved.py` takes it, and the last line of the proof. In place of that line

@@ -91,7 +91,7 @@ def last_lines(printed):
 
 
 def lines(printed, before):
-    """The lines of the crates that a run has proved or kept. `before` are the sums when it began."""
+    """The lines of the crates that a run has proved or kept. `before` are the sums at its start."""
     after = sums()
     for crate, last in last_lines(printed).items():
         if crate in after and before[crate] == after[crate]:

@@ -3,9 +3,11 @@
 
     packaging/try_dist.py FOLDER [--room FOLDER] [--only WORD]
 
-FOLDER is what `make dist` has made. It wants root, debootstrap and a mirror of Debian, and prints a
-row for each artefact: the tool, what was done with it, and the seconds. The room may be kept, so
-that a second run takes the same bare Debian.
+FOLDER is what `make dist` has made. It wants root, debootstrap and a mirror of Debian, and for ARM
+what qemu-user-static has the kernel do with its programs. It prints a row for each artefact: the
+tool, the architecture, what came of it, and the seconds. The room may be kept, so that a second run
+takes the same bare Debians. In each the sums of the release are right, and what is installed has
+the bytes that PROOF names.
 """
 
 import argparse
@@ -22,17 +24,23 @@ from pathlib import Path
 
 sys.dont_write_bytecode = True
 
-from artefact import Fault, run  # noqa: E402
-from layout import TOP  # noqa: E402
+from artefact import AARCH64, X86_64, Fault, run  # noqa: E402
+from layout import TOP, shared  # noqa: E402
 
 SUITE = "bookworm"
 MIRROR = os.environ.get("MIRROR", "http://deb.debian.org/debian")
+# How the kernel runs programs of ARM, if it does.
+QEMU = Path("/proc/sys/fs/binfmt_misc/qemu-aarch64")
 EXAMPLE = "algorithm-roll"
+BEFORE = """
+set -eu
+(cd /dist && sha256sum --check --quiet SHA256SUMS)
+proved() { for file; do grep -q "$(sha256sum <"$file" | cut -d" " -f1)" /dist/PROOF; done; }
+"""
 # A session by the command: a zone, its first keys, and a call that is refused.
 BY_COMMAND = f"""
-set -eu
 cd "$(mktemp -d)"
-cp {{examples}}/{EXAMPLE}.script example.com.script
+cp @EXAMPLES@/{EXAMPLE}.script example.com.script
 vaqsider --version
 vaqsider status example.com.script
 vaqsider call example.com.script 'add-zsk Z9 - 13 9 0 yes'
@@ -43,20 +51,40 @@ grep -q Z9 example.com.script
 BY_PROGRAM = f"""
 keyset --version
 keyset --help
-keyset <{{examples}}/{EXAMPLE}.script | cmp - {{examples}}/{EXAMPLE}.answers
+keyset <@EXAMPLES@/{EXAMPLE}.script | cmp - @EXAMPLES@/{EXAMPLE}.answers
 for program in 'keyset status' keyset_status; do
-    $program <{{examples}}/algorithm-roll.script | cmp - {{examples}}/algorithm-roll.json
+    $program <@EXAMPLES@/algorithm-roll.script | cmp - @EXAMPLES@/algorithm-roll.json
 done
 for program in 'keyset notes' keyset_notes; do
-    $program <{{examples}}/lowered-ttl.notes | cmp - {{examples}}/lowered-ttl.reports
+    $program <@EXAMPLES@/lowered-ttl.notes | cmp - @EXAMPLES@/lowered-ttl.reports
 done
 """
-IN_PYTHON = """
+IN_PYTHON = f"""
 import keyset, keyset.library
+with open("/examples/{EXAMPLE}.script", "rb") as script:
+    answers = keyset.answer(script.read())
+with open("/examples/{EXAMPLE}.answers") as stored:
+    assert answers == stored.read()
 keys = keyset.KeySet("example.com")
 keys.call("add-ksk K1 - 13 2 0 yes")
-print(keys.script, keys.published)
+assert keys.script == "zone example.com\\nadd-ksk K1 - 13 2 0 yes\\n"
 assert keyset.library.library() is not None
+"""
+IN_C = r"""
+#include <keyset.h>
+#include <stdio.h>
+#include <string.h>
+
+int main(void)
+{
+    const char *zone = "zone example.com", *line = "add-ksk K1 - 13 2 0 yes";
+    struct keyset_session session = {0};
+    uint32_t opened = keyset_open((const uint8_t *)zone, strlen(zone), &session);
+    uint32_t made = keyset_accept(&session, (const uint8_t *)line, strlen(line));
+    printf("%u %u %u\n", opened, made, (unsigned)keyset_calls(&session));
+    keyset_close(&session);
+    return keyset_version() != KEYSET_VERSION;
+}
 """
 
 
@@ -69,90 +97,121 @@ class Trial:
     packages: "tuple[str, ...]"
     script: str
 
+    def on(self, architecture):
+        """This trial on an architecture."""
+        names = {"@MACHINE@": architecture.machine, "@DEBIAN@": architecture.debian,
+                 "@FOLDER@": architecture.folder, "@SHARED@": shared()}
+        artefact, script = self.artefact, self.script
+        for name, text in names.items():
+            artefact, script = artefact.replace(name, text), script.replace(name, text)
+        return Trial(artefact, self.tool, self.packages, BEFORE + script)
+
+
+def using(text, examples):
+    """What is done with the examples of a folder."""
+    return text.replace("@EXAMPLES@", examples)
+
 
 INSTALLED = "/usr/local/share/doc/vaqsider/examples"
-TRIALS = (
-    Trial("vaqsider-*-x86_64-linux.tar.gz", "tar", (), f"""
-tar -xzf /dist/vaqsider-*-x86_64-linux.tar.gz -C /srv
+OF_DEBIAN = "/usr/share/doc/vaqsider/examples"
+UNPACKED = """
+tar -xzf /dist/vaqsider-*-@MACHINE@-linux.tar.gz -C /srv
 /srv/vaqsider-*/install.sh /usr/local
-{BY_PROGRAM.format(examples=INSTALLED)}
+proved /usr/local/bin/keyset /usr/local/lib/@SHARED@ /usr/local/lib/libkeyset.a
+"""
+TRIALS = (
+    Trial("vaqsider-*-@MACHINE@-linux.tar.gz", "tar", (), f"""
+{UNPACKED}
+{using(BY_PROGRAM, INSTALLED)}
 /srv/vaqsider-*/install.sh --uninstall /usr/local
 test ! -e /usr/local/bin/keyset
+test ! -e /usr/local/share/vaqsider
 """),
-    Trial("vaqsider-*-x86_64-linux.tar.gz", "tar, and python3", ("python3",), f"""
-tar -xzf /dist/vaqsider-*-x86_64-linux.tar.gz -C /srv
-/srv/vaqsider-*/install.sh /usr/local
-{BY_COMMAND.format(examples=INSTALLED)}
+    Trial("vaqsider-*-@MACHINE@-linux.tar.gz", "tar, and python3", ("python3",), f"""
+{UNPACKED}
+{using(BY_PROGRAM + BY_COMMAND, INSTALLED)}
 """),
-    Trial("*_amd64.deb", "dpkg", ("python3",), f"""
-dpkg -i /dist/libkeyset[0-9]*_amd64.deb /dist/vaqsider_*_amd64.deb
-{BY_PROGRAM.format(examples="/usr/share/doc/vaqsider/examples")}
-{BY_COMMAND.format(examples="/usr/share/doc/vaqsider/examples")}
+    Trial("*_@DEBIAN@.deb", "dpkg", ("python3",), f"""
+dpkg -i /dist/libkeyset[0-9]*_@DEBIAN@.deb /dist/vaqsider_*_@DEBIAN@.deb
+proved /usr/bin/keyset /usr/lib/@FOLDER@/@SHARED@
+{using(BY_PROGRAM + BY_COMMAND, OF_DEBIAN)}
 dpkg -P vaqsider $(dpkg-query -W -f '${{Package}} ' 'libkeyset*')
+test ! -e /usr/bin/keyset
 """),
-    Trial("libkeyset-dev_*_amd64.deb", "dpkg, and gcc", ("gcc", "libc6-dev", "pkg-config"), f"""
-dpkg -i /dist/libkeyset[0-9]*_amd64.deb /dist/libkeyset-dev_*_amd64.deb
+    Trial("libkeyset-dev_*_@DEBIAN@.deb", "dpkg, and gcc", ("gcc", "libc6-dev", "pkg-config"), f"""
+dpkg -i /dist/libkeyset[0-9]*_@DEBIAN@.deb /dist/libkeyset-dev_*_@DEBIAN@.deb
+proved /usr/lib/@FOLDER@/@SHARED@ /usr/lib/@FOLDER@/libkeyset.a
 cd /usr/share/doc/libkeyset-dev
 cc -o /srv/roll library/c/roll.c $(pkg-config --cflags --libs keyset)
 /srv/roll <examples/{EXAMPLE}.script | cmp - examples/{EXAMPLE}.answers
+cat >/srv/session.c <<'END'
+{IN_C}
+END
+cc -o /srv/session /srv/session.c $(pkg-config --cflags --libs keyset)
+test "$(/srv/session)" = '0 0 1'
 """),
-    Trial("vaqsider-*-manylinux2014_x86_64.whl", "pip", ("python3-venv",), f"""
+    Trial("vaqsider-*-manylinux2014_@MACHINE@.whl", "pip", ("python3-venv",), f"""
 python3 -m venv /srv/venv
-/srv/venv/bin/pip install --no-index /dist/vaqsider-*-manylinux2014_x86_64.whl
+/srv/venv/bin/pip install --no-index /dist/vaqsider-*-manylinux2014_@MACHINE@.whl
+proved /srv/venv/lib/python3*/site-packages/keyset/@SHARED@
 PATH=/srv/venv/bin:$PATH
 python3 -c {shlex.quote(IN_PYTHON)}
-{BY_COMMAND.format(examples="/examples")}
+{using(BY_COMMAND, "/examples")}
 """),
-    Trial("vaqsider-*.tar.gz", "pip, with the library of dpkg", ("python3-venv", "python3-wheel",
-                                                                 "python3-setuptools"), f"""
-dpkg -i /dist/libkeyset[0-9]*_amd64.deb
+    Trial("vaqsider-*.tar.gz", "pip, with the library of dpkg",
+          ("python3-venv", "python3-wheel", "python3-setuptools"), f"""
+dpkg -i /dist/libkeyset[0-9]*_@DEBIAN@.deb
 python3 -m venv --system-site-packages /srv/venv
 version=$(basename /dist/vaqsider-*-source.tar.gz -source.tar.gz)
 /srv/venv/bin/pip install --no-index --no-build-isolation /dist/$version.tar.gz
 PATH=/srv/venv/bin:$PATH
 python3 -c {shlex.quote(IN_PYTHON)}
+{using(BY_COMMAND, "/examples")}
 """),
-    Trial("keyset-*.crate", "cargo", ("cargo",), """
+    Trial("keyset-*.crate", "cargo", ("cargo",), f"""
 tar -xzf /dist/keyset-*.crate -C /srv
 cd /srv/keyset-*/
+proved lib/@MACHINE@-unknown-linux-gnu/libkeyset.a
 cargo test --offline --quiet
-cargo run --offline --quiet --example roll </examples/algorithm-roll.script |
-    cmp - /examples/algorithm-roll.answers
+cargo run --offline --quiet --example roll </examples/{EXAMPLE}.script |
+    cmp - /examples/{EXAMPLE}.answers
 """),
-    Trial("keyset-go-*.tar.gz", "go", ("golang-go", "gcc", "libc6-dev"), """
+    Trial("keyset-go-*.tar.gz", "go", ("golang-go", "gcc", "libc6-dev"), f"""
 tar -xzf /dist/keyset-go-*.tar.gz -C /srv
 cd /srv/keyset-go-*/
-export HOME=/srv
+proved lib/@MACHINE@-unknown-linux-gnu/libkeyset.a
 go vet ./...
 go test ./...
-go test -race ./...
+case @MACHINE@ in x86_64) go test -race ./... ;; esac
+go run ./examples/roll </examples/{EXAMPLE}.script | cmp - /examples/{EXAMPLE}.answers
 """),
 )
 
 
-def bare(room):
-    """A bare Debian, made once."""
-    root = room / "bare"
+def bare(room, architecture):
+    """A bare Debian for an architecture, made once."""
+    root = room / f"bare-{architecture.debian}"
     if not root.is_dir():
         making = room / "making"
         shutil.rmtree(making, ignore_errors=True)
-        run("debootstrap", "--variant=minbase", SUITE, making, MIRROR)
+        run("debootstrap", f"--arch={architecture.debian}", "--variant=minbase", SUITE, making,
+            MIRROR)
         shutil.copy("/etc/resolv.conf", making / "etc" / "resolv.conf")
         making.rename(root)
     return root
 
 
 @contextmanager
-def root_of(trial, room, dist):
+def root_of(trial, architecture, room, dist):
     """A copy of the bare Debian with the packages of a trial, the artefacts and the examples."""
     root = Path(tempfile.mkdtemp(dir=room, prefix="root-"))
     try:
-        run("cp", "-a", f"{bare(room)}/.", root)
+        run("cp", "-a", f"{bare(room, architecture)}/.", root)
         shutil.copytree(dist, root / "dist")
         shutil.copytree(TOP / "examples", root / "examples")
         if trial.packages:
-            inside(root, "apt-get update -qq && DEBIAN_FRONTEND=noninteractive "
-                         f"apt-get install -qq -y --no-install-recommends {' '.join(trial.packages)}")
+            inside(root, "apt-get update -qq && DEBIAN_FRONTEND=noninteractive apt-get install "
+                         f"-qq -y --no-install-recommends {' '.join(trial.packages)}")
         # (rustc looks for itself there.)
         run("mount", "-t", "proc", "proc", root / "proc")
         yield root
@@ -174,17 +233,29 @@ def inside(root, script):
     return done.stdout
 
 
-def tried(trial, room, dist):
+def tried(trial, architecture, room, dist):
     """Does a trial. Gives its row, and whether it went well."""
     began = time.monotonic()
+    row = f"| {trial.artefact} | {trial.tool} | {architecture.debian} |"
     if not any(dist.glob(trial.artefact)):
-        return f"| {trial.artefact} | {trial.tool} | isn't there | |", False
+        return f"{row} isn't there | |", False
     try:
-        with root_of(trial, room, dist) as root:
+        with root_of(trial, architecture, room, dist) as root:
             inside(root, trial.script)
     except Fault as fault:
-        return f"| {trial.artefact} | {trial.tool} | {fault} | |", False
-    return f"| {trial.artefact} | {trial.tool} | as it should | {time.monotonic() - began:.0f} |", True
+        return f"{row} {fault} | |", False
+    return f"{row} as it should | {time.monotonic() - began:.0f} |", True
+
+
+def rows(given, room):
+    """The rows of the table, each with whether its trial went well."""
+    for architecture in (X86_64, AARCH64):
+        if architecture is AARCH64 and not QEMU.exists():
+            yield f"| all | | {architecture.debian} | {QEMU} isn't there: not tried | |", False
+            continue
+        for trial in (trial.on(architecture) for trial in TRIALS):
+            if given.only in f"{trial.artefact} {trial.tool} {architecture.debian}":
+                yield tried(trial, architecture, room, given.dist.resolve())
 
 
 def main():
@@ -197,12 +268,10 @@ def main():
     with tempfile.TemporaryDirectory() as own:
         room = given.room or Path(own)
         room.mkdir(parents=True, exist_ok=True)
-        print("| Artefact | By | | Seconds |\n|---|---|---|---|", flush=True)
-        for trial in TRIALS:
-            if given.only in f"{trial.artefact} {trial.tool}":
-                row, is_well = tried(trial, room, given.dist.resolve())
-                print(row, flush=True)
-                failed += not is_well
+        print("| Artefact | By | On | | Seconds |\n|---|---|---|---|---|", flush=True)
+        for row, is_well in rows(given, room):
+            print(row, flush=True)
+            failed += not is_well
     print(f"{failed} failed")
     return min(failed, 1)
 

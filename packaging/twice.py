@@ -1,10 +1,10 @@
 #!/usr/bin/env python3
 """Makes a release twice, and compares the sums: in two folders, by two users if it may, at two
-times, under two masks, in two zones of time and two locales.
+times, under two masks, in two zones of time and two locales, of which one has other capitals.
 
     packaging/twice.py [--untagged] --proofs LOG [LOG ..]
 
-What `make dist` takes has to be there: the copies take what is built here.
+What `make dist` takes has to be there: the copies take what is built here. It wants localedef.
 """
 
 import argparse
@@ -20,7 +20,8 @@ from pathlib import Path
 sys.dont_write_bytecode = True
 
 from artefact import Fault, run  # noqa: E402
-from layout import TOP  # noqa: E402
+from dist import ARM  # noqa: E402
+from layout import BUILT, PROGRAMS, TOP  # noqa: E402
 
 
 @dataclass(frozen=True)
@@ -33,20 +34,23 @@ class Maker:
     environment: "dict[str, str]"
 
 
+TURKISH = "tr_TR.UTF-8"
 MAKERS = (
     Maker("one", "root", 0o022, {"TZ": "UTC", "LC_ALL": "C", "LANG": "C"}),
     Maker("a longer name", "nobody", 0o077,
-          {"TZ": "Pacific/Chatham", "LC_ALL": "C.UTF-8", "LANGUAGE": "tr"}),
+          {"TZ": "Pacific/Chatham", "LC_ALL": TURKISH, "LANGUAGE": "tr"}),
 )
 
 
 def copy(place):
     """A copy of the repository and of what is built in it."""
     run("git", "clone", "--quiet", TOP, place)
-    for built in ("crates", "library"):
-        for folder in (TOP / built).glob("**/out*"):
-            if folder.is_dir() and "target" not in folder.parts:
-                shutil.copytree(folder, place / folder.relative_to(TOP), dirs_exist_ok=True)
+    for built in (BUILT, ARM):
+        shutil.copytree(built, place / built.relative_to(TOP))
+    for name in PROGRAMS:
+        program = Path("crates", name, "out", name)
+        (place / program).parent.mkdir()
+        shutil.copy2(TOP / program, place / program)
 
 
 def make(room, maker, words):
@@ -56,7 +60,7 @@ def make(room, maker, words):
     # (Rust's tools look for themselves at home, and this home is another.)
     rust = os.environ.get("RUSTUP_HOME", str(Path.home() / ".rustup"))
     environment = {"PATH": os.environ["PATH"], "HOME": str(place), "RUSTUP_HOME": rust,
-                   **maker.environment}
+                   "LOCPATH": str(room / "locales"), **maker.environment}
     who = {}
     if os.geteuid() == 0:
         record = pwd.getpwnam(maker.user)
@@ -89,6 +93,9 @@ def main():
         os.chmod(room, 0o755)
         try:
             words = words_of(given, Path(room))
+            (Path(room) / "locales").mkdir(mode=0o755)
+            run("localedef", "-i", TURKISH.partition(".")[0], "-f", "UTF-8",
+                Path(room) / "locales" / TURKISH, umask=0o022)
             first, second = (make(Path(room), maker, words) for maker in MAKERS)
         except (Fault, OSError) as fault:
             print(f"twice: {fault}", file=sys.stderr)

@@ -4,7 +4,8 @@ has kept.
 
     tests/archive.py FOLDER [aarch64]
 
-The second word names another architecture than this machine's. This proves `keyset_c` once more: `rt ci` keeps nothing of its proof that a build could take.
+The second word names another architecture than this machine's. This proves `keyset_c` once more:
+`rt ci` keeps nothing of its proof that a build could take.
 """
 
 import shutil

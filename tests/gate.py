@@ -22,6 +22,7 @@ import told
 TOP = Path(__file__).resolve().parent.parent
 sys.path.append(str(TOP / "packaging"))
 
+import built  # noqa: E402
 import proved  # noqa: E402
 
 START = time.monotonic()
@@ -197,7 +198,9 @@ def main():
 
 
 def prove_and_test(free, folder):
-    """Runs `rt ci` and the tests beside it, of which some share the library in a folder."""
+    """Runs `rt ci` and the tests beside it, of which some share the library in a folder. If all
+    have passed, `make install` and `make dist` take that library and the program."""
+    before = built.sums()
     # The library takes no proof of `keyset_c`, only of the crates below it.
     archive = After("archive", folder, after=["dnssec_status", "dnssec_notes"])
     library = After("library", folder, after=["keyset", "archive"])
@@ -223,6 +226,8 @@ def prove_and_test(free, folder):
     if wrong:
         print(*wrong, sep="\n")
         status, last = 1, f"docs/TESTS.md has {len(wrong)} numbers that this gate hasn't printed\n"
+    if status == 0:
+        built.take(folder, before)
     print("Done after, in minutes and seconds:", *steps(), sep="\n")
     print(last, end="", flush=True)
     return status

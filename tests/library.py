@@ -5,6 +5,8 @@
     tests/library.py FOLDER valgrind|asan     only its tests in C, under a checker of memory
     tests/library.py FOLDER elsewhere         only its tests in C: those of another architecture, by
                                               the compiler CC, run under RUNNER
+    tests/library.py FOLDER python            only its tests in Python: for a Python of another
+                                              architecture
 
 A script and its answers are those of `replay/scripts.txt`. The program `keyset` has to answer them,
 damaged scripts and long ones as the library does, and `keyset status` has to show what sessions
@@ -140,7 +142,14 @@ def elsewhere(folder, room):
     return "".join(told).strip()
 
 
-CHECKERS = {"valgrind": under_valgrind, "asan": under_asan, "elsewhere": elsewhere}
+def in_python(folder, room):
+    """The tests in this Python, whose architecture the library is for."""
+    tests = tests_in_python(folder, noted.questions_of_operators())
+    return "\n".join(f"{name}: {line}" for name, line in tests)
+
+
+CHECKERS = {"valgrind": under_valgrind, "asan": under_asan, "elsewhere": elsewhere,
+            "python": in_python}
 
 
 def test_static_buffer(folder, room):
@@ -407,7 +416,6 @@ def test(folder, room):
 
 def short_tests(folder, room):
     yield "library", test_static_buffer(folder, room)
-    yield "sessions", test_statuses(folder)
     yield "library", test_accepted(folder, room)
     yield "library", test_notes(folder, room)
     yield "library", test_c_caller(room, "C", c_flags(folder))
@@ -419,9 +427,16 @@ def short_tests(folder, room):
     yield "library", rust.test_project(folder, room)
     yield "library", rust.test_package(folder, room)
     yield "library", rust.test_build(folder, room)
-    yield "library", test_python_caller(folder)
     questions = noted.questions_of_operators()
     yield "library", noted.test_callers(folder, room, questions)
+    yield from tests_in_python(folder, questions)
+    yield "install", install.test(folder)
+
+
+def tests_in_python(folder, questions):
+    """The tests that load the library into this Python."""
+    yield "sessions", test_statuses(folder)
+    yield "library", test_python_caller(folder)
     keyset = python_module(folder)
     yield "library", noted.test_in_python(keyset, questions)
     yield "sessions", test_in_python(keyset)
@@ -431,7 +446,6 @@ def short_tests(folder, room):
     yield "library", test_damaged(keyset)
     yield "library", test_frozen(keyset)
     yield "long", test_long(folder, keyset)
-    yield "install", install.test(folder)
 
 
 def main():
