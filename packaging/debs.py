@@ -1,4 +1,4 @@
-"""The packages for Debian: `vaqsider` with programs and command, the shared object by the version
+"""The packages for Debian: `vaqsider` with program and command, the shared object by the version
 of its interface, as `libkeyset3`, and `libkeyset-dev`."""
 
 import gzip

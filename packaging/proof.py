@@ -37,8 +37,9 @@ earlier run on the same machine had made it from the same files.
 
 """
 BUILT = """
-What was built from them. Debian's packages have programs and shared object without the names that
-only a linker needs (`strip --strip-unneeded --remove-section=.comment`); their sums are here too.
+What was built from them. On aarch64 the program is C over the library, of which no proof speaks.
+Debian's packages have the program and the shared object without the names that only a linker needs
+(`strip --strip-unneeded --remove-section=.comment`); their sums are here too.
 
 """
 
@@ -48,7 +49,7 @@ def digest(path):
 
 
 def crates():
-    """The crates that the programs and the library consist of, lowest first."""
+    """The crates that the program and the library consist of, lowest first."""
     names = list(proved.crates())
     return names[: names.index("keyset_c") + 1]
 
