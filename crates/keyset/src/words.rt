@@ -1,4 +1,5 @@
 //! The words that the program takes, and the names that it is called by.
+ghost use Rattle.std.specs.Prelude.{◌≤◌, IfSome, length};
 
 use std::env::{Env, FillError};
 
@@ -41,37 +42,57 @@ pub fn task_of<E: Env>(env: &E) -> Result<Task, Misuse> {
     let mut word = [0; LONGEST];
     let linked = match argument(env, 0, &mut name) {
         None => None,
-        Some(name) => task_of_link(name),
+        Some(length) => task_of_link(&name[..length]),
     };
-    let Some(word) = argument(env, 1, &mut word) else {
-        return Ok(linked.unwrap_or(Task::Script));
+    let Some(length) = argument(env, 1, &mut word) else {
+        return match linked {
+            None => Ok(Task::Script),
+            Some(task) => Ok(task),
+        };
     };
     if argument(env, 2, &mut name).is_some() {
         return Err(Misuse::MoreThanOneWord);
     }
-    match (find(&OPTIONS, word), find(&WORDS, word), linked) {
-        (Some(task), _, _) | (None, Some(task), None) => Ok(task),
-        (None, Some(_), Some(_)) => Err(Misuse::MoreThanOneWord),
-        (None, None, _) => Err(Misuse::NoSuchWord),
+    task_of_word(&word[..length], linked.is_some())
+}
+
+/// The argument of a number, if there is one: it is put into the room, and this is its length. One
+/// that is longer than its room is read as an empty one, since no word is so long.
+fn argument<E: Env>(env: &E, number: usize, room: &mut [u8]) -> Option<usize>
+    ensures { IfSome result (λ length_of. length_of ≤ length room.new) }
+{
+    match env.arg(number, room) {
+        Ok(length) => Some(length),
+        Err(FillError::TooLong) => Some(0),
+        Err(FillError::NotPresent) => None,
     }
 }
 
-/// The argument of a number, if there is one. One that is longer than its room is read as an empty
-/// one: no word is so long.
-fn argument<'a, E: Env>(env: &E, number: usize, room: &'a mut [u8]) -> Option<&'a [u8]> {
-    match env.arg(number, room) {
-        Ok(length) => Some(&room[..length]),
-        Err(FillError::TooLong) => Some(&room[..0]),
-        Err(FillError::NotPresent) => None,
+/// What a word asks for. The name of a link is a word already.
+fn task_of_word(word: &[u8], is_linked: bool) -> Result<Task, Misuse> {
+    if let Some(task) = find(&OPTIONS, word) {
+        return Ok(task);
+    }
+    match find(&WORDS, word) {
+        None => Err(Misuse::NoSuchWord),
+        Some(task) => {
+            if is_linked {
+                Err(Misuse::MoreThanOneWord)
+            } else {
+                Ok(task)
+            }
+        }
     }
 }
 
 /// What a link asks for, by the path that the program is called by.
 fn task_of_link(path: &[u8]) -> Option<Task> {
-    let name = match path.iter().rposition(|byte| *byte == b'/') {
-        Some(slash) => &path[slash + 1..],
-        None => path,
-    };
+    let mut name = path;
+    for (index, byte) in path.iter().enumerate() {
+        if *byte == b'/' {
+            name = &path[index + 1..];
+        }
+    }
     find(&WORDS, name.strip_prefix(LINK.as_bytes())?)
 }
 
