@@ -170,9 +170,9 @@ struct keyset_answered keyset_status(const struct keyset_session *session, uint8
 
    answered       the line is taken (noted)
    malformed      it is no line of notes; the first one begins with `before`
-   no such call, seen early, moment falls
-                  its fact can't follow those before it
-   out of memory  asking again may help
+   no such call, published early, seen early, moment falls
+                  its fact can't follow the calls, or those before it
+   out of memory  asking again may help: nothing else stands against the line (refused)
    closed         the session is closed (closed)
 
    Unless it is answered, the session and its notes are as they were (unchanged), and the status

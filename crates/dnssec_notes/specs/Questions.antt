@@ -1,7 +1,7 @@
 -- Questions among the lines of notes, and their answers.
 use Rattle.std.specs.Prelude.{◌≡◌, ◌⊎◌, ℕ, ◌+◌, ◌<◌, ◌++◌, List, [], ◌∷◌, length, take, codes}
-use Rattle.std.specs.Prelude.{Option, None, Some, option_and_then, is_none, if◌then◌else◌}
-use Rattle.std.specs.Prelude.{slice_index_or}
+use Rattle.std.specs.Prelude.{Option, None, Some, IsSome, option_and_then, is_none}
+use Rattle.std.specs.Prelude.{if◌then◌else◌, slice_index_or}
 use Rattle.std.specs.List.{AllZip, filter}
 use Rattle.std.specs.Str.{bytes_eq}
 use Rattle.dnssec_run.specs.Moments.{moments_of}
@@ -85,11 +85,11 @@ ComesOf script entries notes line (Some text) noted =
 
 -- ---- faults
 
--- why a question is not answered: there are no notes yet
+-- why a question is not answered: there are no notes yet; memory is missing only if there are
 abbrev pub IsQuestionFault : Option NotesParts → LineFault → Type 0
 IsQuestionFault noted why.Malformed = noted ≡ None
 IsQuestionFault noted (why.Refused cause) = ⊥
-IsQuestionFault noted why.OutOfMemory = Unit {0}
+IsQuestionFault noted why.OutOfMemory = IsSome noted
 
 -- why a line is neither taken nor answered, given what it asks
 abbrev pub IsAnswerFault : List ℕ → Option NotesParts → Option (List Value) → List ℕ → LineFault
@@ -124,5 +124,5 @@ pub record IsUnasked (lines : List (List ℕ)) (fault : NotesFault) : Type 0 whe
 -- why lines are not answered
 abbrev pub IsAnswersFault : Session → List (List ℕ) → NotesFault → Type 0
 IsAnswersFault session lines fault = (script : List (List ℕ)) (entries : List Entry) →
-    Stands script entries session → IsFirstFaulty script entries lines fault
-    ⊎ IsUnasked lines fault ⊎ (fault ≡ notes.OutOfMemory)
+    Stands script entries session →
+    IsFirstFaulty script entries lines fault ⊎ IsUnasked lines fault

@@ -41,7 +41,8 @@ abbrev pub IsFactFault : List ℕ → List Fact → List ℕ → LineFault → T
 IsFactFault moments facts line why.Malformed = as_fact line ≡ None
 IsFactFault moments facts line (why.Refused cause) = (fact : Fact)
     × (as_fact line ≡ Some (fact_says fact)) × (refusal moments facts fact ≡ Some cause)
-IsFactFault moments facts line why.OutOfMemory = Unit {0}
+IsFactFault moments facts line why.OutOfMemory = (fact : Fact)
+    × (as_fact line ≡ Some (fact_says fact)) × (refusal moments facts fact ≡ None)
 
 -- the same of a line with its number
 abbrev pub IsLineFault : List ℕ → List Fact → List ℕ → ℕ → NotesFault → Type 0
@@ -49,7 +50,7 @@ IsLineFault moments facts line n (Malformed m) =
     (m ≡ n) × IsFactFault moments facts line why.Malformed
 IsLineFault moments facts line n (Refused m cause) =
     (m ≡ n) × IsFactFault moments facts line (why.Refused cause)
-IsLineFault moments facts line n OutOfMemory = Unit {0}
+IsLineFault moments facts line n OutOfMemory = IsFactFault moments facts line why.OutOfMemory
 
 -- the first such line after line 1
 pub record IsFactsFault (moments : List ℕ) (lines : List (List ℕ)) (fault : NotesFault)
@@ -68,7 +69,7 @@ IsFaultOf moments (first ∷ lines) fault =
     ⊎ (((before : Before) × (as_before first ≡ Some (before_says before)))
     × IsFactsFault moments lines fault)
 
--- the text is no notes, and why
+-- the text is no notes, and why; the list of its lines takes memory before the first is read
 abbrev pub IsNotesFault : List ℕ → List ℕ → NotesFault → Type 0
 IsNotesFault moments text OutOfMemory = Unit {0}
 IsNotesFault moments text (Malformed n) = IsFaultOf moments (lines_of text) (Malformed n)

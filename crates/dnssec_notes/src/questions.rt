@@ -1,6 +1,6 @@
 //! Questions among the lines of notes, and their answers.
 ghost use Rattle.std.specs.Prelude.{◌≡◌, ◌∷◌, ◌++◌, ℕ, List, [], Some, IfOk, IfErr, OnOk};
-ghost use Rattle.std.specs.Prelude.{◌<◌, is_some, map, string_bytes, vec_len};
+ghost use Rattle.std.specs.Prelude.{◌<◌, IsSome, is_some, map, string_bytes, vec_len};
 ghost use Rattle.std.specs.Option.{option_map};
 ghost use denote.Bor.{now};
 ghost use Rattle.dnssec_script.specs.Script.{Number, values_of};
@@ -28,7 +28,7 @@ use std::alloc::{AllocError, Global};
 ///   or that asks before the first line of the notes. If nothing is asked, it is the number of the
 ///   line after the last.
 /// - `Refused` with the number of the first fact that can't follow those before it, and the cause.
-/// - `OutOfMemory` if memory runs out.
+/// - `OutOfMemory` if memory runs out for a line that could be taken or answered.
 ///
 /// ```rust
 /// let session = Session::resume(alloc, script.as_bytes())?;
@@ -103,6 +103,7 @@ impl SessionNotes {
             Stands script entries session.now → HasTaken (moments_of entries) notes self.old →
             ComesOf script entries notes line.now (option_map string_bytes told) self.new) }
         ensures question { IfOk result (λ told. is_some told ≡ is_some (as_question line.now)) }
+        ensures begun { IfOk result (λ told. IsSome told → IsSome self.old) }
         ensures err { IfErr result (λ fault. (script : List (List ℕ)) (entries : List Entry) →
             Stands script entries session.now →
             IsAnswerFault (moments_of entries) self.old (as_question line.now) line.now fault) }
@@ -121,6 +122,7 @@ impl SessionNotes {
     fn answer(&self, alloc: Global, session: &Session, seconds: u64) -> Result<String, LineFault>
         ensures text { IfOk result (λ text.
             AnswersDue session.now self.now seconds (Some (string_bytes text))) }
+        ensures begun { IfOk result (λ _. IsSome self.now) }
         ensures err { IfErr result (IsQuestionFault self.now) }
     {
         match self.due_now(alloc, session, seconds) {

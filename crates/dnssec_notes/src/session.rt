@@ -82,7 +82,7 @@ impl SessionNotes {
     ///
     /// - `Malformed` if it isn't a line of notes.
     /// - `Refused` if its fact can't follow the calls or the facts before it, with the cause.
-    /// - `OutOfMemory` if memory runs out.
+    /// - `OutOfMemory` if memory runs out for a line that could be taken.
     ///
     /// The notes are then as they were.
     pub fn take_line(

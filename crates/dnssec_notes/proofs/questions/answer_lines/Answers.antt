@@ -53,8 +53,8 @@ returns-then-is_empty-clause-err c = λ script entries so.
     let zipped = AllZip-long _ _ _ (rw all at (at.invariant script entries so)).answers in
     let empty : vec_len at.answers ≡ 0 = grind (arith, c.is_empty.ensures, c.if-is_empty.true) in
     let texts = length-map at.answers.items (string_bytes {Z = Global}) in
-    inr (inl (record {
+    inr (record {
       none = nil_from_length (questions_among (map now xs))
           (omega (arith, zipped, texts, empty, at.answers.ok.0));
       is = ap (λ n. Malformed (n + 1)) (sym (length-map xs now));
-    }))
+    })

@@ -3,6 +3,7 @@ use Rattle.std.proofs.Common.{Option, ap, string_bytes, subst, sym}
 use Rattle.std.proofs.Common.{◌∙◌}
 use Rattle.std.proofs.lemmas.{List.map-append}
 use Rattle.std.specs.Option.{is_some, option_map}
+use Rattle.std.specs.Prelude.{IsSome}
 use Rattle.std.specs.declared.{alloc.Global.Global, string.String.String}
 use Rattle.dnssec_run.specs.Moments.{moments_of}
 use Rattle.dnssec_notes.proofs.Asking.{memory_ended, note_answered, question_answered}
@@ -35,5 +36,7 @@ returns-after-push-clause-err c = elim c.match-push.branch [
   | in-Ok w ↦ rw w.result-is tt
   | in-Err w ↦ rw w.result-is (λ script entries so.
       memory_ended (moments_of entries) c.args.notes.now _ c.args.line.now
-      (sym (ap is_some c.in-Some.is) ∙ c.in_ok-answer_line.ensures.question))
+      (sym (ap is_some c.in-Some.is) ∙ c.in_ok-answer_line.ensures.question)
+      (subst (λ (o : Option (String Global)). IsSome o → IsSome c.args.notes.now) c.in-Some.is
+      c.in_ok-answer_line.ensures.begun tt))
 ]
