@@ -1,5 +1,5 @@
 -- The lines that are due after the calls of a session.
-use Rattle.std.proofs.Common.{◌≡◌, ◌∙◌, ap, length, List, subst, sym, ℕ}
+use Rattle.std.proofs.Common.{◌≡◌, ◌∙◌, ap, List, subst, sym, ℕ}
 use Rattle.dnssec_keyset.specs.KeySet.{KeySetParts}
 use Rattle.dnssec_network.specs.Notes.{NotesParts}
 use Rattle.dnssec_record.specs.Session.{Stands}

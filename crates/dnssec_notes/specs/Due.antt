@@ -8,7 +8,6 @@ use Rattle.dnssec_zone.specs.Rolls.{Rolls, all_rolls, phase_of}
 use Rattle.dnssec_run.specs.declared.call.Call.{Call}
 use Rattle.dnssec_run.specs.declared.record.Entry.{Entry}
 use Rattle.dnssec_run.specs.Moments.{moments_of}
-use Rattle.dnssec_run.specs.declared.caches.SetKind.{SetKind}
 use Rattle.dnssec_run.specs.declared.steps.LastStep.{LastStep}
 use Rattle.dnssec_run.specs.Record.{IsRun, world_at}
 use Rattle.dnssec_run.specs.Steps.{last_step}

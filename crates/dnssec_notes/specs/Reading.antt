@@ -1,5 +1,5 @@
 -- Which lines are notes, and which line of other texts is the first that is not.
-use Rattle.std.specs.Prelude.{◌≡◌, ◌⊎◌, ℕ, ◌+◌, ◌<◌, ◌≤◌, ◌++◌, List, [], ◌∷◌, map, length, take}
+use Rattle.std.specs.Prelude.{◌≡◌, ◌⊎◌, ℕ, ◌+◌, ◌<◌, ◌++◌, List, [], ◌∷◌, map, length, take}
 use Rattle.std.specs.Prelude.{Option, None, Some, slice_index_or}
 use Rattle.dnssec_run.specs.Moments.{moments_of}
 use Rattle.dnssec_run.specs.declared.record.Entry.{Entry}

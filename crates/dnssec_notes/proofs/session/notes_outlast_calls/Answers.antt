@@ -2,10 +2,9 @@
 use Rattle.std.proofs.Common.{List, None, Option, Some, [], refl, subst, suc, sym, zero, ℕ, ◌++◌}
 use Rattle.std.proofs.Common.{◌∙◌, ◌∷◌, ◌≡◌}
 use Rattle.std.proofs.lemmas.Option.{slice_get_within}
-use Rattle.std.specs.Prelude.{slice_get}
 use Rattle.dnssec_run.proofs.{Grow.front, Latest.moments-outlast}
 use Rattle.dnssec_run.specs.Moments.{moment_of_call, moments_of}
-use Rattle.dnssec_network.specs.Notes.{news_refusal, refusal, version_refusal}
+use Rattle.dnssec_network.specs.Notes.{news_refusal, version_refusal}
 use Rattle.dnssec_network.specs.declared.fact.{Fact.Fact, News.News}
 use Rattle.dnssec_network.specs.declared.fact.News.TheVariants.{Everywhere, Published}
 use Rattle.dnssec_network.specs.declared.progress.Newest.{Newest}
