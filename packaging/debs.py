@@ -12,7 +12,7 @@ from email.utils import format_datetime
 from pathlib import Path
 
 from artefact import Built, entries, releases, run, seconds, version
-from layout import DOCUMENTS, LIST, TOP, Layout, functions, interface, shared
+from layout import LIST, TOP, Layout, functions, interface, shared
 from trees import install
 
 # A change of these packages alone raises it.
@@ -55,6 +55,10 @@ if command -v py3clean >/dev/null; then
 fi
 """
 # What lintian needn't say, with the reason.
+OVERRIDES = """\
+# README names it.
+{name}: extra-license-file *LICENSE*
+"""
 HELP = """\
 # The command prints this text: it is no document.
 vaqsider: package-contains-documentation-outside-usr-share-doc *help.txt*
@@ -91,7 +95,7 @@ PACKAGES = (
         "step of a roll may be made. No list of calls that keeps its rules leaves\n"
         "resolvers without a chain of trust: that is proved.",
         (("postinst", POSTINST), ("prerm", PRERM)),
-        HELP,
+        OVERRIDES + HELP,
     ),
     Package(
         LIBRARY, "libs", ("library",), re.compile(rf".*/{re.escape(shared())}$"),
@@ -110,6 +114,7 @@ PACKAGES = (
         ".\n"
         "This package has the header, the static library, the pages of the library,\n"
         "and examples of scripts and of callers.",
+        overrides=OVERRIDES,
     ),
 )
 
@@ -150,15 +155,14 @@ def documents(folder, package):
     if package.overrides:
         overrides = folder / "usr/share/lintian/overrides" / package.name
         overrides.parent.mkdir(parents=True)
-        overrides.write_text(package.overrides)
+        overrides.write_text(package.overrides.format(name=package.name))
 
 
 def take(whole, folder, package, built: Built):
     """Puts the files of a package into its folder, as Debian has them."""
     for source in entries(whole):
         place = source.relative_to(whole)
-        is_taken = package.files.match(str(place)) and place not in (LIST, DOCUMENTS / "LICENSE")
-        if source.is_dir() or not is_taken:
+        if source.is_dir() or place == LIST or not package.files.match(str(place)):
             continue
         target = folder / "usr" / rename(place, package.name)
         target.parent.mkdir(parents=True, exist_ok=True)

@@ -16,6 +16,8 @@ SHARE = Path("share/vaqsider")
 # What was installed.
 LIST = SHARE / "installed"
 DOCUMENTS = Path("share/doc/vaqsider")
+PAGES_BESIDE = ("LICENSE", "README.md", "CHANGELOG.md", "SECURITY.md", "command/README.md",
+                "command/zsk-roll.svg", "crates/keyset/README.md")
 # The manual pages of a part.
 PAGES = {"programs": (*PROGRAMS, *LINKS), "command": ("vaqsider",)}
 # The folders of Python that the command consists of.
@@ -68,7 +70,9 @@ class Layout:
             yield from self._library(made)
         if "command" in self.parts:
             yield from self._command(made)
-        yield from self._documents()
+        for place in documents():
+            source = made / "documents" if place.endswith(".md") else TOP
+            yield File(DOCUMENTS / place, source / place)
 
     def _programs(self, made):
         for name in PROGRAMS:
@@ -100,14 +104,14 @@ class Layout:
         for name in PAGES[part]:
             yield File(Path("share/man/man1") / f"{name}.1", made / f"{name}.1")
 
-    def _documents(self):
-        """The licence, and the pages that the header and the manual name, with the examples."""
-        yield File(DOCUMENTS / "LICENSE", TOP / "LICENSE")
-        for source in sorted((TOP / "docs").iterdir()):
-            yield File(DOCUMENTS / "docs" / source.name, source)
-        for folder in ("examples", "examples/cases", "library/c"):
-            for source in filter(Path.is_file, sorted((TOP / folder).iterdir())):
-                yield File(DOCUMENTS / folder / source.name, source)
+
+def documents():
+    """The pages that the header and the manual name, and those beside them, with the examples."""
+    found = list(PAGES_BESIDE)
+    for folder in ("docs", "examples", "library/c"):
+        files = filter(Path.is_file, sorted((TOP / folder).rglob("*")))
+        found += [str(path.relative_to(TOP)) for path in files]
+    return found
 
 
 def header():

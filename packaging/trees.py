@@ -7,6 +7,7 @@ import tempfile
 from contextlib import contextmanager, suppress
 from pathlib import Path
 
+import documents
 import man
 from layout import LAUNCHER, LIST, SHARED, TOP, description
 
@@ -18,6 +19,7 @@ class Missing(Exception):
 def make_pages(folder, layout):
     """Writes what an install has that isn't a file of the repository."""
     man.write(folder)
+    documents.write(folder / "documents")
     (folder / "vaqsider").write_text(LAUNCHER, encoding="utf-8")
     version = (TOP / "VERSION").read_text().strip()
     text = description(layout.libraries, version)

@@ -172,6 +172,16 @@ def expect_contents(folder):
         expect(used in text, f"vaqsider.1 doesn't have the options of {word}")
 
 
+def expect_links(folder):
+    """Each link of a page leads to a file that is installed too."""
+    pages = list(folder.rglob("*.md"))
+    expect(len(pages) > 10, "the pages aren't found")
+    for page in pages:
+        for target in re.findall(r"\]\(([^)\s#]+)", page.read_text(encoding="utf-8")):
+            is_there = "://" in target or (page.parent / target).exists()
+            expect(is_there, f"{page.relative_to(folder)} links to {target}, which isn't there")
+
+
 def expect_functions(page):
     """Each function of the header is on the page of the library, with its declaration."""
     text = page.read_text().replace("\\", "")
@@ -266,6 +276,7 @@ def test(library):
         expect_page(moved / "share" / "man" / "man3" / "keyset.3")
         expect_functions(moved / "share" / "man" / "man3" / "keyset.3")
         expect_contents(moved / "share" / "man" / "man1")
+        expect_links(moved / "share" / "doc" / "vaqsider")
         modes = {mode for mode, content in whole.values() if content is not None}
         expect(modes - {"link"} == {0o644, 0o755}, f"files have the modes {modes}")
         expect_other_folder(room, library)

@@ -1,4 +1,4 @@
-"""Tests the crate for Rust: in its folder, as a package, from a project, and how its build fails."""
+"""Tests the crate for Rust: in its folder, as a package, from a project, and its build's faults."""
 
 import os
 import subprocess
