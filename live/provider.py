@@ -195,10 +195,23 @@ class Provider:
                 for number, version in self.versions.items() if number >= serial
             )
 
-        await watch(self.servers, port, name, "SOA", has_version, f"version {serial}")
-        await watch(self.servers, port, name, "DNSKEY", has_keys, "the new DNSKEY set")
+        for kind, is_there, what in (
+            ("SOA", has_version, f"version {serial}"), ("DNSKEY", has_keys, "the new DNSKEY set"),
+        ):
+            for address in self.servers:
+                await watch(
+                    [address], port, name, kind,
+                    lambda answer: is_there(answer) or self.has_lost(address, kind, answer), what,
+                )
         self.notes.seen("dnskey", serial)
         self.notes.seen("zone", serial)
+
+    def has_lost(self, address, kind, answer):
+        """Whether a server has become the other signer's meanwhile, and gives what that one has
+        signed."""
+        tags = tags_of(answer, kind)
+        own = {key.tag for key in self.keys.values() if self.is_own(key)}
+        return address not in self.servers and bool(tags) and not tags & own
 
     async def watch_other(self):
         """Watches until the other's servers give a DNSKEY set with all ZSKs and CSKs of this one
