@@ -1,6 +1,6 @@
 -- Questions among lines of notes, with one line more.
 use Rattle.std.proofs.Common.{◌≡◌, ℕ, List, [], ◌∷◌, ◌++◌, Option, None, Some, ap, sym, ◌∙◌}
-use Rattle.std.proofs.Common.{append_assoc, refl, true, ◌≢◌}
+use Rattle.std.proofs.Common.{append_assoc, refl, true}
 use Rattle.std.proofs.lemmas.{Bool.true≢false, List.append-nil, List.Elements.filter-append}
 use Rattle.std.proofs.lemmas.Slice.Zip.{all_zipped_more}
 use Rattle.std.specs.{List.AllZip, Option.is_some, Prelude.IsSome, Prelude.is_none}
@@ -76,12 +76,6 @@ pub memory_ended : (moments : List ℕ) (noted : Option NotesParts) (asked : Opt
     → IsAnswerFault moments noted asked line OutOfMemory
 memory_ended moments noted (Some said) line asks begun = begun
 memory_ended moments noted None line asks begun = absurd (true≢false asks)
-
--- whoever answers but nothing if there are no notes has some
-pub has_notes : {A : Type 0} (noted : Option NotesParts) (r nothing : A)
-    → (noted ≡ None → r ≡ nothing) → r ≢ nothing → IsSome noted
-has_notes None r nothing none other = absurd (other (none refl))
-has_notes (Some notes) r nothing none other = tt
 
 -- the same of all answers
 pub zip_weaker : {A B : Type 0} (R S : A → B → Type 0) (xs : List A) (ys : List B)

@@ -1,5 +1,5 @@
 -- The line is taken, or answered.
-use Rattle.std.proofs.Common.{Option, ap, string_bytes, subst, sym}
+use Rattle.std.proofs.Common.{Option, ap, refl, string_bytes, subst, sym}
 use Rattle.std.proofs.Common.{◌∙◌}
 use Rattle.std.proofs.lemmas.{List.map-append}
 use Rattle.std.specs.Option.{is_some, option_map}
@@ -38,5 +38,5 @@ returns-after-push-clause-err c = elim c.match-push.branch [
       memory_ended (moments_of entries) c.args.notes.now _ c.args.line.now
       (sym (ap is_some c.in-Some.is) ∙ c.in_ok-answer_line.ensures.question)
       (subst (λ (o : Option (String Global)). IsSome o → IsSome c.args.notes.now) c.in-Some.is
-      c.in_ok-answer_line.ensures.begun tt))
+      c.in_ok-answer_line.ensures.begun refl))
 ]
