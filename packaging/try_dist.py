@@ -197,6 +197,8 @@ def bare(room, architecture):
         run("debootstrap", f"--arch={architecture.debian}", "--variant=minbase", SUITE, making,
             MIRROR)
         shutil.copy("/etc/resolv.conf", making / "etc" / "resolv.conf")
+        # (Nothing there has to outlive a crash.)
+        (making / "etc/dpkg/dpkg.cfg.d/unsafe-io").write_text("force-unsafe-io\n")
         making.rename(root)
     return root
 
