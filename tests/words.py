@@ -99,7 +99,12 @@ class Row:
     name: Optional[bytes] = b"keyset"
 
 
-def rows() -> Iterator[Row]:
+def runner_of(program):
+    """What a program runs under. The proved one is always of this machine."""
+    return [] if program == PROGRAM else RUNNER
+
+
+def rows(program) -> Iterator[Row]:
     for arguments, (given, written) in WORDS.items():
         yield Row(arguments, given, 0, written, b"")
     for arguments, said in REFUSED.items():
@@ -113,7 +118,7 @@ def rows() -> Iterator[Row]:
         if words:
             yield Row((b"status",), given, USAGE, b"", MORE, name)
             yield Row((b"--version", b"notes"), given, USAGE, b"", MORE, name)
-    if not RUNNER:
+    if not runner_of(program):
         yield Row((), SCRIPT, 0, ANSWERS, b"", None)
     # Notes with a fault are no script, and a script is no notes.
     yield Row((b"notes",), SCRIPT, 1, b"", b"notes: line 1: malformed\n")
@@ -132,8 +137,8 @@ def called(program, name, arguments, **how):
     how = {"stdout": subprocess.PIPE, "stderr": subprocess.PIPE, **how}
     if name is None:
         ran = subprocess.run([program], preexec_fn=lambda: without_arguments(program), **how)
-    elif RUNNER:
-        ran = subprocess.run([*RUNNER, "-0", name, program, *arguments], **how)
+    elif runner := runner_of(program):
+        ran = subprocess.run([*runner, "-0", name, program, *arguments], **how)
     else:
         ran = subprocess.run([name, *arguments], executable=program, **how)
     return ran.returncode, ran.stdout or b"", ran.stderr
@@ -142,7 +147,7 @@ def called(program, name, arguments, **how):
 def expect_rows(program):
     """The program keeps each row. Gives how many there are."""
     count = 0
-    for row in rows():
+    for row in rows(program):
         ended = called(program, row.name, row.arguments, input=row.given)
         if ended != (row.status, row.written, row.said):
             asked = f"{row.name and row.name[:50]!r} {[word[:50] for word in row.arguments]}"
