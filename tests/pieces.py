@@ -14,7 +14,7 @@ from typed import TOP
 
 sys.path.insert(0, str(TOP / "replay"))
 
-SEED, SCRIPTS = 60, 30
+SEED, SCRIPTS, PART = 60, 30, 6
 # After it only the ZSK role of a CSK signs, with no roll in progress: no setter makes that.
 UNLIKE = """zone example.com
 add-csk C1 - 13 1 0 yes
@@ -49,22 +49,21 @@ def accepted(lines):
 
 
 def scripts():
-    """The examples, the scripts that were made by hand, and one that falls out of pieces."""
+    """The examples, a part of the scripts made by hand, and one that falls out of pieces."""
+    from make_scripts import by_hand
+
     yield from (lines for _, lines in examples())
-    for block in (TOP / "replay" / "by_hand.txt").read_text().split("zone ")[1:]:
-        yield f"zone {block}".splitlines()
+    yield from list(by_hand().values())[::PART]
     yield UNLIKE.splitlines()
 
 
 def states():
     """What is published after each call, piece by piece, is what the tables have."""
     from keyset import pieces
-    from keyset.lines import FORMS
 
     whole = mock.Mock(wraps=pieces.ProgramSession)
     with mock.patch.object(pieces, "ProgramSession", whole):
         for lines in scripts():
-            lines = [lines[0], *(it for it in lines[1:] if it.split(" ")[0] in FORMS)]
             kept, shown = accepted(lines)
             if [state.published for state in pieces.follow(kept)] != shown:
                 yield f"in pieces {kept} publishes something else"
@@ -79,7 +78,7 @@ def perturbed(chance):
     def report(found):
         if chance.random() < 0.6:
             return found[0]
-        ttl, later = chance.choice((59, 60, 61, 500, 0)), chance.choice((0, 0, -1, 1, -6, 5))
+        ttl, later = chance.choice((59, 60, 61, 500, 0)), chance.choice((0, 0, -1, 1, -6, 5, -15))
         return f"{found[1]} {ttl} {max(0, int(found[2]) + later)}"
 
     def published(found):

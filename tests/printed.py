@@ -89,8 +89,12 @@ def run():
         words = ["true" if it.startswith("rndc") else it for it in words]
         if word == "call" and f"next: {shlex.join(['vaqsider', word, *words])}\n" != said[1]:
             yield f"init prints {said}, and README has {words}"
-        servers = ["--server", "example.com.zone.signed"] if word == "watch" else []
-        text, status = typed([word, *words, *servers], 1000)
+        if word == "watch":
+            # One look has to do: the server gives the zone that was written.
+            Path("signed").write_text(Path("example.com.zone.signed").read_text())
+            at = words.index("--for")
+            words = [*words[:at], *words[at + 2 :], "--server", "signed"]
+        text, status = typed([word, *words], 1000)
         said = text.splitlines(True)
         if status:
             yield f"{line}: {text}"
