@@ -7,10 +7,10 @@ After what `rt ci` prints comes a line for each crate, which the gate prints too
 
     proof of CRATE over SUM: LINE
 
-SUM is that of the toolchain and of all files that the proof has read: those of the crate, of the
-crates below it, and crates.txt and HANDLES. LINE is the last line of the proof, or says that the
-crate is kept: `rt ci` found that an earlier run on the same machine had proved the same files. A
-crate whose files changed meanwhile has no line. `make dist` reads such lines.
+SUM is that of the toolchain, of HANDLES, and of all files that the proof has read: those of the
+crate and of the crates below it, with their lines of crates.txt. LINE is the last line of the proof,
+or says that the crate is kept: `rt ci` found that an earlier run on the same machine had proved the
+same files. A crate whose files changed meanwhile has no line. `make dist` reads such lines.
 """
 
 import hashlib
@@ -29,16 +29,20 @@ PROVED = re.compile(r"rt: (\w+) proved")
 KEPT = re.compile(r"rt: (\w+) is kept: (.*)")
 IS_KEPT = "kept: "
 LINE = re.compile(r"proof of (?P<crate>\w+) over (?P<sum>[0-9a-f]{64}): (?P<last>.*)")
-# What every proof reads beside its crates.
-COMMON = ("crates.txt", "HANDLES")
 PARTS = ("src", "specs", "proofs")
+
+
+def rows_of_crates():
+    """The lines of crates.txt, by the names of their crates, lowest first."""
+    text = (TOP / "crates.txt").read_text(encoding="utf-8")
+    lines = (line.partition("#")[0].strip() for line in text.splitlines())
+    return {line.split()[0].rstrip(":"): line for line in lines if line}
 
 
 def crates():
     """The crates of the repository, lowest first, each with those that its line names."""
-    lines = (TOP / "crates.txt").read_text(encoding="utf-8").splitlines()
-    rows = (line.partition("#")[0].partition(":") for line in lines)
-    named = {name.split()[0]: on.split() for name, _, on in rows if name.strip()}
+    rows = rows_of_crates()
+    named = {crate: line.partition(":")[2].split() for crate, line in rows.items()}
     return {crate: [name for name in on if name in named] for crate, on in named.items()}
 
 
@@ -60,10 +64,10 @@ def toolchain():
 
 def sums():
     """The sum of what the proof of each crate reads."""
-    first = toolchain() + "".join(row(TOP / name) for name in COMMON)
+    first = toolchain() + row(TOP / "HANDLES")
     below, rows, found = crates(), {}, {}
-    for crate in below:
-        rows[crate] = "".join(map(row, files_of(crate)))
+    for crate, line in rows_of_crates().items():
+        rows[crate] = f"{line}\n" + "".join(map(row, files_of(crate)))
         read = first + "".join(rows[name] for name in [*all_below(crate, below), crate])
         found[crate] = hashlib.sha256(read.encode()).hexdigest()
     return found
