@@ -62,6 +62,8 @@ ADDS = "".join(f"add-zsk A{tag} - 13 {tag} 0 yes\n" for tag in range(3, 99))
 ASKED = {(PROGRAM,): BEGUN, STATUS: BEGUN, NOTES: BEGUN + NOTED}
 # Words with which it reads nothing.
 UNREAD = ("--version", "--help", "none")
+# How it refuses a call for lack of memory.
+OUT_OF_MEMORY = "refused: out of memory"
 # What it says of a request that fails.
 LACKED = re.compile(r"((script|notes): )?out of memory\n")
 
@@ -134,7 +136,8 @@ def is_refused(where, outcome):
 
 def in_turn_of_program(allocator, command, text):
     """Lets each request of the program fail. It then says so and answers nothing, or asks for less
-    and answers as with ample memory. Gives how many failed."""
+    and answers as with ample memory. Without a word it may also refuse one call. Gives how many
+    failed."""
     name = " ".join([PROGRAM.name, *command[1:]])
     ample = outcome_of(allocator, command, text, 0)
     if ample.status or ample.said or not ample.written or not ample.made:
@@ -144,11 +147,19 @@ def in_turn_of_program(allocator, command, text):
         outcome = outcome_of(allocator, command, text, failing)
         is_refused = outcome.status == 3 and not outcome.written and LACKED.fullmatch(outcome.said)
         is_ample = (outcome.status, outcome.written, outcome.said) == (0, ample.written, "")
-        if not (is_refused or is_ample):
+        is_of_call = len(command) == 1 and refuses_call(outcome, ample)
+        if not (is_refused or is_ample or is_of_call):
             raise Wrong(f"{name}: request {failing}: {outcome}")
         refused += bool(is_refused)
     print(f"{name}: {ample.made} requests for memory failed in turn, {refused} ended it")
     return ample.made
+
+
+def refuses_call(outcome, ample):
+    """Whether the program answers each call, and refuses one for lack of memory."""
+    lines, wanted = outcome.written.splitlines(), ample.written.splitlines()
+    is_answered = (outcome.status, outcome.said, len(lines)) == (0, "", len(wanted))
+    return is_answered and lines.count(OUT_OF_MEMORY) == 1
 
 
 def expect_none(allocator):
