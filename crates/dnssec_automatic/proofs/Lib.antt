@@ -1,0 +1,1 @@
+-- A zone that rolls by itself.
