@@ -1,5 +1,6 @@
 pub mod Asked
 pub mod ByAlgorithm
+pub mod Changes
 pub mod EarlyEnds
 pub mod Moments
 pub mod Origins

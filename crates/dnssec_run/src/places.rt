@@ -1,5 +1,5 @@
 //! The places of one key in the sets.
-ghost use Rattle.std.specs.Prelude.{◌≡◌, ◌||◌, map, IfOk, IfErr, OnOk, true, false};
+ghost use Rattle.std.specs.Prelude.{◌≡◌, ◌||◌, map, IfOk, IfErr, OnOk, true, false, None};
 ghost use Rattle.std.specs.BTreeMap as tree;
 ghost use Rattle.std.specs.Option.{option_map};
 ghost use Rattle.dnssec_base.specs.declared.error.Error.TheVariants.{OutOfMemory};
@@ -7,6 +7,7 @@ ghost use Rattle.dnssec_run.specs.Published.{IsPublished, World, id_of};
 ghost use Rattle.dnssec_run.specs.Recorder.{Agrees, ChangesAt, IsAscending, Leaves, SetsPlace};
 ghost use Rattle.dnssec_run.specs.Recorder.{position_shown, shows};
 
+use crate::changes::Changes;
 use crate::record::{Published, PublishedKey, Touched};
 use crate::sets::Shown;
 use dnssec_keyset::{Error, Key, KeySet};
@@ -21,6 +22,7 @@ pub(crate) fn renew_key(
     sets: &mut Published,
     touched: Touched<'_>,
     reference: &str,
+    changes: &mut Changes,
 ) -> Result<bool, Error>
     ensures kept { IfOk result (λ changed. changed ≡ false → sets.new ≡ sets.old) }
     ensures read { OnOk result ((v w : World) → IsPublished sets.old v → Leaves touched.entry v w →
@@ -32,15 +34,35 @@ pub(crate) fn renew_key(
     let at = added.get(reference).copied();
     let to = position(Shown::Ds, key, at);
     let ds = renew_place(alloc, touched.ds, &mut sets.ds, to, reference)?;
+    note(changes, Shown::Ds, ds)?;
     let to = position(Shown::Dnskey, key, at);
     let dnskey = renew_place(alloc, touched.dnskey, &mut sets.dnskey, to, reference)?;
+    note(changes, Shown::Dnskey, dnskey)?;
     let to = position(Shown::DnskeySigners, key, at);
     let keys = &mut sets.dnskey_signers;
     let signers = renew_place(alloc, touched.dnskey, keys, to, reference)?;
+    note(changes, Shown::DnskeySigners, signers)?;
     let to = position(Shown::ZoneSigners, key, at);
     let keys = &mut sets.zone_signers;
     let zone = renew_place(alloc, touched.zone_signers, keys, to, reference)?;
-    Ok(ds | dnskey | signers | zone)
+    note(changes, Shown::ZoneSigners, zone)?;
+    Ok(ds.is_some() | dnskey.is_some() | signers.is_some() | zone.is_some())
+}
+
+/// Where a key was put in or taken out.
+#[derive(Clone, Copy)]
+enum Moved {
+    In(usize),
+    Out(usize),
+}
+
+/// Notes what has changed in a list.
+fn note(changes: &mut Changes, shown: Shown, moved: Option<Moved>) -> Result<(), Error> {
+    match moved {
+        Some(Moved::In(place)) => changes.comes(shown, place),
+        Some(Moved::Out(place)) => changes.goes(shown, place),
+        None => Ok(()),
+    }
 }
 
 /// The position of a key, if the set shows it.
@@ -61,8 +83,8 @@ fn renew_place(
     keys: &mut Vec<PublishedKey>,
     at: Option<usize>,
     reference: &str,
-) -> Result<bool, Error>
-    ensures kept { IfOk result (λ changed. changed ≡ false → keys.new ≡ keys.old) }
+) -> Result<Option<Moved>, Error>
+    ensures kept { IfOk result (λ moved. moved ≡ None → keys.new ≡ keys.old) }
     ensures ok { OnOk result (is_touched ≡ true → IsAscending (map id_of keys.old.items) →
         SetsPlace reference.now at (map id_of keys.old.items) (map id_of keys.new.items)) }
     ensures left { OnOk result (is_touched ≡ false →
@@ -70,7 +92,7 @@ fn renew_place(
     ensures err { IfErr result (λ e. e ≡ OutOfMemory) }
 {
     if !is_touched {
-        return Ok(false);
+        return Ok(None);
     }
     set_place(alloc, keys, at, reference)
 }
@@ -82,8 +104,8 @@ fn set_place(
     keys: &mut Vec<PublishedKey>,
     at: Option<usize>,
     reference: &str,
-) -> Result<bool, Error>
-    ensures kept { IfOk result (λ changed. changed ≡ false → keys.new ≡ keys.old) }
+) -> Result<Option<Moved>, Error>
+    ensures kept { IfOk result (λ moved. moved ≡ None → keys.new ≡ keys.old) }
     ensures ok { OnOk result (IsAscending (map id_of keys.old.items) →
         SetsPlace reference.now at (map id_of keys.old.items) (map id_of keys.new.items)) }
     ensures err { IfErr result (λ e. e ≡ OutOfMemory) }
@@ -91,18 +113,18 @@ fn set_place(
     match keys.binary_search_by(|key| key.reference.as_str().cmp(reference)) {
         Ok(place) => {
             if at.is_some() {
-                return Ok(false);
+                return Ok(None);
             }
             keys.remove(place);
-            Ok(true)
+            Ok(Some(Moved::Out(place)))
         }
         Err(place) => {
             let Some(added) = at else {
-                return Ok(false);
+                return Ok(None);
             };
             let key = published_key(alloc, reference, added)?;
             keys.insert(place, key)?;
-            Ok(true)
+            Ok(Some(Moved::In(place)))
         }
     }
 }

@@ -6,6 +6,7 @@ ghost use Rattle.std.specs.Option.{option_map};
 ghost use Rattle.std.specs.Prelude.{false, Some, None, if◌then◌else◌};
 ghost use Rattle.dnssec_base.specs.declared.error.Error.TheVariants.{OutOfMemory};
 ghost use Rattle.dnssec_run.specs.Asked.{ChangesAsAsked, RetiresAsAsked};
+ghost use Rattle.dnssec_run.specs.Changes.{LeadTo, listed};
 ghost use Rattle.dnssec_run.specs.EarlyEnds.{UndoesStarts};
 ghost use Rattle.dnssec_run.specs.WholeRolls.{GoesOn, NeverMissesStamp, RollsFinish};
 ghost use Rattle.dnssec_run.specs.WholeRolls.{SettlesBetweenRolls, WaitsExactly};
@@ -19,6 +20,7 @@ ghost use Rattle.dnssec_run.specs.declared.call.Call.{Call};
 ghost use Rattle.dnssec_run.specs.declared.record.Entry.{Entry};
 
 use crate::call::{Call, KeyChange};
+use crate::changes::{Change, Changes};
 use crate::record::{Entry, Mark, Outcome, Published, Reply, Run};
 use crate::sets::{WalkOrder, copy_sets, renew};
 use dnssec_base::Name;
@@ -61,7 +63,8 @@ fn note(
 /// let mut recorder = Recorder::new(alloc, name);
 /// for call in calls {
 ///     let outcome = recorder.advance(alloc, call)?;
-///     judge.note(alloc, outcome.mark, outcome.moment, recorder.news(&outcome))?;
+///     let (published, changes) = (recorder.published(), recorder.changes());
+///     judge.note_changes(alloc, outcome.mark, outcome.moment, published, changes)?;
 /// }
 /// ```
 #[derive(Drop)]
@@ -72,6 +75,8 @@ pub struct Recorder {
     order: WalkOrder,
     /// What is published.
     published: Published,
+    /// What the last call has changed of it.
+    changes: Changes,
     /// How many calls were made.
     at: usize,
 }
@@ -87,6 +92,7 @@ impl Recorder {
             added: BTreeMap::new(alloc),
             order: WalkOrder::new(alloc),
             published: Published::none(alloc),
+            changes: Changes::none(alloc),
             at: 0,
         }
     }
@@ -110,11 +116,14 @@ impl Recorder {
             Records name (calls ++ call.entry ∷ []) (entries ++ entry ∷ []) self.new) }
         ensures kept { IfOk result (λ outcome. outcome.may_publish ≡ false →
             self.new.published ≡ self.old.published) }
+        ensures changes { OnOk result (LeadTo (listed self.new.changes) self.old.published
+            self.new.published) }
         ensures err { IfErr result (λ e. e ≡ OutOfMemory) }
     {
         let Some(at) = self.at.checked_add(1) else {
             return Err(Error::OutOfMemory);
         };
+        self.changes.clear();
         let moment = call.moment();
         let mark = call.mark();
         let by_hand = call.by_hand();
@@ -138,6 +147,7 @@ impl Recorder {
             &mut self.order,
             &mut self.published,
             touched,
+            &mut self.changes,
         )?;
         Ok(Outcome {
             reply,
@@ -190,6 +200,14 @@ impl Recorder {
         }
     }
 
+    /// What the last call has changed of what is published, key by key; or `None` if it has changed
+    /// so much that the sets have to be read anew.
+    pub fn changes(&self) -> Option<&[Change]>
+        ensures { option_map (λ changes. changes.now) result ≡ listed self.now.changes }
+    {
+        self.changes.list()
+    }
+
     /// The key set after the calls so far, to look at.
     pub fn keyset(&self) -> &KeySet
         ensures { result.now ≡ self.now.keyset }
@@ -215,6 +233,7 @@ impl Recorder {
             added,
             order: WalkOrder::new(alloc),
             published: copy_sets(alloc, &self.published)?,
+            changes: Changes::none(alloc),
             at: self.at,
         })
     }

@@ -5,10 +5,12 @@ ghost use Rattle.std.specs.BTreeMap as tree;
 ghost use Rattle.std.specs.HashMap as hash;
 ghost use Rattle.std.specs.Option.{option_map};
 ghost use Rattle.dnssec_base.specs.declared.error.Error.TheVariants.{OutOfMemory};
+ghost use Rattle.dnssec_run.specs.Changes.{LeadTo, listed};
 ghost use Rattle.dnssec_run.specs.Published.{IsPublished, World, id_of};
 ghost use Rattle.dnssec_run.specs.Recorder.{Agrees, AreFound, ChangesOnly, HasSameKeys, Leaves};
 ghost use Rattle.dnssec_run.specs.Recorder.{ids_read, shown_once, shows};
 
+use crate::changes::Changes;
 use crate::places::renew_key;
 use crate::record::{Published, PublishedKey, Touched};
 use dnssec_keyset::{Error, Key, KeySet, KeyType};
@@ -108,6 +110,7 @@ impl Renewal {
         key: Option<&Key>,
         reference: &String,
         added: usize,
+        changes: &mut Changes,
     ) -> Result<(), Error>
         requires { self.old.read ≤ vec_len self.old.keys }
         ensures ok { OnOk result (self.old.is_touched ≡ true →
@@ -131,17 +134,23 @@ impl Renewal {
                 if is_shown {
                     self.read += 1;
                 } else {
-                    self.take_next();
+                    self.take_next(shown, changes)?;
                 }
                 Ok(())
             }
-            _ if is_shown => self.put(reference, added),
+            _ if is_shown => self.put(shown, reference, added, changes),
             _ => Ok(()),
         }
     }
 
     /// Puts a key in.
-    fn put(&mut self, reference: &String, added: usize) -> Result<(), Error>
+    fn put(
+        &mut self,
+        shown: Shown,
+        reference: &String,
+        added: usize,
+        changes: &mut Changes,
+    ) -> Result<(), Error>
         requires { self.old.read ≤ vec_len self.old.keys }
         ensures ok { OnOk result (ids_read self.new
             ≡ ids_read self.old ++ (string_bytes reference.now, added) ∷ []) }
@@ -150,28 +159,31 @@ impl Renewal {
         ensures err { IfErr result (λ e. e ≡ OutOfMemory) }
     {
         let key = published_key(reference, added)?;
-        self.count_change();
+        self.count_change(changes);
         self.keys.insert(self.read, key)?;
+        changes.comes(shown, self.read)?;
         self.read += 1;
         Ok(())
     }
 
     /// Takes the next key of before out.
-    fn take_next(&mut self)
+    fn take_next(&mut self, shown: Shown, changes: &mut Changes) -> Result<(), Error>
         requires { self.old.read ≤ vec_len self.old.keys }
         ensures same { ids_read self.new ≡ ids_read self.old }
         ensures touched { self.new.is_touched ≡ self.old.is_touched }
         ensures fits { self.new.read ≤ vec_len self.new.keys }
     {
-        self.count_change();
+        self.count_change(changes);
         if self.read < self.keys.len() {
             self.keys.remove(self.read);
+            changes.goes(shown, self.read)?;
         }
+        Ok(())
     }
 
     /// After many changes in place drops what is left of before. So a set takes time for its keys,
     /// and not for their square.
-    fn count_change(&mut self)
+    fn count_change(&mut self, changes: &mut Changes)
         requires { self.old.read ≤ vec_len self.old.keys }
         ensures same { ids_read self.new ≡ ids_read self.old }
         ensures touched { self.new.is_touched ≡ self.old.is_touched }
@@ -179,7 +191,10 @@ impl Renewal {
     {
         match self.changes_left.checked_sub(1) {
             Some(left) => self.changes_left = left,
-            None => self.keys.truncate(self.read),
+            None => {
+                self.keys.truncate(self.read);
+                changes.are_many();
+            }
         }
     }
 
@@ -278,6 +293,7 @@ fn read_sets(
     order: &mut WalkOrder,
     sets: &mut Published,
     touched: Touched<'_>,
+    changes: &mut Changes,
 ) -> Result<(), Error>
     ensures ok { OnOk result ((v w : World) → IsPublished sets.old v → Leaves touched.entry v w →
         Agrees keyset.now (tree.get_by_text added.now) w → IsPublished sets.new w) }
@@ -294,10 +310,10 @@ fn read_sets(
         let place = order.places.get(rank).copied().unwrap_or(rank);
         let key = key_at(keys, &entries, place, reference);
         rank = rank.saturating_add(1);
-        ds.show(Shown::Ds, key, reference, *position)?;
-        dnskey.show(Shown::Dnskey, key, reference, *position)?;
-        dnskey_signers.show(Shown::DnskeySigners, key, reference, *position)?;
-        zone_signers.show(Shown::ZoneSigners, key, reference, *position)?;
+        ds.show(Shown::Ds, key, reference, *position, changes)?;
+        dnskey.show(Shown::Dnskey, key, reference, *position, changes)?;
+        dnskey_signers.show(Shown::DnskeySigners, key, reference, *position, changes)?;
+        zone_signers.show(Shown::ZoneSigners, key, reference, *position, changes)?;
     }
     sets.ds = ds.into_keys();
     sets.dnskey = dnskey.into_keys();
@@ -315,8 +331,11 @@ pub(crate) fn renew(
     order: &mut WalkOrder,
     sets: &mut Published,
     touched: Touched<'_>,
+    changes: &mut Changes,
 ) -> Result<bool, Error>
     ensures kept { IfOk result (λ changed. changed ≡ false → sets.new ≡ sets.old) }
+    ensures changes { OnOk result (listed changes.old ≡ Some [] →
+        LeadTo (listed changes.new) sets.old sets.new) }
     ensures read { OnOk result ((v w : World) → IsPublished sets.old v → Leaves touched.entry v w →
         ChangesOnly (option_map (λ r. r.now) touched.entry.only) v w →
         Agrees keyset.now (tree.get_by_text added.now) w → IsPublished sets.new w) }
@@ -332,9 +351,9 @@ pub(crate) fn renew(
         Touched {
             only: Some(reference),
             ..
-        } => renew_key(alloc, keyset, added, sets, touched, reference),
+        } => renew_key(alloc, keyset, added, sets, touched, reference, changes),
         Touched { only: None, .. } => {
-            read_sets(alloc, keyset, added, order, sets, touched)?;
+            read_sets(alloc, keyset, added, order, sets, touched, changes)?;
             Ok(true)
         }
     }
