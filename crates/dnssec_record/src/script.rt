@@ -137,8 +137,9 @@ fn answer_to(alloc: Global, script: &[u8]) -> Result<String, ScriptFault>
         let Ok(outcome) = statement.advance(alloc, &mut recorder) else {
             return Err(ScriptFault::OutOfMemory);
         };
-        let news = recorder.news(&outcome);
-        let Ok(()) = judge.note(alloc, outcome.mark, outcome.moment, news) else {
+        let (published, changes) = (recorder.published(), recorder.changes());
+        let Ok(()) = judge.note_changes(alloc, outcome.mark, outcome.moment, published, changes)
+        else {
             return Err(ScriptFault::OutOfMemory);
         };
         push_answer(&mut text, &outcome.reply)?;

@@ -258,8 +258,11 @@ impl Session {
         let Ok(outcome) = self.recorder.advance(alloc, call) else {
             return Err(AllocError);
         };
-        let news = self.recorder.news(&outcome);
-        let Ok(()) = self.judge.note(alloc, outcome.mark, outcome.moment, news) else {
+        let (published, changes) = (self.recorder.published(), self.recorder.changes());
+        let Ok(()) = self
+            .judge
+            .note_changes(alloc, outcome.mark, outcome.moment, published, changes)
+        else {
             return Err(AllocError);
         };
         self.courses.take(alloc, turn.after(&outcome.reply))?;

@@ -1,2 +1,3 @@
-pub mod Chained
+pub mod Bits
+pub mod Numbers
 pub mod Sets
