@@ -1,0 +1,77 @@
+-- A roll is ended, and a key deleted, once all servers give what the last actions wait for.
+use Rattle.std.proofs.Common.{◌≡◌, ℕ, ◌≤◌, ap, arith, inl, inr, List, subst, sym, false, true, ◌∙◌}
+use Rattle.std.proofs.lemmas.{Bool.and_parts, Option.same_Some}
+use Rattle.std.specs.{FinMap.get, Prelude.not}
+use Rattle.dnssec_key.specs.Key.{all_states}
+use Rattle.dnssec_key.specs.State.{is_stale}
+use Rattle.dnssec_key.specs.declared.roll.RollType.{RollType}
+use Rattle.dnssec_keyset.specs.KeySet.{KeySetParts}
+use Rattle.dnssec_keyset.specs.Step as keyset
+use Rattle.dnssec_run.specs.declared.call.Call.{Call}
+use Rattle.dnssec_run.specs.declared.caches.SetKind.{SetKind}
+use Rattle.dnssec_run.specs.Record.{call_of}
+use Rattle.dnssec_run.specs.Safe.{kind_of}
+use Rattle.dnssec_network.specs.declared.reach.Reach.TheVariants.{Everywhere}
+use Rattle.dnssec_network.specs.Facts.{AreTrue}
+use Rattle.dnssec_network.specs.Network.{Network, NeverGoesBack}
+use Rattle.dnssec_network.specs.Reach.{AllGive}
+use Rattle.dnssec_network.proofs.Reached.{all-give}
+use Rattle.dnssec_policy.specs.Automatic.{is_add}
+use Rattle.dnssec_policy.specs.Keys.{is_rolled}
+use Rattle.dnssec_policy.specs.Laws.{AutomaticDeletionsFollow, AutomaticEndsFollow}
+use Rattle.dnssec_policy.specs.View.{View, reach_in}
+use Rattle.dnssec_policy.proofs.{May.May, Said.may, Said.not-so}
+
+-- an add ends no roll, and deletes no key
+add-ends : (c : Call) → is_add c ≡ true → (roll : RollType) → call_of c ≡ keyset.RollDone roll → ⊥
+add-ends c h roll e = grind arith
+
+add-deletes : (c : Call) → is_add c ≡ true → (q : List ℕ) → call_of c ≡ keyset.DeleteKey q → ⊥
+add-deletes c h q e = grind arith
+
+-- what is noted to be there at the moment is there since the call
+since-call : (v : View) (network : Network) (time made base : ℕ) (kind : SetKind)
+    → AreTrue v.before v.facts network time → v.now ≤ made → reach_in v kind base ≡ Everywhere
+    → NeverGoesBack network (kind_of kind) base time
+    → AllGive network (kind_of kind) base made time
+since-call v network time made base kind are clock there back u t from by given =
+    all-give v.before v.facts network time are (kind_of kind) base v.now there back u t
+    (omega (arith, clock, from)) by given
+
+pub follows : AutomaticEndsFollow
+follows name calls entries network time n call roll kind base auto ci is asks last back =
+    elim (auto n call ci) [
+      | inl a ↦ absurd (add-ends call a roll is)
+      | inr s ↦
+          let v = s.view in
+          let m : May s.policy v (keyset.RollDone roll) =
+          subst (May s.policy v) is (may s.policy v (call_of call) s.said) in
+          let at : m.1 ≡ base = same_Some m.1 base (sym m.2 ∙ s.at.last roll ∙ last) in
+          let there : reach_in v kind base ≡ Everywhere =
+          subst (λ b. reach_in v kind b ≡ Everywhere) at (m.3 kind asks) in
+          since-call v network time _ base kind s.at.are_true s.clock there back
+    ]
+
+pub leaves : AutomaticDeletionsFollow
+leaves name calls entries network time n call q auto ci is =
+    elim (auto n call ci) [
+      | inl a ↦ absurd (add-deletes call a q is)
+      | inr s ↦
+          let v = s.view in
+          let m : May s.policy v (keyset.DeleteKey q) =
+          subst (May s.policy v) is (may s.policy v (call_of call) s.said) in
+          let k = m.0 in
+          let out : is_rolled v.set.rolls k.keytype ≡ false =
+          not-so (is_rolled v.set.rolls k.keytype)
+          (and_parts (all_states is_stale k.keytype)
+          (not (is_rolled v.set.rolls k.keytype)) m.2).1 in (
+            (
+              k,
+              ap (λ (set : KeySetParts). get set.keys q) (sym s.at.set) ∙ m.1,
+              ap (λ (set : KeySetParts). is_rolled set.rolls k.keytype) (sym s.at.set) ∙ out,
+            ),
+            λ roll kind base asks last back.
+                since-call v network time _ base kind s.at.are_true s.clock
+                (m.3 roll base (s.at.last roll ∙ last) kind asks) back,
+          )
+    ]

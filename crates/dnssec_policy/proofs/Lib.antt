@@ -1,0 +1,32 @@
+-- What carries each law:
+--
+-- | Law                               | Lemma                                 | File      |
+-- |-----------------------------------|---------------------------------------|-----------|
+-- | all of them                       | `may`                                 | Said      |
+-- | `automatic_runs_are_plain`        | `automatic-plain`                     | Automatic |
+-- | the same, clause `whole`          | `automatic-whole`                     | Whole     |
+-- | `automatic_reports_are_by_notes`  | `by-notes`, `none-ahead`              | Notes     |
+-- | `automatic_runs_reach_resolvers`  | those, and the network's              | Notes     |
+-- | `next_is_accepted`                | `clear`                               | Clear     |
+-- | `automatic_ends_follow`           | `follows`                             | Ends      |
+-- | `automatic_deletions_follow`      | `leaves`                              | Ends      |
+-- | `next_goes_on`                    | `prompt`, `ahead`                     | Prompt    |
+-- | `starts_are_in_time`              | `renewals-in-time`, `changes-in-time` | InTime    |
+-- | `rest_is_as_wanted`               | `as-wanted`                           | Rests     |
+-- | `automatic_runs_grow`             | `grows`                               | Growing   |
+pub mod May
+pub mod Said
+pub mod Accepted
+pub mod Clear
+pub mod Automatic
+pub mod Whole
+pub mod Notes
+pub mod Ends
+pub mod Order
+pub mod Steps
+pub mod Prompt
+pub mod InTime
+pub mod Rests
+pub mod Growing
+pub mod InOrder
+pub mod Loops

@@ -1,0 +1,128 @@
+-- Reports that are said are by notes, and no moment that is said lies ahead of the clock.
+use Rattle.std.proofs.Common.{◌≡◌, ℕ, zero, suc, inl, inr, Bool, true, List}
+use Rattle.std.proofs.Common.{None, Some, length, refl, sym, ap, subst, ◌∙◌, arith}
+use Rattle.std.proofs.lemmas.Bool.{cases_lt}
+use Rattle.std.proofs.lemmas.Option.{none-some, slice_get_past}
+use Rattle.std.specs.Option.{option_map}
+use Rattle.dnssec_key.specs.declared.roll.RollType.{RollType}
+use Rattle.dnssec_key.specs.RollTable.{First, Second}
+use Rattle.dnssec_keyset.specs.Step as keyset
+use Rattle.dnssec_run.specs.declared.call.Call.{Call}
+use Rattle.dnssec_run.specs.declared.record.Entry.{Entry}
+use Rattle.dnssec_run.specs.declared.record.Mark.TheVariants.{Other, Report}
+use Rattle.dnssec_run.specs.declared.steps.LastStep.{LastStep}
+use Rattle.dnssec_run.specs.{Origins.origin, Steps.origin_in, Steps.step_at}
+use Rattle.dnssec_run.specs.Record.{IsRun, call_moment, call_of}
+use Rattle.dnssec_run.specs.Safe.{base_below, position_at}
+use Rattle.dnssec_run.specs.WholeRolls.{is_second}
+use Rattle.dnssec_run.proofs.Chain.Trust.{mark, moment, plainly}
+use Rattle.dnssec_run.proofs.Laws.{made-at}
+use Rattle.dnssec_run.proofs.Since.{origin-of}
+use Rattle.dnssec_run.proofs.WholeRolls.Replies.{outcome, position-is}
+use Rattle.dnssec_network.specs.Facts.{AreTrue}
+use Rattle.dnssec_network.specs.Network.{Network, NoneLiesAhead}
+use Rattle.dnssec_network.specs.Reports.{IsByNotes, ReportsAreByNotes}
+use Rattle.dnssec_policy.specs.declared.policy.Policy.{Policy}
+use Rattle.dnssec_policy.specs.Automatic.{IsAutomatic, is_add}
+use Rattle.dnssec_policy.specs.View.{View}
+use Rattle.dnssec_policy.proofs.{Automatic.said, May.May}
+
+-- ---- one call
+
+-- a report is by the notes by which it was said
+by-view : (policy : Policy) (v : View) (network : Network) (time : ℕ)
+    → AreTrue v.before v.facts network time
+    → (c : keyset.Call) → May policy v c → (roll : RollType) (second : Bool) (step : LastStep)
+    → (at ttl : ℕ) → v.step roll ≡ Some step → mark c ≡ Report roll second ttl
+    → moment c ≡ Some at → IsByNotes network roll second (origin_in step.origins) at ttl time
+by-view policy v network time are (keyset.Report r half t now) m roll second step at ttl there mk
+    mo =
+    let there' = sym m.3 ∙ ap v.step {x = r} {y = roll} (cc) ∙ there in
+    let step-is : m.2 ≡ step = cc in
+    let roll-is : r ≡ roll = cc in
+    let half-is : is_second half ≡ second = cc in
+    let at-is : v.now ≡ at = sym m.0 ∙ cc in
+    let ttl-is : t ≡ ttl = cc in
+    record {
+      before = v.before;
+      facts = v.facts;
+      are_true = are;
+      least = t;
+      is_due = rw (sym roll-is, sym half-is, sym step-is, sym at-is) m.4;
+      enough = omega (arith, ttl-is);
+    }
+by-view policy v network time are (keyset.Wait r First now) m roll second step at ttl there mk mo =
+    absurd (cc)
+by-view policy v network time are (keyset.Wait r Second now) m roll second step at ttl there mk
+    mo = absurd (cc)
+by-view policy v network time are _ m roll second step at ttl there mk mo = absurd (cc)
+
+-- its moment is that at which it was said
+at-now : (policy : Policy) (v : View) (c : keyset.Call) → May policy v c → (at : ℕ)
+    → moment c ≡ Some at → at ≡ v.now
+at-now policy v (keyset.StartRoll r olds news now) m at mo = (cc) ∙ m.0
+at-now policy v (keyset.Report r half ttl now) m at mo = (cc) ∙ m.0
+at-now policy v (keyset.Wait r half now) m at mo = (cc) ∙ m.0
+at-now policy v (keyset.Set r s) m at mo = absurd m
+at-now policy v _ m at mo = absurd (none-some at mo)
+
+-- an add has no moment and is no report
+add-moment : (c : Call) → is_add c ≡ true → call_moment c ≡ None
+add-moment c h = grind arith
+
+add-mark : (c : Call) → is_add c ≡ true → mark (call_of c) ≡ Other
+add-mark c h = grind arith
+
+-- ---- the run
+
+module _ {name : List ℕ} {calls : List Call} {entries : List Entry} {network : Network} {time : ℕ}
+    (run : IsRun name calls entries) (auto : IsAutomatic name calls entries network time) where
+  -- a position that is marked or timed is that of a call
+  marked : (at moment ttl base : ℕ) (roll : RollType) (second : Bool)
+      → (position_at entries at).mark ≡ Report roll second ttl
+      → (position_at entries at).moment ≡ Some moment
+      → base_below entries roll at ≡ Some base
+      → IsByNotes network roll second (λ kind. origin entries kind base) moment ttl time
+  unfolding position_at
+  marked zero at ttl base roll second mk mo b = absurd (none-some at mo)
+  marked (suc n) at ttl base roll second mk mo b = elim (cases_lt n (length entries)) [
+    | inl lt ↦
+        let x = made-at run n (omega (arith, lt)) in
+        elim (outcome run n x.0 x.1 x.2 x.3) [
+          | inl y ↦ let nope : Other ≡ Report roll second ttl = sym y.2 ∙ mk in absurd (cc)
+          | inr d ↦ elim (said run auto n x.0 x.2) [
+            | inl a ↦ let nope : Other ≡ Report roll second ttl =
+                sym (add-mark x.0 a) ∙ sym d.5 ∙ mk in absurd (cc)
+            | inr s ↦ subst (λ from. IsByNotes network roll second from at ttl time)
+                (λ i kind. origin-of entries base kind i)
+                (by-view s.0.policy s.0.view network time s.0.at.are_true (call_of x.0) s.1 roll
+                second (step_at entries base) at ttl
+                (s.0.at.step roll ∙ ap (option_map (step_at entries)) b) (sym d.5 ∙ mk)
+                (sym (plainly x.0).moment_is ∙ sym (position-is run n x.0 x.1 x.2 x.3).1 ∙ mo))
+          ]
+        ]
+    | inr out ↦ let none : None ≡ Some at =
+        sym (rw (slice_get_past entries n out) refl) ∙ mo in absurd (none-some at none)
+  ]
+
+  pub by-notes : ReportsAreByNotes entries network time
+  by-notes r = marked r.at r.moment r.ttl r.base r.roll r.second r.mark r.moment_is r.base_is
+
+  pub none-ahead : NoneLiesAhead entries network time
+  unfolding position_at
+  none-ahead zero at past mo = absurd (none-some at mo)
+  none-ahead (suc n) at past mo = elim (cases_lt n (length entries)) [
+    | inl lt ↦
+        let x = made-at run n (omega (arith, lt)) in
+        let is : call_moment x.0 ≡ Some at = sym (position-is run n x.0 x.1 x.2 x.3).1 ∙ mo in
+        elim (said run auto n x.0 x.2) [
+          | inl a ↦ absurd (none-some at (sym (add-moment x.0 a) ∙ is))
+          | inr s ↦
+              let now = at-now s.0.policy s.0.view (call_of x.0) s.1 at
+              (sym (plainly x.0).moment_is ∙ is) in
+              let clock = s.0.clock in
+              omega (arith, now, clock)
+        ]
+    | inr out ↦ let none : None ≡ Some at =
+        sym (rw (slice_get_past entries n out) refl) ∙ mo in absurd (none-some at none)
+  ]

@@ -1,0 +1,223 @@
+-- Nothing is said only if all parts have nothing to say.
+use Rattle.std.proofs.Common.{◌≡◌, ℕ, ◌≤◌, Bool, true, false, List, [], ◌∷◌, Option, None, Some}
+use Rattle.std.proofs.Common.{refl, sym, ap, subst, ◌∙◌, arith}
+use Rattle.std.proofs.lemmas.Bool.{or_parts, true≢false}
+use Rattle.std.specs.Prelude.{if◌then◌else◌, Result, Ok, Err, nat_le, is_none, is_some, not, ◌&&◌}
+use Rattle.std.specs.{List.fold, List.list_any}
+use Rattle.std.specs.FinMap.{get, get-entries, values}
+use Rattle.dnssec_key.specs.declared.roll.RollState.{RollState}
+use Rattle.dnssec_key.specs.declared.roll.RollState.TheVariants.{Propagation1, CacheExpire1}
+use Rattle.dnssec_key.specs.declared.roll.RollState.TheVariants.{Propagation2, CacheExpire2, Done}
+use Rattle.dnssec_key.specs.declared.roll.RollType.{RollType}
+use Rattle.dnssec_key.specs.declared.roll.RollType.TheVariants.{AlgorithmRoll}
+use Rattle.dnssec_key.specs.declared.kind.KeyType.{KeyType}
+use Rattle.dnssec_key.specs.Key.{KeyParts, all_states}
+use Rattle.dnssec_key.specs.State.{is_stale}
+use Rattle.dnssec_key.specs.RollTable.{Half, First, Second}
+use Rattle.dnssec_zone.specs.Keys.{some_key}
+use Rattle.dnssec_zone.specs.Rolls.{Rolls, all_rolls, phase_of, same_roll}
+use Rattle.dnssec_zone.specs.Start.{conflict, has_conflict, lists_kind, side_of, together}
+use Rattle.dnssec_keyset.specs.Step as keyset
+use Rattle.dnssec_keyset.specs.declared.wait.WaitEnd.{WaitEnd}
+use Rattle.dnssec_keyset.specs.declared.wait.WaitEnd.TheVariants.{At, PastTime}
+use Rattle.dnssec_run.specs.declared.caches.SetKind.{SetKind}
+use Rattle.dnssec_run.specs.declared.{steps.LastStep.LastStep, steps.Origins.Origins}
+use Rattle.dnssec_run.specs.{Safe.kind_of, Steps.origin_in, WholeRolls.is_second}
+use Rattle.dnssec_network.specs.declared.reach.Reach.{Reach}
+use Rattle.dnssec_network.specs.Reports.{due}
+use Rattle.dnssec_policy.specs.declared.policy.KeyRole.{KeyRole}
+use Rattle.dnssec_policy.specs.declared.policy.Policy.{Policy}
+use Rattle.dnssec_policy.specs.InProgress.{awaited, end_next, report_next, report_or, roll_next}
+use Rattle.dnssec_policy.specs.InProgress.{wait_next}
+use Rattle.dnssec_policy.specs.Keys.{first_over, has_left, is_rolled, is_unwanted, leaves_from}
+use Rattle.dnssec_policy.specs.Keys.{new_keys, renewal_of, role_of, roles_of, rolls_of}
+use Rattle.dnssec_policy.specs.Keys.{wants_others}
+use Rattle.dnssec_policy.specs.Laws.{RestIsAsWanted}
+use Rattle.dnssec_policy.specs.Next.{at_moment, change, deletion, may_begin, next_of}
+use Rattle.dnssec_policy.specs.Next.{once_all_ended, once_ended, phase_next, renewal, start_with}
+use Rattle.dnssec_policy.specs.Todo.{Make, NotBefore, Rest, Todo, rank}
+use Rattle.dnssec_policy.specs.View.{View, reach_in}
+use Rattle.dnssec_policy.proofs.Order.{NotLater, change-said, rank-le}
+use Rattle.dnssec_policy.proofs.Order.{entry-said, renewal-said, roll-said}
+use Rattle.dnssec_policy.proofs.Prompt.{settled-rank}
+
+-- ---- what is said is never nothing
+
+awaited-rank : (r : Reach) (kind : SetKind) (now : ℕ) → rank (awaited r kind now) ≤ 5
+awaited-rank r kind now = grind arith
+
+module _ (v : View) where
+  report-rank : (roll : RollType) (half : Half) (origins : Origins) (r : Result ℕ SetKind)
+      → rank (report_or v roll half origins r) ≤ 5
+  report-rank roll half origins (Ok ttl) = omega arith
+  report-rank roll half origins (Err kind) =
+      awaited-rank (reach_in v kind (origin_in origins (kind_of kind))) kind v.now
+
+  reported-rank : (roll : RollType) (half : Half) (o : Option LastStep)
+      → rank (report_next v roll half o) ≤ 5
+  reported-rank roll half None = omega arith
+  reported-rank roll half (Some step) = report-rank roll half step.origins
+      (due v.before v.facts roll (is_second half) (origin_in step.origins) v.now)
+
+  wait-rank : (roll : RollType) (half : Half) (o : Option WaitEnd)
+      → rank (wait_next v roll half o) ≤ 5
+  wait-rank roll half None = omega arith
+  wait-rank roll half (Some PastTime) = omega arith
+  wait-rank roll half (Some (At end)) = by (nat_le end v.now)
+    where
+      by : (t : Bool)
+          → rank (if t then Make (keyset.Wait roll half v.now) else NotBefore end) ≤ 5
+      by true = omega arith
+      by false = omega arith
+
+  end-rank : (roll : RollType) (o : Option ℕ) → rank (end_next v roll o) ≤ 5
+  end-rank roll None = omega arith
+  end-rank roll (Some base) =
+      let r = settled-rank v roll base (Make (keyset.RollDone roll)) (omega arith) in
+      omega (arith, r)
+
+  roll-rank : (roll : RollType) (p : RollState) → rank (roll_next v roll p) ≤ 5
+  roll-rank roll Propagation1 = reported-rank roll First (v.step roll)
+  roll-rank roll (CacheExpire1 ttl) = wait-rank roll First (v.end roll)
+  roll-rank roll Propagation2 = reported-rank roll Second (v.step roll)
+  roll-rank roll (CacheExpire2 ttl) = wait-rank roll Second (v.end roll)
+  roll-rank roll Done = end-rank roll (v.last roll)
+
+  start-rank : (roll : RollType) (r : Result (List (List ℕ)) KeyRole)
+      → rank (start_with v roll r) ≤ 5
+  start-rank roll (Ok news) = omega arith
+  start-rank roll (Err role) = omega arith
+
+  ended-rank : (roll : RollType) (o : Option ℕ) (todo : Todo) → rank todo ≤ 3
+      → rank (once_ended v roll o todo) ≤ 3
+  ended-rank roll None todo le = le
+  ended-rank roll (Some base) todo le = settled-rank v roll base todo le
+
+  all-ended-rank : (rs : List RollType) (todo : Todo) → rank todo ≤ 3
+      → rank (fold (λ todo roll. once_ended v roll (v.last roll) todo) todo rs) ≤ 3
+  all-ended-rank [] todo le = le
+  all-ended-rank (r ∷ rs) todo le =
+      all-ended-rank rs (once_ended v r (v.last r) todo) (ended-rank r (v.last r) todo le)
+
+-- ---- so what a part doesn't say isn't so
+
+not-guarded : (t : Bool) (a : Todo) → rank a ≤ 5 → 6 ≤ rank (if t then a else Rest) → t ≡ false
+not-guarded true a le big = absurd (omega (arith, le, big))
+not-guarded false a le big = refl
+
+not-timed : (now : ℕ) (o : Option ℕ) (todo : Todo) → rank todo ≤ 5
+    → 6 ≤ rank (at_moment now o todo) → o ≡ None
+not-timed now None todo le big = refl
+not-timed now (Some m) todo le big = absurd (by (nat_le m now) big)
+  where
+    by : (t : Bool) → 6 ≤ rank (if t then todo else NotBefore m) → ⊥
+    by true big = absurd (omega (arith, le, big))
+    by false big = absurd (omega (arith, big))
+
+-- with no roll in progress any may begin
+all-begin : (rolls : Rolls) → ((roll : RollType) → phase_of rolls roll ≡ None)
+    → (roll : RollType) → is_none (conflict roll rolls) ≡ true
+unfolding conflict
+all-begin rolls none roll =
+    let apart : has_conflict roll rolls ≡ false = conflict-none all_rolls in
+    let here = none roll in
+    grind arith
+  where
+    conflict-none : (rs : List RollType)
+        → list_any (λ other. is_some (phase_of rolls other) && not (together roll other)) rs ≡ false
+    conflict-none [] = refl
+    conflict-none (r ∷ rs) =
+        let here = none r in
+        let rest = conflict-none rs in
+        rw (here, rest) refl
+
+none-rolled : (rolls : Rolls) → ((roll : RollType) → phase_of rolls roll ≡ None)
+    → (k : KeyType) → is_rolled rolls k ≡ false
+none-rolled rolls none k = on all_rolls
+  where
+    on : (rs : List RollType)
+        → list_any (λ roll. is_some (phase_of rolls roll) && lists_kind (side_of roll) k) rs ≡ false
+    on [] = refl
+    on (r ∷ rs) =
+        let here = none r in
+        let rest = on rs in
+        rw (here, rest) refl
+
+module _ (policy : Policy) (v : View) (rests : next_of policy v ≡ Rest) where
+  part : (x : Todo) → NotLater (next_of policy v) x → 6 ≤ rank x
+  part x le =
+      let r = rank-le (next_of policy v) x le in
+      let s = ap rank rests in
+      omega (arith, r, s)
+
+  none-rolls : (roll : RollType) → phase_of v.set.rolls roll ≡ None
+  none-rolls roll = by (phase_of v.set.rolls roll) refl
+    where
+      by : (o : Option RollState) → phase_of v.set.rolls roll ≡ o → phase_of v.set.rolls roll ≡ None
+      by None is = is
+      by (Some p) is =
+          let r = roll-rank v roll p in
+          let big = subst (λ o. 6 ≤ rank (phase_next v roll o)) is
+          (part (phase_next v roll (phase_of v.set.rolls roll)) (roll-said policy v roll)) in
+          absurd (omega (arith, r, big))
+
+  begins : (roll : RollType) → may_begin v roll ≡ true
+  begins roll = all-begin v.set.rolls none-rolls roll
+
+  none-gone : (q : List ℕ) (k : KeyParts) → get v.set.keys q ≡ Some k
+      → all_states is_stale k.keytype ≡ false
+  none-gone q k at =
+      let delete = Make (keyset.DeleteKey q) in
+      let moment = leaves_from policy.delete_after k.timestamps.withdrawn in
+      let little : rank (at_moment v.now (Some moment) (once_all_ended v delete)) ≤ 5 =
+      timed (nat_le moment v.now) moment (once_all_ended v delete)
+      (all-ended-rank v all_rolls delete (omega arith)) in
+      let left = not-guarded (has_left v.set.rolls k)
+      (at_moment v.now (Some moment) (once_all_ended v delete)) little
+      (part (deletion policy v q k)
+      (entry-said policy v q k (sym (get-entries v.set.keys q) ∙ at))) in
+      out (all_states is_stale k.keytype) (is_rolled v.set.rolls k.keytype)
+      (none-rolled v.set.rolls none-rolls k.keytype) left
+    where
+      timed : (t : Bool) (m : ℕ) (todo : Todo) → rank todo ≤ 3
+          → rank (if t then todo else NotBefore m) ≤ 5
+      timed true m todo le = omega (arith, le)
+      timed false m todo le = omega arith
+
+      out : (a b : Bool) → b ≡ false → (a && not b) ≡ false → a ≡ false
+      out true b is e = absurd (true≢false (sym (ap not is) ∙ e))
+      out false b is e = refl
+
+  none-wanted : wants_others policy v.set.keys ≡ false
+  none-wanted =
+      let start = start_with v AlgorithmRoll
+      (new_keys policy v.set.keys (roles_of policy.scheme)) in
+      let f = not-guarded (may_begin v AlgorithmRoll && wants_others policy v.set.keys) start
+      (start-rank v AlgorithmRoll (new_keys policy v.set.keys (roles_of policy.scheme)))
+      (part (change policy v) (change-said policy v)) in
+      sym (ap (λ t. t && wants_others policy v.set.keys) (begins AlgorithmRoll)) ∙ f
+
+  none-unwanted : some_key (is_unwanted policy) v.set.keys ≡ false
+  none-unwanted = grind (arith, none-wanted, or_parts)
+
+  none-over : (roll : RollType) → list_any (same_roll roll) (rolls_of policy.scheme) ≡ true
+      → first_over (role_of roll) (renewal_of policy (role_of roll)) (values v.set.keys) ≡ None
+  none-over roll e =
+      let role = role_of roll in
+      let start = start_with v roll (new_keys policy v.set.keys (role ∷ [])) in
+      let o = first_over role (renewal_of policy role) (values v.set.keys) in
+      let said : renewal policy v roll ≡ at_moment v.now o start =
+      ap (λ (t : Bool). if t && not (some_key (is_unwanted policy) v.set.keys)
+      then at_moment v.now o start else Rest) (begins roll)
+      ∙ ap (λ (t : Bool). if not t then at_moment v.now o start else Rest) none-unwanted in
+      not-timed v.now o start (start-rank v roll (new_keys policy v.set.keys (role ∷ [])))
+      (subst (λ x. 6 ≤ rank x) said
+      (part (renewal policy v roll) (renewal-said policy v roll e)))
+
+pub as-wanted : RestIsAsWanted
+as-wanted policy v rests = record {
+  rolls = none-rolls policy v rests;
+  gone = none-gone policy v rests;
+  others = none-wanted policy v rests;
+  renewals = none-over policy v rests;
+}

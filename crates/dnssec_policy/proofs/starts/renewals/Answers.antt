@@ -1,0 +1,27 @@
+-- One roll or two, by the scheme.
+use Rattle.std.proofs.Common.{◌∙◌, ap, sym}
+use Rattle.dnssec_key.specs.declared.roll.RollType.{RollType}
+use Rattle.dnssec_policy.specs.declared.policy.Scheme.{Scheme}
+use Rattle.dnssec_policy.specs.Code.{view_of}
+use Rattle.dnssec_policy.specs.Next.{renewal, renewals}
+use Rattle.dnssec_policy.specs.Todo.{sooner}
+use Rattle.dnssec_policy.proofs.starts.renewals.Goals as goal
+
+pub returns-in_ok-two-in-Split : goal.returns-in_ok-two-in-Split
+returns-in_ok-two-in-Split c end same =
+    let a = c.args in
+    let v = view_of a.state.now end in
+    let policy = a.policy.now in
+    let one = c.in_ok-one-in-Split.ensures end same
+    ∙ ap (λ (r : RollType). renewal policy v r) c.ksk_roll-roll.ensures in
+    let two = c.in_ok-two-in-Split.ensures end same
+    ∙ ap (λ (r : RollType). renewal policy v r) c.zsk_roll-other.ensures in
+    c.or.ensures a.state.now.moment ∙ (λ i. sooner (one i) (two i))
+    ∙ ap (λ (s : Scheme). renewals policy v s) (sym c.in-Split.is)
+
+pub returns-in_ok-next-in-SingleType : goal.returns-in_ok-next-in-SingleType
+returns-in_ok-next-in-SingleType c end same =
+    let a = c.args in
+    c.in_ok-next-in-SingleType.ensures end same
+    ∙ ap (λ (s : Scheme). renewals a.policy.now (view_of a.state.now end) s)
+    (sym c.in-SingleType.is)

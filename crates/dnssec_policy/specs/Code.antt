@@ -1,0 +1,106 @@
+-- What the code keeps and answers, in the words of the definitions.
+use denote.Ref.{Bor}
+use Rattle.std.specs.Prelude.{◌≡◌, ℕ, Bool, false, List, map, filter, Option, None, Some, get_or}
+use Rattle.std.specs.Prelude.{string_bytes, if◌then◌else◌}
+use Rattle.std.specs.Prelude.{Result, Ok, Err}
+use Rattle.std.specs.FinMap.{entries}
+use Rattle.std.specs.Global.{Global}
+use Rattle.std.specs.declared.string.String.{String}
+use Rattle.std.specs.declared.vec.Vec.{Vec}
+use Rattle.dnssec_keyset.specs.KeySet.{KeySetParts}
+use Rattle.dnssec_policy.specs.declared.policy.KeyRole.{KeyRole}
+use Rattle.dnssec_key.specs.declared.roll.RollType.{RollType}
+use Rattle.dnssec_key.specs.Key.{KeyParts}
+use Rattle.dnssec_key.specs.RollTable.{which}
+use Rattle.dnssec_zone.specs.Rolls.{roll_number, same_roll}
+use Rattle.dnssec_zone.specs.Start.{texts}
+use Rattle.dnssec_keyset.specs.Step as keyset
+use Rattle.dnssec_keyset.specs.declared.wait.WaitEnd.{WaitEnd}
+use Rattle.dnssec_run.specs.declared.call.Call.{Call}
+use Rattle.dnssec_run.specs.declared.call.Call.TheVariants.{CacheExpired2}
+use Rattle.dnssec_run.specs.declared.record.Reply.{Reply}
+use Rattle.dnssec_run.specs.Record.{is_accepted}
+use Rattle.dnssec_run.specs.Steps.{step_of}
+use Rattle.dnssec_policy.specs.declared.last_waits.LastWaits.{LastWaits}
+use Rattle.dnssec_policy.specs.declared.keys.Pick.{Pick}
+use Rattle.dnssec_policy.specs.declared.keys.Pick.TheVariants.{Old, New}
+use Rattle.dnssec_policy.specs.declared.state.Ends.{Ends}
+use Rattle.dnssec_policy.specs.declared.state.State.{State}
+use Rattle.dnssec_policy.specs.declared.todo.Next.{Next}
+use Rattle.dnssec_policy.specs.declared.todo.Next.TheVariants as code
+use Rattle.dnssec_policy.specs.Keys.{goes, is_new}
+use Rattle.dnssec_policy.specs.Todo.{Make, NeedKey, NotBefore, Publish, Rest, Stuck, Todo, Watch}
+use Rattle.dnssec_policy.specs.View.{View}
+
+-- ---- last second waits
+
+abbrev pub last_of : LastWaits → RollType → Option ℕ
+last_of waits roll = get_or waits.by_roll (roll_number roll) None
+
+-- the roll whose second wait a call ends, if any
+abbrev pub second_wait_of : Call → Option RollType
+second_wait_of (CacheExpired2 roll now) = Some roll
+second_wait_of _ = None
+
+-- only if it is accepted
+abbrev pub accepted_wait : Reply → Option RollType → Option RollType
+accepted_wait reply wait = if is_accepted reply then wait else None
+
+abbrev pub is_wait_of : RollType → Option RollType → Bool
+is_wait_of roll None = false
+is_wait_of roll (Some other) = same_roll roll other
+
+-- ---- the state
+
+abbrev pub end_of : Ends → RollType → Option WaitEnd
+end_of ends roll = get_or ends.by_roll (roll_number roll) None
+
+abbrev pub view_of : State → (RollType → Option WaitEnd) → View
+view_of s end = record {
+  set = s.keyset.now;
+  step = step_of s.steps;
+  last = last_of s.last_waits;
+  end = end;
+  before = s.notes.now.before;
+  facts = s.notes.now.facts;
+  now = s.moment;
+}
+
+-- ---- keys
+
+abbrev pub entry_of : {Y : Type 0} → Bor (String Y) × Bor KeyParts → List ℕ × KeyParts
+entry_of e = (string_bytes e.0.now, e.1.now)
+
+-- these are the keys of the set, in their order
+abbrev pub AreKeysOf : {Y : Type 0} → KeySetParts → List (Bor (String Y) × Bor KeyParts) → Type 0
+AreKeysOf set keys = entries set.keys ≡ map entry_of keys
+
+-- new keys, or the role of one that is missing
+abbrev pub news_of : Result (Vec (Bor (List ℕ)) Global) KeyRole → Result (List (List ℕ)) KeyRole
+news_of (Ok found) = Ok (texts found.items)
+news_of (Err role) = Err role
+
+abbrev pub passes : Pick → KeyParts → Bool
+passes (Old roll) k = goes roll k
+passes (New policy role) k = is_new policy role k
+
+abbrev pub passing : (KeyParts → Bool) → List (List ℕ × KeyParts) → List (List ℕ)
+passing p es =
+    map (λ (e : List ℕ × KeyParts). e.0) (filter (λ (e : List ℕ × KeyParts). p e.1) es)
+
+-- ---- what to do next
+
+-- as the definitions say it, at the moment at which it is said
+abbrev pub todo_of : ℕ → Next → Todo
+todo_of now (code.Report roll half ttl) = Make (keyset.Report roll (which half) ttl now)
+todo_of now (code.Wait roll half) = Make (keyset.Wait roll (which half) now)
+todo_of now (code.Done roll) = Make (keyset.RollDone roll)
+todo_of now (code.Start roll old new) =
+    Make (keyset.StartRoll roll (texts old.items) (texts new.items) now)
+todo_of now (code.Delete reference) = Make (keyset.DeleteKey reference.now)
+todo_of now (code.Publish kind) = Publish kind
+todo_of now (code.NeedKey role) = NeedKey role
+todo_of now (code.Watch kind) = Watch kind
+todo_of now (code.NotBefore moment) = NotBefore moment
+todo_of now (code.Stuck roll) = Stuck roll
+todo_of now code.Rest = Rest

@@ -1,0 +1,229 @@
+-- What holds of calls that a zone makes by itself.
+use Rattle.std.specs.Prelude.{◌≡◌, ◌⊎◌, ◌++◌, ◌∷◌, ℕ, suc, ◌+◌, ◌<◌, ◌≤◌, true, false, List, []}
+use Rattle.std.specs.Prelude.{length, slice_get, Option, None, Some, Ok}
+use Rattle.std.specs.{FinMap.get, FinMap.values, List.list_any}
+use Rattle.dnssec_key.specs.declared.roll.RollState.{RollState}
+use Rattle.dnssec_key.specs.declared.roll.RollState.TheVariants.{CacheExpire1, CacheExpire2}
+use Rattle.dnssec_key.specs.declared.roll.RollType.{RollType}
+use Rattle.dnssec_key.specs.declared.roll.RollType.TheVariants.{AlgorithmRoll}
+use Rattle.dnssec_key.specs.Key.{KeyParts, all_states}
+use Rattle.dnssec_key.specs.State.{is_stale}
+use Rattle.dnssec_zone.specs.Keys.{some_key}
+use Rattle.dnssec_zone.specs.Rolls.{phase_of, same_roll}
+use Rattle.dnssec_zone.specs.Wait.{Clear}
+use Rattle.dnssec_keyset.specs.Step as keyset
+use Rattle.dnssec_keyset.specs.WaitEnd.{TellsEnd}
+use Rattle.dnssec_keyset.specs.declared.wait.WaitEnd.{WaitEnd}
+use Rattle.dnssec_keyset.specs.declared.wait.WaitEnd.TheVariants.{At, PastTime}
+use Rattle.dnssec_run.specs.declared.call.Call.{Call}
+use Rattle.dnssec_run.specs.declared.record.Entry.{Entry}
+use Rattle.dnssec_run.specs.declared.record.Reply.{Reply}
+use Rattle.dnssec_run.specs.declared.caches.SetKind.{SetKind}
+use Rattle.dnssec_run.specs.ByAlgorithm.{KeepsWhole}
+use Rattle.dnssec_run.specs.Plain.{IsPlain}
+use Rattle.dnssec_run.specs.Record.{IsRun, call_of, world_at}
+use Rattle.dnssec_run.specs.Safe.{kind_of}
+use Rattle.dnssec_run.specs.Steps.{AreStepsOf}
+use Rattle.dnssec_network.specs.ByAlgorithm.{FindChainByEach}
+use Rattle.dnssec_network.specs.Facts.{AreTrue}
+use Rattle.dnssec_network.specs.Network.{FindChain, IsNetworkOf, Network, NeverGoesBack}
+use Rattle.dnssec_network.specs.Network.{NoneLiesAhead}
+use Rattle.dnssec_network.specs.Reach.{AllGive}
+use Rattle.dnssec_network.specs.Reports.{NoneGoesBack, ReportsAreByNotes}
+use Rattle.dnssec_policy.specs.declared.last_waits.LastWaits.{LastWaits}
+use Rattle.dnssec_policy.specs.declared.policy.Policy.{Policy}
+use Rattle.dnssec_policy.specs.declared.state.State.{State}
+use Rattle.dnssec_policy.specs.Automatic.{IsAutomatic, IsSaid, IsViewAt, is_add, last_below}
+use Rattle.dnssec_policy.specs.Code.{last_of, second_wait_of, view_of}
+use Rattle.dnssec_policy.specs.InProgress.{ends_with}
+use Rattle.dnssec_policy.specs.Keys.{first_over, is_rolled, is_unwanted, new_keys, renewal_of}
+use Rattle.dnssec_policy.specs.Keys.{role_of, roles_of, rolls_of, wants_others}
+use Rattle.dnssec_policy.specs.Next.{may_begin, next_of}
+use Rattle.dnssec_policy.specs.Todo.{Todo, Make, NotBefore, Rest, rank}
+use Rattle.dnssec_policy.specs.View.{View}
+
+-- ---- what automatic calls are
+
+-- the list of calls is plain
+abbrev pub AutomaticRunsArePlain : Type 0
+AutomaticRunsArePlain =
+    (name : List ℕ) (calls : List Call) (entries : List Entry) (network : Network) (time : ℕ) →
+    IsRun name calls entries → IsAutomatic name calls entries network time →
+    IsPlain name calls entries
+
+-- and keeps the sets whole
+abbrev pub AutomaticRunsKeepWhole : Type 0
+AutomaticRunsKeepWhole =
+    (name : List ℕ) (calls : List Call) (entries : List Entry) (network : Network) (time : ℕ) →
+    IsRun name calls entries → IsAutomatic name calls entries network time →
+    KeepsWhole name calls entries
+
+-- its reports are by notes, and no moment lay ahead of the clock
+abbrev pub AutomaticReportsAreByNotes : Type 0
+AutomaticReportsAreByNotes =
+    (name : List ℕ) (calls : List Call) (entries : List Entry) (network : Network) (time : ℕ) →
+    IsRun name calls entries → IsAutomatic name calls entries network time →
+    ReportsAreByNotes entries network time × NoneLiesAhead entries network time
+
+-- ---- what resolvers find
+
+-- A chain of trust at every time, if up to then servers gave what was published, and nothing went
+-- back to before a step; by each algorithm too.
+abbrev pub AutomaticRunsReachResolvers : Type 0
+AutomaticRunsReachResolvers =
+    (name : List ℕ) (calls : List Call) (entries : List Entry) (network : Network) (time : ℕ) →
+    IsRun name calls entries → IsAutomatic name calls entries network time →
+    IsNetworkOf entries network time → NoneGoesBack entries network time →
+    FindChain entries network time × FindChainByEach calls entries network time
+
+-- A roll ends only once all servers give what its last actions ask to wait for.
+abbrev pub AutomaticEndsFollow : Type 0
+AutomaticEndsFollow =
+    (name : List ℕ) (calls : List Call) (entries : List Entry) (network : Network) (time n : ℕ)
+    (call : Call) (roll : RollType) (kind : SetKind) (base : ℕ) →
+    IsAutomatic name calls entries network time →
+    slice_get calls n ≡ Some call →
+    call_of call ≡ keyset.RollDone roll →
+    ends_with roll kind ≡ true →
+    last_below calls entries roll n ≡ Some base →
+    NeverGoesBack network (kind_of kind) base time →
+    AllGive network (kind_of kind) base (network.made (suc n)) time
+
+-- A key is deleted only once it has left, no roll of its side is in progress, and of each roll all
+-- servers give what its last actions asked to wait for.
+abbrev pub AutomaticDeletionsFollow : Type 0
+AutomaticDeletionsFollow =
+    (name : List ℕ) (calls : List Call) (entries : List Entry) (network : Network) (time n : ℕ)
+    (call : Call) (q : List ℕ) →
+    IsAutomatic name calls entries network time →
+    slice_get calls n ≡ Some call →
+    call_of call ≡ keyset.DeleteKey q →
+    ((k : KeyParts) × (get (world_at name calls entries n).set.keys q ≡ Some k)
+    × (is_rolled (world_at name calls entries n).set.rolls k.keytype ≡ false))
+    × ((roll : RollType) (kind : SetKind) (base : ℕ) →
+    ends_with roll kind ≡ true →
+    last_below calls entries roll n ≡ Some base →
+    NeverGoesBack network (kind_of kind) base time →
+    AllGive network (kind_of kind) base (network.made (suc n)) time)
+
+-- ---- what is said
+
+-- a call that is said is clear: it is accepted, memory aside
+abbrev pub NextIsAccepted : Type 0
+NextIsAccepted = (policy : Policy) (v : View) (call : keyset.Call) →
+    ((roll : RollType) → TellsEnd roll v.set (v.end roll)) →
+    next_of policy v ≡ Make call → keyset.clearance v.set call ≡ Clear
+
+-- while a wait lasts until then, nothing later is said; from then on a call is. A wait that ends
+-- after all time is stuck, and no wait lacks its end
+abbrev pub UntilOver : ℕ → Todo → Option WaitEnd → Type 0
+UntilOver now todo None = ⊥
+UntilOver now todo (Some PastTime) = rank todo ≤ 5
+UntilOver now todo (Some (At end)) = (end ≤ now → rank todo ≡ 0) × (rank todo ≤ 4)
+    × ((moment : ℕ) → todo ≡ NotBefore moment → moment ≤ end)
+
+-- a call, or what is to be done or seen, or a moment within a second
+abbrev pub IsSoon : ℕ → Todo → Type 0
+IsSoon now todo = (rank todo ≤ 4)
+    × ((moment : ℕ) → todo ≡ NotBefore moment → moment ≤ now + 1_000_000_000)
+
+-- for a roll in this phase enough is said
+abbrev pub IsPrompt : View → Todo → RollType → RollState → Type 0
+IsPrompt v todo roll (CacheExpire1 ttl) = UntilOver v.now todo (v.end roll)
+IsPrompt v todo roll (CacheExpire2 ttl) = UntilOver v.now todo (v.end roll)
+IsPrompt v todo roll _ = IsSoon v.now todo
+
+-- it never stands still: for each roll in progress enough is said, and what is not to be done
+-- before a moment is said only before it
+abbrev pub NextGoesOn : Type 0
+NextGoesOn =
+    (name : List ℕ) (calls : List Call) (entries : List Entry) (network : Network) (time n : ℕ)
+    (policy : Policy) (v : View) →
+    IsRun name calls entries → IsAutomatic name calls entries network time → n ≤ length entries →
+    IsViewAt name calls entries network time n v →
+    ((roll : RollType) (phase : RollState) → phase_of v.set.rolls roll ≡ Some phase →
+    IsPrompt v (next_of policy v) roll phase)
+    × ((moment : ℕ) → next_of policy v ≡ NotBefore moment → v.now < moment)
+
+-- As long as the time of a key at work is over, new keys are there and their roll may begin, a call
+-- is said. (No key is in use that the policy doesn't want.)
+abbrev pub RenewalsStartInTime : Type 0
+RenewalsStartInTime =
+    (policy : Policy) (v : View) (roll : RollType) (moment : ℕ) (news : List (List ℕ)) →
+    list_any (same_roll roll) (rolls_of policy.scheme) ≡ true →
+    may_begin v roll ≡ true →
+    some_key (is_unwanted policy) v.set.keys ≡ false →
+    let role = role_of roll in
+    first_over role (renewal_of policy role) (values v.set.keys) ≡ Some moment →
+    moment ≤ v.now →
+    new_keys policy v.set.keys (role ∷ []) ≡ Ok news →
+    rank (next_of policy v) ≡ 0
+
+-- and so it is for the first keys, another algorithm or another scheme
+abbrev pub ChangesStartInTime : Type 0
+ChangesStartInTime = (policy : Policy) (v : View) (news : List (List ℕ)) →
+    may_begin v AlgorithmRoll ≡ true →
+    wants_others policy v.set.keys ≡ true →
+    new_keys policy v.set.keys (roles_of policy.scheme) ≡ Ok news →
+    rank (next_of policy v) ≡ 0
+
+-- the zone is as the policy wants it, for good
+pub record IsAsWanted (policy : Policy) (v : View) : Type 0 where
+  pub rolls : (roll : RollType) → phase_of v.set.rolls roll ≡ None
+  pub gone : (q : List ℕ) (k : KeyParts) → get v.set.keys q ≡ Some k →
+      all_states is_stale k.keytype ≡ false
+  pub others : wants_others policy v.set.keys ≡ false
+  pub renewals : (roll : RollType) → list_any (same_roll roll) (rolls_of policy.scheme) ≡ true →
+      first_over (role_of roll) (renewal_of policy (role_of roll)) (values v.set.keys) ≡ None
+
+-- only then nothing is said
+abbrev pub RestIsAsWanted : Type 0
+RestIsAsWanted = (policy : Policy) (v : View) → next_of policy v ≡ Rest → IsAsWanted policy v
+
+-- ---- from the code's answer to an automatic record
+
+-- an automatic record goes on by a call that adds a key, or that was said by what is known of it
+abbrev pub AutomaticRunsGrow : Type 0
+AutomaticRunsGrow =
+    (name : List ℕ) (calls : List Call) (entries : List Entry) (network : Network) (time : ℕ)
+    (call : Call) (entry : Entry) →
+    length entries ≡ length calls →
+    IsAutomatic name calls entries network time →
+    (is_add call ≡ true) ⊎ IsSaid name calls entries network time (length calls) call →
+    IsAutomatic name (calls ++ call ∷ []) (entries ++ entry ∷ []) network time
+
+-- these are the last second waits of the calls
+abbrev pub AreLastsOf : List Call → List Entry → LastWaits → Type 0
+AreLastsOf calls entries waits = (roll : RollType) → last_of waits roll
+    ≡ last_below calls entries roll (length entries)
+
+-- after one more call, at this position, which got this reply; it is the second wait of this roll,
+-- if of any
+abbrev pub LastsFollow : LastWaits → Option RollType → Reply → ℕ → LastWaits → Type 0
+LastsFollow old wait reply at new =
+    (calls : List Call) (entries : List Entry) (call : Call) (entry : Entry) →
+    length entries ≡ length calls →
+    AreLastsOf calls entries old →
+    second_wait_of call ≡ wait →
+    entry.reply ≡ reply →
+    at ≡ suc (length entries) →
+    AreLastsOf (calls ++ call ∷ []) (entries ++ entry ∷ []) new
+
+-- a state that is handed to `next` is that after these calls, and its notes are true up to a time
+pub record Knows (name : List ℕ) (calls : List Call) (entries : List Entry) (network : Network)
+    (time : ℕ) (s : State) : Type 0 where
+  pub set : s.keyset.now ≡ (world_at name calls entries (length entries)).set
+  pub steps : AreStepsOf entries s.steps
+  pub lasts : AreLastsOf calls entries s.last_waits
+  pub are_true : AreTrue s.notes.now.before s.notes.now.facts network time
+
+-- then a call that `next` answers is said
+abbrev pub AnswersAreSaid : Type 0
+AnswersAreSaid =
+    (name : List ℕ) (calls : List Call) (entries : List Entry) (network : Network) (time : ℕ)
+    (s : State) (end : RollType → Option WaitEnd) (policy : Policy) (call : Call) →
+    Knows name calls entries network time s →
+    ((roll : RollType) → TellsEnd roll s.keyset.now (end roll)) →
+    next_of policy (view_of s end) ≡ Make (call_of call) →
+    s.moment ≤ network.made (suc (length entries)) →
+    IsSaid name calls entries network time (length entries) call

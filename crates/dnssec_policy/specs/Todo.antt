@@ -1,0 +1,47 @@
+-- What there is to do, and what of it comes first.
+use Rattle.std.specs.Prelude.{ℕ, Bool, ◌&&◌, ◌||◌, nat_eq, nat_lt, if◌then◌else◌}
+use Rattle.dnssec_key.specs.declared.roll.RollType.{RollType}
+use Rattle.dnssec_keyset.specs.Step.{Call}
+use Rattle.dnssec_run.specs.declared.caches.SetKind.{SetKind}
+use Rattle.dnssec_policy.specs.declared.policy.KeyRole.{KeyRole}
+
+-- what to do next
+pub data Todo : Type 0 where
+  -- make this call
+  Make : Call → Todo
+  -- publish what is due of this kind, and note it
+  Publish : SetKind → Todo
+  -- make a key of this role that the policy wants, and add it
+  NeedKey : KeyRole → Todo
+  -- see whether all servers give what was published of this kind, and note it
+  Watch : SetKind → Todo
+  -- nothing before this moment
+  NotBefore : ℕ → Todo
+  -- nothing, though this roll is in progress: its wait is over after all time, or its step unknown
+  Stuck : RollType → Todo
+  -- nothing
+  Rest : Todo
+
+-- the smaller, the more urgent: a call, then what the operator has to do, then what to wait for
+abbrev pub rank : Todo → ℕ
+rank (Make call) = 0
+rank (Publish kind) = 1
+rank (NeedKey role) = 2
+rank (Watch kind) = 3
+rank (NotBefore moment) = 4
+rank (Stuck roll) = 5
+rank Rest = 6
+
+-- the moment before which there is nothing to do
+abbrev pub moment_of : Todo → ℕ
+moment_of (NotBefore moment) = moment
+moment_of _ = 0
+
+-- the second is more urgent than the first: of two moments the earlier
+abbrev pub is_sooner : Todo → Todo → Bool
+is_sooner a b = nat_lt (rank b) (rank a)
+    || nat_eq (rank b) (rank a) && nat_lt (moment_of b) (moment_of a)
+
+-- the more urgent of two, or the first
+abbrev pub sooner : Todo → Todo → Todo
+sooner a b = if is_sooner a b then b else a

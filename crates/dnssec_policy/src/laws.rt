@@ -1,0 +1,72 @@
+//! What holds of a zone that rolls by itself. These functions do nothing: the contract of each is a
+//! law, which a caller knows once it has called the function.
+ghost use Rattle.dnssec_policy.specs.Laws.{AnswersAreSaid, AutomaticDeletionsFollow};
+ghost use Rattle.dnssec_policy.specs.Laws.{AutomaticEndsFollow, AutomaticReportsAreByNotes};
+ghost use Rattle.dnssec_policy.specs.Laws.{AutomaticRunsArePlain, AutomaticRunsGrow};
+ghost use Rattle.dnssec_policy.specs.Laws.{AutomaticRunsKeepWhole, AutomaticRunsReachResolvers};
+ghost use Rattle.dnssec_policy.specs.Laws.{ChangesStartInTime, NextGoesOn, NextIsAccepted};
+ghost use Rattle.dnssec_policy.specs.Laws.{RenewalsStartInTime, RestIsAsWanted};
+
+/// If each call adds a key or was said by `next`, the list of calls is plain, and keeps the sets
+/// whole.
+pub fn automatic_runs_are_plain()
+    ensures plain { AutomaticRunsArePlain }
+    ensures whole { AutomaticRunsKeepWhole }
+{}
+
+/// If the facts that `next` went by are true, the reports that it said are by notes, and no moment
+/// lay ahead of the clock.
+pub fn automatic_reports_are_by_notes()
+    ensures { AutomaticReportsAreByNotes }
+{}
+
+/// So resolvers find a chain of trust at all times, by each algorithm too, provided that servers
+/// give what was published and nothing goes back to before a step.
+pub fn automatic_runs_reach_resolvers()
+    ensures { AutomaticRunsReachResolvers }
+{}
+
+/// A call that `next` says isn't refused, memory aside.
+pub fn next_is_accepted()
+    ensures { NextIsAccepted }
+{}
+
+/// As long as a roll is in progress, a call is said, or what the operator has to do or to see, or a
+/// moment that is to come: at the latest that at which a wait is over.
+pub fn next_goes_on()
+    ensures { NextGoesOn }
+{}
+
+/// A roll that is ended, as `next` said, has left nothing that isn't on all servers yet.
+pub fn automatic_ends_follow()
+    ensures { AutomaticEndsFollow }
+{}
+
+/// A key that is deleted, as `next` said, has left all servers.
+pub fn automatic_deletions_follow()
+    ensures { AutomaticDeletionsFollow }
+{}
+
+/// As long as the policy wants other keys, new ones are there, and their roll may begin, a call is
+/// said.
+pub fn starts_are_in_time()
+    ensures renewals { RenewalsStartInTime }
+    ensures changes { ChangesStartInTime }
+{}
+
+/// If nothing is said, the zone is as the policy wants it.
+pub fn rest_is_as_wanted()
+    ensures { RestIsAsWanted }
+{}
+
+/// A record of automatic calls goes on by a call that adds a key, or that `next` said by what is
+/// known of it.
+pub fn automatic_runs_grow()
+    ensures { AutomaticRunsGrow }
+{}
+
+/// A call that `next` answers was said, if the state that it was given is that after the calls so
+/// far, its notes are true, and the clock has reached its moment.
+pub fn answers_are_said()
+    ensures { AnswersAreSaid }
+{}

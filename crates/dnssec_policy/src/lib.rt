@@ -1,0 +1,27 @@
+//! What to do next with a zone, by a policy: a call to make, a set to publish or to watch, a key
+//! to make, or a moment to wait for. Whatever it says, the calls are plain and reports are by
+//! notes: so resolvers find a chain of trust at all times.
+#![tactic(auto)]
+
+mod choose;
+mod deletions;
+mod in_progress;
+mod keys;
+mod last_waits;
+mod laws;
+mod policy;
+mod starts;
+mod state;
+mod todo;
+
+pub use choose::next;
+pub use last_waits::LastWaits;
+pub use laws::{
+    answers_are_said, automatic_deletions_follow, automatic_ends_follow,
+    automatic_reports_are_by_notes, automatic_runs_are_plain, automatic_runs_grow,
+    automatic_runs_reach_resolvers, next_goes_on, next_is_accepted, rest_is_as_wanted,
+    starts_are_in_time,
+};
+pub use policy::{KeyRole, KskMethod, Policy, Renewal, Scheme, ZskMethod};
+pub use state::State;
+pub use todo::Next;

@@ -1,0 +1,351 @@
+//! Rolls start that the policy wants.
+ghost use Rattle.std.specs.Prelude.{◌≡◌, ◌&&◌, not, IfOk, map, Option, ℕ, is_some};
+ghost use Rattle.std.specs.FinMap as fin;
+ghost use Rattle.std.specs.List.{list_all, list_any};
+ghost use Rattle.dnssec_key.specs.declared.roll.RollType.{RollType as AnyRoll};
+ghost use Rattle.dnssec_key.specs.declared.roll.RollType.TheVariants.{AlgorithmRoll};
+ghost use Rattle.dnssec_zone.specs.Keys.{Keys, some_key};
+ghost use Rattle.dnssec_zone.specs.Start.{are_apart, conflict, has_conflict, texts, together};
+ghost use Rattle.dnssec_keyset.specs.declared.wait.WaitEnd.{WaitEnd as AnyEnd};
+ghost use Rattle.dnssec_policy.specs.Code.{AreKeysOf, entry_of, news_of, todo_of, view_of};
+ghost use Rattle.dnssec_policy.specs.Keys.{earlier, first_over, is_unwanted, ksk_roll, new_keys};
+ghost use Rattle.dnssec_policy.specs.Keys.{over_by_age, over_from, over_on_demand, renewal_of};
+ghost use Rattle.dnssec_policy.specs.Keys.{role_of, roles_of, serves, wants_others, zsk_roll};
+ghost use Rattle.dnssec_policy.specs.Next.{change, may_begin, renewal, renewals, start_with};
+
+use crate::in_progress::{is_in_progress, nanos};
+use crate::keys::{Pick, is_unwanted, references, roles_of, serves};
+use crate::policy::{KeyRole, KskMethod, Policy, Renewal, Scheme, ZskMethod};
+use crate::state::State;
+use crate::todo::Next;
+use dnssec_key::{Side, side_of};
+use dnssec_keyset::{Key, RollType, UnixTime};
+use dnssec_zone::all_rolls;
+use std::alloc::{AllocError, Global};
+use std::time::Duration;
+
+// ---- side by side
+
+/// Whether a roll may begin beside the rolls in progress.
+#[tactic(auto, unfolding(dnssec_zone::specs::Start::conflict))]
+fn may_begin(state: &State<'_>, roll: RollType) -> bool
+    ensures { (end : AnyRoll → Option AnyEnd) → result ≡ may_begin (view_of state.now end) roll }
+{
+    !is_in_progress(state, roll) && !has_conflict(state, roll)
+}
+
+/// Whether a roll is in progress beside which this one may not begin.
+fn has_conflict(state: &State<'_>, roll: RollType) -> bool
+    ensures { result ≡ has_conflict roll state.now.keyset.now.rolls }
+{
+    all_rolls().iter().any(|other| is_in_progress(state, *other) && !go_together(roll, *other))
+}
+
+/// Whether two rolls go together.
+fn go_together(roll: RollType, other: RollType) -> bool
+    ensures { result ≡ together roll other }
+{
+    are_apart(side_of(roll), side_of(other))
+}
+
+/// Whether one side has only KSKs, and the other only ZSKs.
+fn are_apart(one: Side, other: Side) -> bool
+    ensures { result ≡ are_apart one other }
+{
+    matches!(
+        (one, other),
+        (Side::KskSide, Side::ZskSide) | (Side::ZskSide, Side::KskSide)
+    )
+}
+
+// ---- new keys
+
+/// A new key for each of these roles, or the first role that has none.
+fn new_keys<'a>(
+    alloc: Global,
+    policy: &Policy,
+    keys: &[(&'a String, &'a Key)],
+    roles: &[KeyRole],
+) -> Result<Result<Vec<&'a str>, KeyRole>, AllocError>
+    ensures { IfOk result (λ found. (all : Keys) → fin.entries all ≡ map entry_of keys.now
+        → news_of found ≡ new_keys policy.now all roles.now) }
+{
+    let mut new = Vec::new(alloc);
+    for role in roles {
+        let found = references(alloc, keys, &Pick::New(*policy, *role))?;
+        match found.first() {
+            None => return Ok(Err(*role)),
+            Some(reference) => new.push(*reference)?,
+        }
+    }
+    Ok(Ok(new))
+}
+
+/// A start with new keys of these roles, or the role for which there is none.
+fn start_next<'a>(
+    alloc: Global,
+    policy: &Policy,
+    state: &State<'a>,
+    keys: &[(&'a String, &'a Key)],
+    roll: RollType,
+    roles: &[KeyRole],
+) -> Result<Next<'a>, AllocError>
+    ensures { IfOk result (λ next. (end : AnyRoll → Option AnyEnd)
+        → AreKeysOf state.now.keyset.now keys.now → todo_of state.now.moment next
+        ≡ start_with (view_of state.now end) roll
+        (new_keys policy.now state.now.keyset.now.keys roles.now)) }
+{
+    let old = references(alloc, keys, &Pick::Old(roll))?;
+    match new_keys(alloc, policy, keys, roles)? {
+        Ok(new) => Ok(Next::Start { roll, old, new }),
+        Err(role) => Ok(Next::NeedKey { role }),
+    }
+}
+
+// ---- the first keys, another algorithm, or another scheme
+
+/// Whether each role has a key at work.
+fn is_served(policy: &Policy, keys: &[(&String, &Key)]) -> bool
+    ensures { result ≡ list_all (λ role. list_any (λ e. serves role e.1.now.keytype) keys.now)
+        (roles_of policy.now.scheme) }
+{
+    roles_of(policy.scheme)
+        .iter()
+        .all(|role| some_serves(*role, keys))
+}
+
+/// Whether some key is of this role, and at work.
+fn some_serves(role: KeyRole, keys: &[(&String, &Key)]) -> bool
+    ensures { result ≡ list_any (λ e. serves role e.1.now.keytype) keys.now }
+{
+    keys.iter().any(|entry| serves(role, entry.1.keytype()))
+}
+
+/// Whether some key is in use that the policy doesn't want.
+fn some_unwanted(policy: &Policy, keys: &[(&String, &Key)]) -> bool
+    ensures { result ≡ list_any (λ e. is_unwanted policy.now e.1.now) keys.now }
+{
+    keys.iter().any(|entry| is_unwanted(policy, entry.1))
+}
+
+/// Whether some role has no key at work, or a key is in use that the policy doesn't want.
+fn wants_others(policy: &Policy, keys: &[(&String, &Key)]) -> bool
+    ensures { (all : Keys) → fin.entries all ≡ map entry_of keys.now
+        → result ≡ wants_others policy.now all }
+{
+    !is_served(policy, keys) || some_unwanted(policy, keys)
+}
+
+/// Whether an algorithm roll may begin, and is wanted.
+fn is_change_due(policy: &Policy, state: &State<'_>, keys: &[(&String, &Key)]) -> bool
+    ensures { (end : AnyRoll → Option AnyEnd) → AreKeysOf state.now.keyset.now keys.now → result
+        ≡ (may_begin (view_of state.now end) AlgorithmRoll
+        && wants_others policy.now state.now.keyset.now.keys) }
+{
+    may_begin(state, RollType::AlgorithmRoll) && wants_others(policy, keys)
+}
+
+/// The first keys, another algorithm, or another scheme.
+pub(crate) fn change<'a>(
+    alloc: Global,
+    policy: &Policy,
+    state: &State<'a>,
+    keys: &[(&'a String, &'a Key)],
+) -> Result<Next<'a>, AllocError>
+    ensures { IfOk result (λ next. (end : AnyRoll → Option AnyEnd)
+        → AreKeysOf state.now.keyset.now keys.now → todo_of state.now.moment next
+        ≡ change policy.now (view_of state.now end)) }
+{
+    if !is_change_due(policy, state, keys) {
+        return Ok(Next::Rest);
+    }
+    let roles = roles_of(policy.scheme);
+    let next = start_next(alloc, policy, state, keys, RollType::AlgorithmRoll, roles)?;
+    Ok(next)
+}
+
+// ---- keys whose time is over
+
+/// The roll by which KSKs are renewed.
+fn ksk_roll(method: KskMethod) -> RollType
+    ensures { result ≡ ksk_roll method }
+{
+    match method {
+        KskMethod::DoubleSignature => RollType::KskRoll,
+        KskMethod::DoubleDs => RollType::KskDoubleDsRoll,
+    }
+}
+
+/// The roll by which ZSKs are renewed.
+fn zsk_roll(method: ZskMethod) -> RollType
+    ensures { result ≡ zsk_roll method }
+{
+    match method {
+        ZskMethod::PrePublish => RollType::ZskRoll,
+        ZskMethod::DoubleSignature => RollType::ZskDoubleSignatureRoll,
+    }
+}
+
+/// The role of the keys that such a roll renews.
+fn role_of(roll: RollType) -> KeyRole
+    ensures { result ≡ role_of roll }
+{
+    match roll {
+        RollType::KskRoll | RollType::KskDoubleDsRoll => KeyRole::Ksk,
+        RollType::ZskRoll | RollType::ZskDoubleSignatureRoll => KeyRole::Zsk,
+        RollType::CskRoll | RollType::AlgorithmRoll => KeyRole::Csk,
+    }
+}
+
+/// When keys of a role are renewed.
+fn renewal_of(policy: &Policy, role: KeyRole) -> Renewal
+    ensures { result ≡ renewal_of policy.now role }
+{
+    match role {
+        KeyRole::Zsk => policy.zsk,
+        KeyRole::Ksk | KeyRole::Csk => policy.ksk,
+    }
+}
+
+fn earlier(one: Option<u128>, other: Option<u128>) -> Option<u128>
+    ensures { result ≡ earlier one other }
+{
+    match (one, other) {
+        (None, n) => n,
+        (Some(m), None) => Some(m),
+        (Some(m), Some(n)) => { if n < m { Some(n) } else { Some(m) } }
+    }
+}
+
+/// From when on a key's time is over by its lifetime.
+fn over_by_age(lifetime: Option<u64>, published: UnixTime) -> Option<u128>
+    ensures { result ≡ over_by_age lifetime published }
+{
+    match lifetime {
+        None => None,
+        Some(lifetime) => Some(nanos(published) + u128::from(lifetime) * 1_000_000_000),
+    }
+}
+
+/// From when on it is over on demand.
+fn over_on_demand(once: Option<UnixTime>, published: UnixTime) -> Option<u128>
+    ensures { result ≡ over_on_demand once published }
+{
+    match once {
+        None => None,
+        Some(moment) => {
+            if published < moment {
+                Some(nanos(moment))
+            } else {
+                None
+            }
+        }
+    }
+}
+
+/// The start of 1970.
+fn start() -> UnixTime
+    ensures { result ≡ 0 }
+{
+    UnixTime::from(Duration::from_secs(0))
+}
+
+/// The moment from which a key's time is over, if ever. One without the stamp of its publication
+/// counts as old.
+fn over_from(renewal: &Renewal, published: Option<UnixTime>) -> Option<u128>
+    ensures { result ≡ over_from renewal.now published }
+{
+    let published = match published {
+        None => start(),
+        Some(moment) => moment,
+    };
+    let by_age = over_by_age(renewal.lifetime, published);
+    earlier(by_age, over_on_demand(renewal.once, published))
+}
+
+/// The first such moment of the keys at work.
+fn first_over(role: KeyRole, renewal: &Renewal, keys: &[(&String, &Key)]) -> Option<u128>
+    ensures { result ≡ first_over role renewal.now (map (λ e. e.1.now) keys.now) }
+{
+    let mut best = None;
+    for entry in keys {
+        if serves(role, entry.1.keytype()) {
+            best = earlier(best, over_from(renewal, entry.1.timestamps().published()));
+        }
+    }
+    best
+}
+
+/// The first such moment of the keys that a roll renews.
+fn first_due(policy: &Policy, roll: RollType, keys: &[(&String, &Key)]) -> Option<u128>
+    ensures { result ≡ first_over (role_of roll) (renewal_of policy.now (role_of roll))
+        (map (λ e. e.1.now) keys.now) }
+{
+    let role = role_of(roll);
+    let renewal = renewal_of(policy, role);
+    first_over(role, &renewal, keys)
+}
+
+/// Whether a roll may begin, and all keys in use are wanted.
+fn may_renew(policy: &Policy, state: &State<'_>, keys: &[(&String, &Key)], roll: RollType) -> bool
+    ensures { (end : AnyRoll → Option AnyEnd) → AreKeysOf state.now.keyset.now keys.now → result
+        ≡ (may_begin (view_of state.now end) roll
+        && not (some_key (is_unwanted policy.now) state.now.keyset.now.keys)) }
+{
+    may_begin(state, roll) && !some_unwanted(policy, keys)
+}
+
+/// A new key for those whose time is over.
+fn renewal<'a>(
+    alloc: Global,
+    policy: &Policy,
+    state: &State<'a>,
+    keys: &[(&'a String, &'a Key)],
+    roll: RollType,
+) -> Result<Next<'a>, AllocError>
+    ensures { IfOk result (λ next. (end : AnyRoll → Option AnyEnd)
+        → AreKeysOf state.now.keyset.now keys.now → todo_of state.now.moment next
+        ≡ renewal policy.now (view_of state.now end) roll) }
+{
+    if !may_renew(policy, state, keys, roll) {
+        return Ok(Next::Rest);
+    }
+    match first_due(policy, roll, keys) {
+        None => Ok(Next::Rest),
+        Some(moment) => {
+            if moment <= nanos(state.moment) {
+                let role = role_of(roll);
+                let next = start_next(alloc, policy, state, keys, roll, &[role])?;
+                Ok(next)
+            } else {
+                Ok(Next::NotBefore { moment })
+            }
+        }
+    }
+}
+
+/// New keys for all whose time is over.
+pub(crate) fn renewals<'a>(
+    alloc: Global,
+    policy: &Policy,
+    state: &State<'a>,
+    keys: &[(&'a String, &'a Key)],
+) -> Result<Next<'a>, AllocError>
+    ensures { IfOk result (λ next. (end : AnyRoll → Option AnyEnd)
+        → AreKeysOf state.now.keyset.now keys.now → todo_of state.now.moment next
+        ≡ renewals policy.now (view_of state.now end) policy.now.scheme) }
+{
+    match policy.scheme {
+        Scheme::Split(ksk, zsk) => {
+            let roll = ksk_roll(ksk);
+            let one = renewal(alloc, policy, state, keys, roll)?;
+            let other = zsk_roll(zsk);
+            let two = renewal(alloc, policy, state, keys, other)?;
+            Ok(one.or(two))
+        }
+        Scheme::SingleType => {
+            let next = renewal(alloc, policy, state, keys, RollType::CskRoll)?;
+            Ok(next)
+        }
+    }
+}

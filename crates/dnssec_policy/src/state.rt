@@ -1,0 +1,50 @@
+//! What the next thing to do is said by.
+ghost use Rattle.std.specs.Prelude.{◌≡◌};
+ghost use Rattle.dnssec_key.specs.declared.roll.RollType.{RollType as AnyRoll};
+ghost use Rattle.dnssec_keyset.specs.WaitEnd.{TellsEnd};
+ghost use Rattle.dnssec_policy.specs.Code.{end_of};
+
+use crate::last_waits::LastWaits;
+use dnssec_keyset::{KeySet, RollType, UnixTime, WaitEnd};
+use dnssec_network::{Notes, Steps};
+
+/// What is known of a zone at a moment.
+#[derive(Drop)]
+pub struct State<'a> {
+    pub keyset: &'a KeySet,
+    /// The last steps of the record of this key set.
+    pub steps: Steps,
+    /// The last second waits of that record.
+    pub last_waits: LastWaits,
+    pub notes: &'a Notes,
+    pub moment: UnixTime,
+}
+
+/// When the waits of the rolls are over.
+#[derive(Clone, Copy)]
+pub(crate) struct Ends {
+    by_roll: [Option<WaitEnd>; 6],
+}
+
+impl Ends {
+    pub(crate) fn of_keyset(keyset: &KeySet) -> Self
+        ensures { (roll : AnyRoll) → TellsEnd roll keyset.now (end_of result roll) }
+    {
+        Ends {
+            by_roll: [
+                keyset.wait_end(RollType::KskRoll),
+                keyset.wait_end(RollType::KskDoubleDsRoll),
+                keyset.wait_end(RollType::ZskRoll),
+                keyset.wait_end(RollType::ZskDoubleSignatureRoll),
+                keyset.wait_end(RollType::CskRoll),
+                keyset.wait_end(RollType::AlgorithmRoll),
+            ],
+        }
+    }
+
+    pub(crate) fn of(&self, roll: RollType) -> Option<WaitEnd>
+        ensures { result ≡ end_of self.now roll }
+    {
+        self.by_roll[roll as usize]
+    }
+}

@@ -1,0 +1,161 @@
+//! What to do next.
+ghost use Rattle.std.specs.Prelude.{◌≡◌, ◌≢◌, ℕ, IfNone, IfSome};
+ghost use Rattle.dnssec_keyset.specs.Step.{Call as AnyCall};
+ghost use Rattle.dnssec_run.specs.Record.{call_of};
+ghost use Rattle.dnssec_policy.specs.Code.{todo_of};
+ghost use Rattle.dnssec_policy.specs.Todo.{Make, is_sooner, moment_of, rank, sooner};
+
+use crate::policy::KeyRole;
+use dnssec_key::Half;
+use dnssec_keyset::{RollType, UnixTime};
+use dnssec_run::{Call, SetKind};
+
+/// What to do next. A call is to be made with the moment at which it was said.
+#[derive(Drop)]
+pub enum Next<'a> {
+    /// Make the report of this half of the roll.
+    Report {
+        roll: RollType,
+        half: Half,
+        ttl: u32,
+    },
+    /// Go on after the wait of this half of the roll.
+    Wait {
+        roll: RollType,
+        half: Half,
+    },
+    /// End the roll.
+    Done {
+        roll: RollType,
+    },
+    /// Start the roll with these lists.
+    Start {
+        roll: RollType,
+        old: Vec<&'a str>,
+        new: Vec<&'a str>,
+    },
+    /// Delete this key.
+    Delete {
+        reference: &'a str,
+    },
+    /// Note that the sets of this kind are published as they are due now, and publish them.
+    Publish {
+        kind: SetKind,
+    },
+    /// Make a key of this role that the policy wants, and add it.
+    NeedKey {
+        role: KeyRole,
+    },
+    /// See whether all servers give what was published of this kind, and note it.
+    Watch {
+        kind: SetKind,
+    },
+    /// Do nothing before this nanosecond since 1970.
+    NotBefore {
+        moment: u128,
+    },
+    /// Do nothing, though this roll is in progress: its wait is over after all time, or its step is
+    /// unknown.
+    Stuck {
+        roll: RollType,
+    },
+    /// Do nothing.
+    Rest,
+}
+
+impl<'a> Next<'a> {
+    /// The call to make, if any.
+    pub fn call(&self, now: UnixTime) -> Option<Call<'_>>
+        ensures some { IfSome result (λ call. todo_of now self.now ≡ Make (call_of call)) }
+        ensures none { IfNone result ((call : AnyCall) → todo_of now self.now ≢ Make call) }
+    {
+        match self {
+            Next::Report {
+                roll,
+                half: Half::First,
+                ttl,
+            } => Some(Call::Propagation1Complete {
+                rolltype: *roll,
+                ttl: *ttl,
+                now,
+            }),
+            Next::Report {
+                roll,
+                half: Half::Second,
+                ttl,
+            } => Some(Call::Propagation2Complete {
+                rolltype: *roll,
+                ttl: *ttl,
+                now,
+            }),
+            Next::Wait {
+                roll,
+                half: Half::First,
+            } => Some(Call::CacheExpired1 {
+                rolltype: *roll,
+                now,
+            }),
+            Next::Wait {
+                roll,
+                half: Half::Second,
+            } => Some(Call::CacheExpired2 {
+                rolltype: *roll,
+                now,
+            }),
+            Next::Done { roll } => Some(Call::RollDone { rolltype: *roll }),
+            Next::Start { roll, old, new } => Some(Call::StartRoll {
+                rolltype: *roll,
+                old: old.as_slice(),
+                new: new.as_slice(),
+                now,
+            }),
+            Next::Delete { reference } => Some(Call::DeleteKey { pubref: *reference }),
+            _ => None,
+        }
+    }
+
+    /// The smaller, the more urgent.
+    fn rank(&self) -> u8
+        ensures { (now : ℕ) → result ≡ rank (todo_of now self.now) }
+    {
+        match self {
+            Next::Report { .. }
+            | Next::Wait { .. }
+            | Next::Done { .. }
+            | Next::Start { .. }
+            | Next::Delete { .. } => 0,
+            Next::Publish { .. } => 1,
+            Next::NeedKey { .. } => 2,
+            Next::Watch { .. } => 3,
+            Next::NotBefore { .. } => 4,
+            Next::Stuck { .. } => 5,
+            Next::Rest => 6,
+        }
+    }
+
+    /// The moment before which there is nothing to do, or 0.
+    fn moment(&self) -> u128
+        ensures { (now : ℕ) → result ≡ moment_of (todo_of now self.now) }
+    {
+        match self {
+            Next::NotBefore { moment } => *moment,
+            _ => 0,
+        }
+    }
+
+    /// Whether the other is more urgent.
+    fn is_sooner(&self, other: &Next<'_>) -> bool
+        ensures { (now : ℕ) → result ≡ is_sooner (todo_of now self.now) (todo_of now other.now) }
+    {
+        let (one, two) = (self.rank(), other.rank());
+        two < one || two == one && other.moment() < self.moment()
+    }
+
+    /// The more urgent of two, or the first.
+    pub(crate) fn or(self, other: Next<'a>) -> Next<'a>
+        ensures { (now : ℕ) → todo_of now result ≡ sooner (todo_of now self.entry)
+            (todo_of now other.entry) }
+    {
+        if self.is_sooner(&other) { other } else { self }
+    }
+}
