@@ -43,6 +43,7 @@ GIVEN = {
     "judge": "mut judge: Judge",
     "steps": "mut steps: Steps",
     "moments": "moments: Moments",
+    "last_waits": "mut last_waits: LastWaits",
     "at": "mut at: usize",
     "origins": "origins: Origins",
 }
@@ -89,7 +90,8 @@ PUBLIC = re.compile(r"pub use ([\w:]+)(?:::\{([^}]*)\})?;")
 def public_items():
     """Each public name of the crates, with the highest crate that has it."""
     items = {}
-    for crate in reversed(["base", "key", "keyset", "run", "judge", "network", "record", "notes"]):
+    crates = ["base", "key", "keyset", "run", "judge", "network", "record", "notes", "policy"]
+    for crate in reversed(crates):
         text = (CRATES / f"dnssec_{crate}" / "src" / "lib.rt").read_text()
         for path, listed in PUBLIC.findall(text):
             for name in listed.split(",") if listed else [path.rpartition("::")[2]]:
