@@ -48,11 +48,11 @@ module _ (text : List ℕ) (from i : ℕ) (begins : Bool) (parts all : List (Lis
   pub part_goes_on : from ≤ i → i < length text → (begins && (get_or text i 0 == 10)) ≡ false
       → all ≡ parts ++ parts_after (get_or text i 0 == 10) (slice_range text from (i + 1))
       (drop (i + 1) text)
-  part_goes_on below within no =
+  part_goes_on below within stays =
       let part = slice_range text from i in
       let here : parts_after begins part (drop i text) ≡ parts_after (get_or text i 0 == 10)
       (part ++ get_or text i 0 ∷ []) (drop (i + 1) text) =
-      ap (parts_after begins part) (drop_more text i 0 within) ∙ rw no refl in
+      ap (parts_after begins part) (drop_more text i 0 within) ∙ rw stays refl in
       so ∙ ap (λ ps. parts ++ ps) (here
       ∙ ap (λ p. parts_after (get_or text i 0 == 10) p (drop (i + 1) text))
       (sym (range_more text from i below within)))
@@ -61,12 +61,12 @@ module _ (text : List ℕ) (from i : ℕ) (begins : Bool) (parts all : List (Lis
   pub part_ends : i < length text → (begins && (get_or text i 0 == 10)) ≡ true
       → all ≡ (parts ++ slice_range text from i ∷ []) ++ parts_after (get_or text i 0 == 10)
       (slice_range text (i + 1) (i + 1)) (drop (i + 1) text)
-  part_ends within yes =
+  part_ends within ends =
       let part = slice_range text from i in
       let rest = parts_after true [] (drop (i + 1) text) in
       let here : parts_after begins part (drop i text) ≡ part ∷ rest =
-      ap (parts_after begins part) (drop_more text i 0 within) ∙ rw yes refl in
-      let feed : (get_or text i 0 == 10) ≡ true = (and_parts begins _ yes).1 in
+      ap (parts_after begins part) (drop_more text i 0 within) ∙ rw ends refl in
+      let feed : (get_or text i 0 == 10) ≡ true = (and_parts begins _ ends).1 in
       let after : rest ≡ parts_after (get_or text i 0 == 10)
       (slice_range text (i + 1) (i + 1)) (drop (i + 1) text) =
       ap (λ b. parts_after b [] (drop (i + 1) text)) (sym feed)
@@ -131,16 +131,16 @@ module _ (ps : List (List ℕ)) (at : ℕ) (before all : List NotedScript)
   pub pair_last : at < length ps → length ps ≤ at + 1
       → ((at == 0) || not (length (get_or ps at []) == 0)) ≡ true
       → before ++ last_at ps at ∷ [] ≡ all
-  pair_last within last yes =
+  pair_last within last is_one =
       sym (so ∙ ap (λ qs. before ++ scripts_after (at == 0) qs) (left_last ps at within last)
-      ∙ rw yes refl)
+      ∙ rw is_one refl)
 
   -- one is left, and it is none
   pub pair_ended : at < length ps → length ps ≤ at + 1
       → ((at == 0) || not (length (get_or ps at []) == 0)) ≡ false → before ≡ all
-  pair_ended within last no =
+  pair_ended within last is_none =
       sym (so ∙ ap (λ qs. before ++ scripts_after (at == 0) qs) (left_last ps at within last)
-      ∙ rw no (append-nil before))
+      ∙ rw is_none (append-nil before))
 
 -- ---- answers
 

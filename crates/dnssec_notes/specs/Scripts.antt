@@ -105,9 +105,9 @@ pub record IsFirstUnanswered (scripts : List NotedScript) (fault : DueFault) : T
   pub here : IsFaultOfOne (slice_index_or scripts i no_script) fault
 
 -- it is the first that is not answered, or memory has run out
-abbrev pub IsFirstFault : List NotedScript → DueFault → Type 0
-IsFirstFault scripts fault =
+abbrev pub IsFaultAmong : List NotedScript → DueFault → Type 0
+IsFaultAmong scripts fault =
     IsFirstUnanswered scripts fault ⊎ (fault ≡ due.Notes OutOfMemory)
 
 abbrev pub IsFaultOfAll : List ℕ → DueFault → Type 0
-IsFaultOfAll text fault = IsFirstFault (scripts_of text) fault
+IsFaultOfAll text fault = IsFaultAmong (scripts_of text) fault

@@ -1,7 +1,7 @@
 //! Several scripts with their notes in one text, and the answers to all of their questions.
 ghost use Rattle.std.specs.Prelude.{◌≡◌, ◌&&◌, ◌||◌, ◌==◌, IfOk, IfErr, length, map, not};
 ghost use Rattle.std.specs.Prelude.{string_bytes};
-ghost use Rattle.dnssec_notes.specs.Scripts.{AnswersEach, AnswersText, IsFaultOfAll, IsFirstFault};
+ghost use Rattle.dnssec_notes.specs.Scripts.{AnswersEach, AnswersText, IsFaultOfAll, IsFaultAmong};
 ghost use Rattle.dnssec_notes.specs.Scripts.{as_noted, parts_of, scripts_among};
 ghost use denote.Bor.{now};
 
@@ -107,7 +107,7 @@ fn is_script(is_first: bool, part: &[u8]) -> bool
 fn answer_each(alloc: Global, scripts: &[Noted<'_>]) -> Result<Vec<String>, DueFault>
     ensures ok { IfOk result (λ answers.
         AnswersEach (map as_noted scripts.now) (map string_bytes answers.items)) }
-    ensures err { IfErr result (IsFirstFault (map as_noted scripts.now)) }
+    ensures err { IfErr result (IsFaultAmong (map as_noted scripts.now)) }
 {
     let mut answers = Vec::new(alloc);
     for noted in scripts {

@@ -3,7 +3,7 @@ use Rattle.std.proofs.Common.{List, ap, map, subst, ◌∙◌}
 use Rattle.std.proofs.lemmas.Result.{err_from_is_err_and}
 use Rattle.std.specs.Prelude.{codes, string_bytes}
 use Rattle.std.specs.declared.alloc.Global.{Global}
-use Rattle.dnssec_notes.specs.Scripts.{AnswersEach, IsFirstFault, NotedScript, as_noted}
+use Rattle.dnssec_notes.specs.Scripts.{AnswersEach, IsFaultAmong, NotedScript, as_noted}
 use Rattle.dnssec_notes.specs.Scripts.{scripts_among}
 use Rattle.dnssec_notes.proofs.Parting.{joined_bytes}
 use denote.Bor.{now}
@@ -28,5 +28,5 @@ returns-in_err-answers-clause-err c =
     let parts = ap (map now) c.deref.ensures.value ∙ c.in_ok-parts.ensures in
     let scripts = ap (map as_noted) c.deref-2.ensures.value ∙ c.in_ok-scripts.ensures
     ∙ ap scripts_among parts in
-    rw (p.1, p.2) (subst (λ (ss : List NotedScript). IsFirstFault ss _) scripts
+    rw (p.1, p.2) (subst (λ (ss : List NotedScript). IsFaultAmong ss _) scripts
     c.in_err-answers.ensures.err)

@@ -25,8 +25,8 @@ loop-at-preserved c =
           (pair_more (map now xs) l.at before _ l.invariant.1 (omega arith)),
     )
 
-pub returns-then-at-eq-len : goal.returns-then-at-eq-len
-returns-then-at-eq-len c =
+pub returns-then-at-parts : goal.returns-then-at-parts
+returns-then-at-parts c =
     let xs = c.args.parts.now in
     let l = c.loop-at in
     let long = length-map xs now in
