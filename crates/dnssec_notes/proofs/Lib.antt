@@ -2,3 +2,4 @@
 pub mod Noting
 pub mod Asking
 pub mod Reporting
+pub mod Parting

@@ -3,3 +3,4 @@ pub mod Reading
 pub mod Due
 pub mod Questions
 pub mod Texts
+pub mod Scripts

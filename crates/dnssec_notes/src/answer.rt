@@ -1,7 +1,8 @@
 //! Which reports are due after a script, by its notes.
-ghost use Rattle.std.specs.Prelude.{◌<◌, IfOk, map, string_bytes, vec_len};
+ghost use Rattle.std.specs.Prelude.{◌<◌, IfErr, IfOk, map, string_bytes, vec_len};
 ghost use Rattle.dnssec_notes.specs.Due.{IsDueAnswer};
 ghost use Rattle.dnssec_notes.specs.Questions.{AreAnswers};
+ghost use Rattle.dnssec_notes.specs.Scripts.{IsFaultBeside};
 
 use crate::fault::{DueFault, NotesFault};
 use crate::questions::answer_lines;
@@ -53,6 +54,7 @@ pub fn answer_questions(alloc: Global, script: &[u8], notes: &[u8]) -> Result<Ve
     ensures ok { IfOk result (λ texts.
         AreAnswers script.now notes.now (map string_bytes texts.items)) }
     ensures asked { IfOk result (λ texts. 0 < vec_len texts) }
+    ensures err { IfErr result (IsFaultBeside script.now notes.now) }
 {
     let session = Session::resume(alloc, script)?;
     let Ok(lines) = all_lines(alloc, notes) else {

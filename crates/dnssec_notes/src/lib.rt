@@ -7,6 +7,7 @@ mod line;
 mod questions;
 mod reading;
 mod reports;
+mod scripts;
 mod session;
 
 pub use answer::{answer_due, answer_questions};
@@ -17,4 +18,5 @@ pub use fault::{DueFault, LineFault, NotesFault};
 pub use questions::answer_lines;
 pub use reading::read_notes;
 pub use reports::due_lines;
+pub use scripts::answer_scripts;
 pub use session::{SessionNotes, notes_outlast_calls};

@@ -5,13 +5,12 @@
 //! output fails.
 #![tactic(auto)]
 
-mod due;
 mod fault;
 mod words;
 
-use crate::due::answer_all;
 use crate::fault::Fault;
 use crate::words::{Task, task_of};
+use dnssec_notes::answer_scripts;
 use dnssec_record::{ScriptFault, Session, Std, run_script};
 use dnssec_status::status;
 use std::alloc::Global;
@@ -72,7 +71,7 @@ fn run(rt: &HostRuntime) -> Result<(), Fault> {
             let scripts = read_all(alloc, rt.stdin())?;
             write(
                 rt.stdout(),
-                answer_all(alloc, &scripts)?.as_str().as_bytes(),
+                answer_scripts(alloc, &scripts)?.as_str().as_bytes(),
             )
         }
         Task::Version => write(rt.stdout(), VERSION.as_bytes()),
