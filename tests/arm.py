@@ -20,6 +20,10 @@ from tools import TOP, Wrong, run
 
 CC = "aarch64-linux-gnu-gcc"
 QEMU = "qemu-aarch64"
+# Debian's Python of this machine: what it compiles has the form that the one for ARM reads. Under
+# qemu each start of Python would compile all modules anew.
+COMPILER = "/usr/bin/python3"
+OURS = (TOP / "tests", TOP / "library" / "python")
 PACKAGES = ("python3-minimal", "libpython3-stdlib", "python3-jsonschema")
 # apt-get for another architecture, with folders of its own.
 SETTINGS = """\
@@ -51,9 +55,16 @@ def unpack(room):
     return room / "root"
 
 
+def compile_all(room, root):
+    """Compiles the modules of Python and ours, into a folder that each Python looks into."""
+    os.environ["PYTHONPYCACHEPREFIX"] = str(room / "compiled")
+    run(COMPILER, "-m", "compileall", "-q", root / "usr" / "lib", *OURS)
+
+
 def python_of(room):
     """A script that begins Python for ARM. It lies where Python looks for its folders."""
     root = unpack(room)
+    compile_all(room, root)
     script = root / "usr" / "bin" / "python3"
     name = script.readlink().name
     script.unlink()
