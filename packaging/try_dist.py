@@ -27,7 +27,7 @@ from pathlib import Path
 
 sys.dont_write_bytecode = True
 
-from artefact import AARCH64, X86_64, Fault, run  # noqa: E402
+from artefact import AARCH64, X86_64, Fault, run, version  # noqa: E402
 from layout import TOP, shared  # noqa: E402
 
 SUITE = "bookworm"
@@ -52,7 +52,7 @@ refused() { if "$@"; then echo "it isn't refused: $*"; exit 1; fi; }
 BY_COMMAND = f"""
 cd "$(mktemp -d)"
 cp @EXAMPLES@/{EXAMPLE}.script example.com.script
-vaqsider --version
+test "$(vaqsider --version)" = 'vaqsider @VERSION@'
 vaqsider status example.com.script
 vaqsider call example.com.script 'add-zsk Z9 - 13 9 0 yes'
 refused vaqsider call example.com.script 'add-zsk Z9 - 13 9 0 yes'
@@ -60,7 +60,7 @@ grep -q Z9 example.com.script
 """
 # The first example of README, and one of each word: the answers are those that are stored.
 BY_PROGRAM = f"""
-keyset --version
+test "$(keyset --version)" = 'keyset @VERSION@'
 keyset --help
 keyset <@EXAMPLES@/{EXAMPLE}.script | cmp - @EXAMPLES@/{EXAMPLE}.answers
 for program in 'keyset status' keyset_status; do
@@ -80,6 +80,7 @@ keys = keyset.KeySet("example.com")
 keys.call("add-ksk K1 - 13 2 0 yes")
 assert keys.script == "zone example.com\\nadd-ksk K1 - 13 2 0 yes\\n"
 assert keyset.library.library() is not None
+assert keyset.__version__ == "@VERSION@"
 """
 IN_C = r"""
 #include <keyset.h>
@@ -90,11 +91,14 @@ int main(void)
 {
     const char *zone = "zone example.com", *line = "add-ksk K1 - 13 2 0 yes";
     struct keyset_session session = {0};
+    uint8_t release[64];
     uint32_t opened = keyset_open((const uint8_t *)zone, strlen(zone), &session);
     uint32_t made = keyset_accept(&session, (const uint8_t *)line, strlen(line));
     printf("%u %u %u\n", opened, made, (unsigned)keyset_calls(&session));
     keyset_close(&session);
-    return keyset_version() != KEYSET_VERSION;
+    struct keyset_answered named = keyset_version_text(release, sizeof release);
+    int is_this = named.length == strlen("@VERSION@") && !memcmp(release, "@VERSION@", named.length);
+    return !is_this || keyset_version() != KEYSET_VERSION;
 }
 """
 
@@ -111,7 +115,7 @@ class Trial:
     def on(self, architecture):
         """This trial on an architecture."""
         names = {"@MACHINE@": architecture.machine, "@DEBIAN@": architecture.debian,
-                 "@FOLDER@": architecture.folder, "@SHARED@": shared()}
+                 "@FOLDER@": architecture.folder, "@SHARED@": shared(), "@VERSION@": version()}
         artefact, script = self.artefact, self.script
         for name, text in names.items():
             artefact, script = artefact.replace(name, text), script.replace(name, text)
@@ -160,6 +164,7 @@ cc -o /srv/roll library/c/roll.c $(pkg-config --cflags --libs keyset)
 cat >/srv/session.c <<'END'
 {IN_C}
 END
+test "$(pkg-config --modversion keyset)" = '@VERSION@'
 cc -o /srv/session /srv/session.c $(pkg-config --cflags --libs keyset)
 test "$(/srv/session)" = '0 0 1'
 """),
