@@ -116,10 +116,10 @@ class Trial:
         """This trial on an architecture."""
         names = {"@MACHINE@": architecture.machine, "@DEBIAN@": architecture.debian,
                  "@FOLDER@": architecture.folder, "@SHARED@": shared(), "@VERSION@": version()}
-        artefact, script = self.artefact, self.script
+        artefact, script = self.artefact, BEFORE + self.script
         for name, text in names.items():
             artefact, script = artefact.replace(name, text), script.replace(name, text)
-        return Trial(artefact, self.tool, self.packages, BEFORE + script)
+        return Trial(artefact, self.tool, self.packages, script)
 
 
 def using(text, examples):
