@@ -7,6 +7,8 @@ DESTDIR ?=
 LIBDIR ?= lib
 WITHOUT ?=
 RUNS ?= 1000000
+# Where make try-dist keeps its bare Debians.
+ROOM ?=
 
 # The Python of the tests: the first that has dnspython, cryptography and jsonschema. A Python that
 # isn't Debian's, as one of pyenv, doesn't see what apt-get installs.
@@ -79,7 +81,7 @@ dist: logs made arm has-dpkg-deb has-cargo ## makes a release in dist by the log
 
 try-dist: logs python has-debootstrap ## makes it twice, installs and uses each in a bare Debian
 	@packaging/twice.py $(DIST) --proofs $(PROOFS)
-	@packaging/try_dist.py dist
+	@packaging/try_dist.py dist $(addprefix --room ,$(ROOM))
 
 logs:
 	@[ -n "$(PROOFS)" ] || { echo "PROOFS='FILE ..' has to name what make test printed" >&2; exit 1; }

@@ -58,17 +58,27 @@ def artefacts(folder, logs):
     yield write_proof(folder, BUILDS, logs)
 
 
-def make(folder, logs, untagged):
-    check(untagged)
-    os.umask(0o022)
-    shutil.rmtree(folder, ignore_errors=True)
-    folder.mkdir(parents=True)
+def write_all(folder, logs):
+    """Makes each artefact, and at last their sums, without which the folder is no release."""
     rows = []
     for path in artefacts(folder, logs):
         digest = hashlib.sha256(path.read_bytes()).hexdigest()
         rows.append(f"{digest}  {path.name}\n")
         print(f"{path.stat().st_size:>10} {path.name}", flush=True)
     (folder / "SHA256SUMS").write_text("".join(sorted(rows, key=lambda row: row.split()[1])))
+
+
+def make(folder, logs, untagged):
+    """Makes a release. If it breaks off, as on a full disk, no part of one is left."""
+    check(untagged)
+    os.umask(0o022)
+    shutil.rmtree(folder, ignore_errors=True)
+    folder.mkdir(parents=True)
+    try:
+        write_all(folder, logs)
+    except BaseException:
+        shutil.rmtree(folder, ignore_errors=True)
+        raise
 
 
 def main():

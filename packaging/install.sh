@@ -4,6 +4,7 @@
 #     ./install.sh PREFIX              as ./install.sh /usr/local
 #     ./install.sh --uninstall PREFIX
 #
+# It installs nothing unless all files have the sums of SHA256SUMS, which lies beside it too.
 # `share/vaqsider/installed` lists what was installed. Files that an earlier install has left, and
 # this one lacks, go; a shared object of an older interface stays, since programs may be linked to it.
 set -eu
@@ -14,6 +15,21 @@ list=share/vaqsider/installed
 usage() {
 	sed -n 's/^#     //p' "$0" >&2
 	exit 2
+}
+
+# The lines of a list with files, or with folders, which end with a slash.
+files() { grep -v '/$' "$1" || true; }
+folders() { grep '/$' "$1" || true; }
+
+# Each file of the list has its sum: one that was cut off, say, isn't installed.
+expect_whole() {
+	if (cd "$1" && sha256sum -c SHA256SUMS) >"$room/sums" 2>&1 && [ -f "$1/root/$list" ] &&
+		! files "$1/root/$list" | sed 's|.*|root/&: OK|' | grep -qvxF -f "$room/sums"; then
+		return
+	fi
+	grep -v ': OK$' "$room/sums" >&2 || true
+	echo "$1 is damaged: unpack the tarball once more" >&2
+	exit 1
 }
 
 # Removes a file, and what Python has compiled of it. A folder in its place isn't ours.
@@ -27,10 +43,6 @@ remove_file() {
 		;;
 	esac
 }
-
-# The lines of a list with files, or with folders, which end with a slash.
-files() { grep -v '/$' "$1" || true; }
-folders() { grep '/$' "$1" || true; }
 
 # Keeps others from installing or uninstalling there meanwhile, if the system has flock.
 lock() {
@@ -72,6 +84,7 @@ keep() {
 # that: so an install that breaks off can be removed.
 install() {
 	root=$(cd "$(dirname "$0")" && pwd)/root
+	expect_whole "${root%/root}"
 	: >"$room/before"
 	: >"$room/made"
 	[ -d "$1" ] || { mkdir -p "$1"; echo ./ >"$room/made"; }
@@ -91,6 +104,7 @@ install() {
 	keep "$1" "$room/stay" "$room/files" "$room/made"
 	echo "installed $(wc -l <"$room/files") files below $1"
 	if [ "$(id -u)" = 0 ] && command -v ldconfig >/dev/null; then ldconfig; fi
+	command -v python3 >/dev/null || echo "the command vaqsider wants python3: 3.9 or later"
 }
 
 room=$(mktemp -d) new=

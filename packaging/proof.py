@@ -49,7 +49,7 @@ def digest(path):
 
 
 def crates():
-    """The crates that the program and the library consist of, lowest first."""
+    """The crates of the product, lowest first: those of tests come after them."""
     names = list(proved.crates())
     return names[: names.index("keyset_c") + 1]
 

@@ -1,10 +1,11 @@
 """The tarballs of a release: the sources, and for each architecture what is installed."""
 
+import hashlib
 import shutil
 import tempfile
 from pathlib import Path
 
-from artefact import Built, pack, sources, version
+from artefact import Built, entries, pack, sources, version
 from layout import TOP, Layout
 from trees import install
 
@@ -25,6 +26,15 @@ def pack_sources(folder):
     return archive
 
 
+def write_sums(room):
+    """Writes the sums of all files, as sha256sum does. `install.sh` compares them."""
+    digests = ((hashlib.sha256(path.read_bytes()).hexdigest(), path.relative_to(room))
+               for path in entries(room) if path.is_file())
+    text = "".join(f"{digest}  {name}\n" for digest, name in digests)
+    (room / "SHA256SUMS").write_text(text, encoding="utf-8")
+    (room / "SHA256SUMS").chmod(0o644)
+
+
 def pack_built(folder, built: Built):
     """What is installed, with `install.sh PREFIX`. Gives the tarball."""
     name = f"vaqsider-{version()}-{built.architecture.machine}-linux"
@@ -37,6 +47,7 @@ def pack_built(folder, built: Built):
         for page in ("README.md", "CHANGELOG.md", "LICENSE"):
             shutil.copyfile(TOP / page, Path(room) / page)
             (Path(room) / page).chmod(0o644)
+        write_sums(Path(room))
         pack(Path(room), archive, f"{name}/")
     return archive
 

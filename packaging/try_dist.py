@@ -6,8 +6,11 @@
 FOLDER is what `make dist` has made. It wants root, debootstrap and a mirror of Debian, and for ARM
 what qemu-user-static has the kernel do with its programs. It prints a row for each artefact: the
 tool, the architecture, what came of it, and the seconds. The room may be kept, so that a second run
-takes the same bare Debians. In each the sums of the release are right, and what is installed has
-the bytes that PROOF names.
+takes the same bare Debians, with the packages that a tool needs. In each the sums of the release
+are right, and what is installed has the bytes that PROOF names.
+
+Other rows are of mishaps: a release that is damaged, or whose PROOF names other sums, is seen; a
+full disk and a lack of Python are named; and an older release is replaced.
 """
 
 import argparse
@@ -24,7 +27,7 @@ from pathlib import Path
 
 sys.dont_write_bytecode = True
 
-from artefact import AARCH64, X86_64, Fault, run  # noqa: E402
+from artefact import AARCH64, X86_64, Fault, run, version  # noqa: E402
 from layout import TOP, shared  # noqa: E402
 
 SUITE = "bookworm"
@@ -35,21 +38,29 @@ EXAMPLE = "algorithm-roll"
 BEFORE = """
 set -eu
 (cd /dist && sha256sum --check --quiet SHA256SUMS)
-proved() { for file; do grep -q "$(sha256sum <"$file" | cut -d" " -f1)" /dist/PROOF; done; }
+# Whether PROOF names each of these files with its sum.
+proved() {
+    for file; do
+        sum=$(sha256sum "$file") || return 1
+        row="  ${sum%% *}  @MACHINE@ ${file##*/}"
+        grep -qxF -e "$row" -e "$row, Debian" /dist/PROOF || return 1
+    done
+}
+refused() { if "$@"; then echo "it isn't refused: $*"; exit 1; fi; }
 """
 # A session by the command: a zone, its first keys, and a call that is refused.
 BY_COMMAND = f"""
 cd "$(mktemp -d)"
 cp @EXAMPLES@/{EXAMPLE}.script example.com.script
-vaqsider --version
+test "$(vaqsider --version)" = 'vaqsider @VERSION@'
 vaqsider status example.com.script
 vaqsider call example.com.script 'add-zsk Z9 - 13 9 0 yes'
-! vaqsider call example.com.script 'add-zsk Z9 - 13 9 0 yes'
+refused vaqsider call example.com.script 'add-zsk Z9 - 13 9 0 yes'
 grep -q Z9 example.com.script
 """
 # The first example of README, and one of each word: the answers are those that are stored.
 BY_PROGRAM = f"""
-keyset --version
+test "$(keyset --version)" = 'keyset @VERSION@'
 keyset --help
 keyset <@EXAMPLES@/{EXAMPLE}.script | cmp - @EXAMPLES@/{EXAMPLE}.answers
 for program in 'keyset status' keyset_status; do
@@ -69,6 +80,7 @@ keys = keyset.KeySet("example.com")
 keys.call("add-ksk K1 - 13 2 0 yes")
 assert keys.script == "zone example.com\\nadd-ksk K1 - 13 2 0 yes\\n"
 assert keyset.library.library() is not None
+assert keyset.__version__ == "@VERSION@"
 """
 IN_C = r"""
 #include <keyset.h>
@@ -79,11 +91,14 @@ int main(void)
 {
     const char *zone = "zone example.com", *line = "add-ksk K1 - 13 2 0 yes";
     struct keyset_session session = {0};
+    uint8_t release[64];
     uint32_t opened = keyset_open((const uint8_t *)zone, strlen(zone), &session);
     uint32_t made = keyset_accept(&session, (const uint8_t *)line, strlen(line));
     printf("%u %u %u\n", opened, made, (unsigned)keyset_calls(&session));
     keyset_close(&session);
-    return keyset_version() != KEYSET_VERSION;
+    struct keyset_answered named = keyset_version_text(release, sizeof release);
+    int is_this = named.length == strlen("@VERSION@") && !memcmp(release, "@VERSION@", named.length);
+    return !is_this || keyset_version() != KEYSET_VERSION;
 }
 """
 
@@ -100,11 +115,11 @@ class Trial:
     def on(self, architecture):
         """This trial on an architecture."""
         names = {"@MACHINE@": architecture.machine, "@DEBIAN@": architecture.debian,
-                 "@FOLDER@": architecture.folder, "@SHARED@": shared()}
-        artefact, script = self.artefact, self.script
+                 "@FOLDER@": architecture.folder, "@SHARED@": shared(), "@VERSION@": version()}
+        artefact, script = self.artefact, BEFORE + self.script
         for name, text in names.items():
             artefact, script = artefact.replace(name, text), script.replace(name, text)
-        return Trial(artefact, self.tool, self.packages, BEFORE + script)
+        return Trial(artefact, self.tool, self.packages, script)
 
 
 def using(text, examples):
@@ -114,20 +129,22 @@ def using(text, examples):
 
 INSTALLED = "/usr/local/share/doc/vaqsider/examples"
 OF_DEBIAN = "/usr/share/doc/vaqsider/examples"
-UNPACKED = """
-tar -xzf /dist/vaqsider-*-@MACHINE@-linux.tar.gz -C /srv
+TARBALL = "vaqsider-*-@MACHINE@-linux.tar.gz"
+UNPACKED = f"""
+tar -xzf /dist/{TARBALL} -C /srv
 /srv/vaqsider-*/install.sh /usr/local
 proved /usr/local/bin/keyset /usr/local/lib/@SHARED@ /usr/local/lib/libkeyset.a
 """
 TRIALS = (
-    Trial("vaqsider-*-@MACHINE@-linux.tar.gz", "tar", (), f"""
+    Trial(TARBALL, "tar", (), f"""
 {UNPACKED}
 {using(BY_PROGRAM, INSTALLED)}
+refused vaqsider --version
 /srv/vaqsider-*/install.sh --uninstall /usr/local
 test ! -e /usr/local/bin/keyset
 test ! -e /usr/local/share/vaqsider
 """),
-    Trial("vaqsider-*-@MACHINE@-linux.tar.gz", "tar, and python3", ("python3",), f"""
+    Trial(TARBALL, "tar, and python3", ("python3",), f"""
 {UNPACKED}
 {using(BY_PROGRAM + BY_COMMAND, INSTALLED)}
 """),
@@ -147,6 +164,7 @@ cc -o /srv/roll library/c/roll.c $(pkg-config --cflags --libs keyset)
 cat >/srv/session.c <<'END'
 {IN_C}
 END
+test "$(pkg-config --modversion keyset)" = '@VERSION@'
 cc -o /srv/session /srv/session.c $(pkg-config --cflags --libs keyset)
 test "$(/srv/session)" = '0 0 1'
 """),
@@ -187,12 +205,67 @@ go run ./examples/roll </examples/{EXAMPLE}.script | cmp - /examples/{EXAMPLE}.a
 """),
 )
 
+# What is there, and what has to be seen, said or replaced.
+MISHAPS = (
+    Trial("SHA256SUMS", "tar, of a damaged file", (), f"""
+printf x | dd of="$(echo /dist/{TARBALL})" bs=1 seek=1000 conv=notrunc status=none
+cd /dist
+refused sha256sum --check --quiet SHA256SUMS
+"""),
+    Trial(TARBALL, "tar, of a file that is cut off", (), f"""
+head -c -100000 /dist/{TARBALL} >/srv/cut.tar.gz
+refused tar -xzf /srv/cut.tar.gz -C /srv
+refused /srv/vaqsider-*/install.sh /usr/local
+test ! -e /usr/local/bin/keyset
+"""),
+    Trial("PROOF", "tar, with other sums", (), f"""
+sed -i 's/^  [0-9a-f]\\{{4\\}}/  dead/' /dist/PROOF
+tar -xzf /dist/{TARBALL} -C /srv
+/srv/vaqsider-*/install.sh /usr/local
+for file in bin/keyset lib/@SHARED@ lib/libkeyset.a; do refused proved /usr/local/$file; done
+refused proved /usr/local/bin/none
+"""),
+    Trial(TARBALL, "tar, on a full disk", (), f"""
+tar -xzf /dist/{TARBALL} -C /srv
+mount -t tmpfs -o size=1m tmpfs /usr/local
+trap 'umount /usr/local' EXIT
+refused /srv/vaqsider-*/install.sh /usr/local 2>/srv/said
+grep 'No space left' /srv/said
+test -z "$(find /usr/local -name '*.new')"
+/srv/vaqsider-*/install.sh --uninstall /usr/local
+test -z "$(ls -A /usr/local)"
+"""),
+    Trial("vaqsider_*_@DEBIAN@.deb", "dpkg, without python3", (), f"""
+refused dpkg -i /dist/libkeyset[0-9]*_@DEBIAN@.deb /dist/vaqsider_*_@DEBIAN@.deb
+test "$(dpkg-query -W -f '${{db:Status-Status}}' vaqsider)" = unpacked
+"""),
+    Trial("vaqsider_*_@DEBIAN@.deb", "dpkg, over an older release", ("python3",), f"""
+dpkg-deb -R /dist/libkeyset[0-9]*_@DEBIAN@.deb /srv/library
+sed -i 's/^Package: .*/Package: libkeyset2/; s/^Version: .*/Version: 1.0.0-1/' \
+    /srv/library/DEBIAN/control
+rm -r /srv/library/usr/share /srv/library/DEBIAN/symbols /srv/library/DEBIAN/shlibs
+mv /srv/library/usr/lib/@FOLDER@/@SHARED@ /srv/library/usr/lib/@FOLDER@/libkeyset.so.2
+dpkg-deb -R /dist/vaqsider_*_@DEBIAN@.deb /srv/older
+sed -i 's/^Version: .*/Version: 1.0.0-1/; s/libkeyset[0-9]* ([^)]*)/libkeyset2/' \
+    /srv/older/DEBIAN/control
+touch /srv/older/usr/share/vaqsider/older.py
+for package in library older; do dpkg-deb -b /srv/$package /srv/$package.deb; done
+dpkg -i /srv/library.deb /srv/older.deb
+test -e /usr/share/vaqsider/older.py
+dpkg -i /dist/libkeyset[0-9]*_@DEBIAN@.deb /dist/vaqsider_*_@DEBIAN@.deb
+test ! -e /usr/share/vaqsider/older.py
+test -e /usr/lib/@FOLDER@/libkeyset.so.2
+proved /usr/bin/keyset /usr/lib/@FOLDER@/@SHARED@
+{using(BY_PROGRAM + BY_COMMAND, OF_DEBIAN)}
+"""),
+)
+
 
 def bare(room, architecture):
     """A bare Debian for an architecture, made once."""
     root = room / f"bare-{architecture.debian}"
     if not root.is_dir():
-        making = room / "making"
+        making = room / f"making-{root.name}"
         shutil.rmtree(making, ignore_errors=True)
         run("debootstrap", f"--arch={architecture.debian}", "--variant=minbase", SUITE, making,
             MIRROR)
@@ -203,17 +276,27 @@ def bare(room, architecture):
     return root
 
 
+def with_packages(room, architecture, packages):
+    """A bare Debian with these packages beside its own, made once."""
+    root = room / "-".join(("bare", architecture.debian, *packages))
+    if packages and not root.is_dir():
+        making = room / f"making-{root.name}"
+        shutil.rmtree(making, ignore_errors=True)
+        run("cp", "-a", bare(room, architecture), making)
+        inside(making, "apt-get update -qq && DEBIAN_FRONTEND=noninteractive apt-get install "
+                       f"-qq -y --no-install-recommends {' '.join(packages)} && apt-get clean")
+        making.rename(root)
+    return root if packages else bare(room, architecture)
+
+
 @contextmanager
 def root_of(trial, architecture, room, dist):
     """A copy of the bare Debian with the packages of a trial, the artefacts and the examples."""
     root = Path(tempfile.mkdtemp(dir=room, prefix="root-"))
     try:
-        run("cp", "-a", f"{bare(room, architecture)}/.", root)
+        run("cp", "-a", f"{with_packages(room, architecture, trial.packages)}/.", root)
         shutil.copytree(dist, root / "dist")
         shutil.copytree(TOP / "examples", root / "examples")
-        if trial.packages:
-            inside(root, "apt-get update -qq && DEBIAN_FRONTEND=noninteractive apt-get install "
-                         f"-qq -y --no-install-recommends {' '.join(trial.packages)}")
         # (rustc looks for itself there.)
         run("mount", "-t", "proc", "proc", root / "proc")
         yield root
@@ -253,9 +336,10 @@ def rows(given, room):
     """The rows of the table, each with whether its trial went well."""
     for architecture in (X86_64, AARCH64):
         if architecture is AARCH64 and not QEMU.exists():
-            yield f"| all | | {architecture.debian} | {QEMU} isn't there: not tried | |", False
+            yield f"| all | | {architecture.debian} | the kernel has no {QEMU.name} | |", False
             continue
-        for trial in (trial.on(architecture) for trial in TRIALS):
+        trials = TRIALS + (MISHAPS if architecture is X86_64 else ())
+        for trial in (trial.on(architecture) for trial in trials):
             if given.only in f"{trial.artefact} {trial.tool} {architecture.debian}":
                 yield tried(trial, architecture, room, given.dist.resolve())
 

@@ -6,7 +6,7 @@
     tests/library.py FOLDER elsewhere         only its tests in C: those of another architecture, by
                                               the compiler CC, run under RUNNER
     tests/library.py FOLDER python            only its tests in Python: for a Python of another
-                                              architecture
+                                              architecture, on one of EVERY scripts
 
 A script and its answers are those of `replay/scripts.txt`. The program `keyset` has to answer them,
 damaged scripts and long ones as the library does, and `keyset status` has to show what sessions
@@ -22,6 +22,7 @@ import sys
 import tempfile
 import time
 from concurrent.futures import ThreadPoolExecutor
+from itertools import islice
 from pathlib import Path
 
 import install
@@ -33,8 +34,8 @@ import release
 import rust
 import sessions
 import words
-from tools import C99, CC, NOTED, PROGRAM, RUNNER, STATUS, STRICT, TOP, WRAPPED, Wrong, c_flags
-from tools import kit, run
+from tools import C99, CC, EVERY, NOTED, PROGRAM, RUNNER, STATUS, STRICT, TOP, WRAPPED, Wrong
+from tools import c_flags, kit, run
 
 LIBRARY = TOP / "library"
 STORED = TOP / "replay" / "scripts.txt"
@@ -142,14 +143,7 @@ def elsewhere(folder, room):
     return "".join(told).strip()
 
 
-def in_python(folder, room):
-    """The tests in this Python, whose architecture the library is for."""
-    tests = tests_in_python(folder, noted.questions_of_operators())
-    return "\n".join(f"{name}: {line}" for name, line in tests)
-
-
-CHECKERS = {"valgrind": under_valgrind, "asan": under_asan, "elsewhere": elsewhere,
-            "python": in_python}
+CHECKERS = {"valgrind": under_valgrind, "asan": under_asan, "elsewhere": elsewhere}
 
 
 def test_static_buffer(folder, room):
@@ -164,7 +158,7 @@ def test_static_buffer(folder, room):
 
 def stored_scripts():
     """The stored scripts with their names and answers."""
-    for part in STORED.read_text().split("\n== ")[1:]:
+    for part in STORED.read_text().split("\n== ")[1::EVERY]:
         name, _, rest = part.partition("\n")
         script, _, answer = rest.partition("-- answers\n")
         yield name, script, answer
@@ -281,7 +275,7 @@ def test_damaged(keyset):
     chance = random.Random("damaged")
     scripts = [b"", b"\n", b"zone .", b"zone example.com\n"]
     scripts += (script.encode() for _, script, _ in stored_scripts())
-    for path in EXAMPLES:
+    for path in EXAMPLES[::EVERY]:
         whole = path.read_bytes()
         scripts += [whole, whole[:-1], *(damaged(whole, chance) for _ in range(DAMAGES))]
     statuses = []
@@ -335,7 +329,7 @@ def test_long(folder, keyset):
     """Long scripts are answered whole: by the program, by the library, and by a session."""
     library = sessions.Library(folder / "lib" / "libkeyset.so", 64 * long.MEGABYTE)
     names = []
-    for name, script, answer in long.scripts():
+    for name, script, answer in islice(long.scripts(), None if EVERY == 1 else 1):
         names.append(name)
         for answerer, given in (
             ("program", as_program(script.encode())),
@@ -355,7 +349,7 @@ def test_frozen(keyset):
     """The program and the library answer what a release answered."""
     count = 0
     for version in release.frozen():
-        for name, script, told in release.frozen_scripts(version):
+        for name, script, told in [*release.frozen_scripts(version)][::EVERY]:
             for answerer, given in (
                 ("program", as_program(script.encode())),
                 ("library", as_library(keyset, script.encode())),
@@ -369,12 +363,13 @@ def test_frozen(keyset):
 def expect_rolls(caller, command, **how):
     """A caller that plays an example line by line prints what the program prints for the whole. It
     drops the calls that are refused, so a broken chain may have other positions."""
-    for path in EXAMPLES:
+    examples = EXAMPLES[::EVERY]
+    for path in examples:
         script = path.read_bytes()
         played = run(*command, input=script, **how)
         if played.partition(" at=")[0] != as_program(script)[1].partition(" at=")[0]:
             raise Wrong(f"{caller} doesn't answer {path.name} as the program")
-    return f"the caller in {caller} answers {len(EXAMPLES)} examples as the program"
+    return f"the caller in {caller} answers {len(examples)} examples as the program"
 
 
 def test_c_caller(room, caller, flags):
@@ -399,6 +394,11 @@ def test_python_caller(folder):
     for path in sorted((LIBRARY / "python").glob("test_*.py")):
         run(sys.executable, "-B", path, env=made)
     return expect_rolls("Python", [sys.executable, "-B", LIBRARY / "python" / "roll.py"], env=made)
+
+
+def in_python(folder, _):
+    """The tests in this Python, whose architecture the library is for."""
+    yield from tests_in_python(folder, noted.questions_of_operators())
 
 
 def test(folder, room):
@@ -452,12 +452,12 @@ def main():
     began = time.monotonic()
     with tempfile.TemporaryDirectory() as room:
         room = Path(room)
-        folder = Path(sys.argv[1]).resolve()
+        folder, which = Path(sys.argv[1]).resolve(), "".join(sys.argv[2:])
         try:
-            if sys.argv[2:]:
-                print(CHECKERS[sys.argv[2]](folder, room))
+            if which in CHECKERS:
+                print(CHECKERS[which](folder, room))
                 return 0
-            for name, line in test(folder, room):
+            for name, line in {"": test, "python": in_python}[which](folder, room):
                 print(f"{name}: {line}", flush=True)
         except Wrong as wrong:
             print(f"library: {wrong}")

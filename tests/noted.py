@@ -6,7 +6,7 @@ import os
 import sys
 
 import notes
-from tools import CC, C99, NOTED, STRICT, TOP, WRAPPED, Wrong, c_flags, run
+from tools import CC, C99, EVERY, NOTED, STRICT, TOP, WRAPPED, Wrong, c_flags, run
 
 LIBRARY = TOP / "library"
 ZONES = 12
@@ -29,7 +29,7 @@ def answered(text):
 def questions_of_operators():
     """What operators who keep notes ask at their reports."""
     wrong = []
-    questions, _ = notes.played(notes.some_orders()[:ZONES], wrong)
+    questions, _ = notes.played(notes.some_orders()[: -(-ZONES // EVERY)], wrong)
     if wrong:
         raise Wrong(wrong[0])
     return questions

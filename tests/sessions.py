@@ -18,7 +18,7 @@ from pathlib import Path
 
 from jsonschema.validators import validator_for
 
-from tools import TOP, Wrong
+from tools import EVERY, TOP, Wrong
 
 SCHEMA = json.loads((TOP / "docs" / "status.schema.json").read_text())
 STORED = TOP / "replay" / "scripts.txt"
@@ -251,7 +251,7 @@ def expect_status(library, handle, lines, counts):
 
 
 def stored_scripts():
-    for part in STORED.read_text().split("\n== ")[1:]:
+    for part in STORED.read_text().split("\n== ")[1::EVERY]:
         name, _, rest = part.partition("\n")
         script, _, answers = rest.partition("-- answers\n")
         yield name, script.splitlines(), answers.splitlines(keepends=True)

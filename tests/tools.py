@@ -16,6 +16,8 @@ SHOWN = [TOP / "examples" / f"algorithm-roll.{name}" for name in ("script", "jso
 # The compiler of C, and what its programs run under: for another architecture than this one.
 CC = os.environ.get("CC", "cc")
 RUNNER = os.environ.get("RUNNER", "").split()
+# The tests in Python take one of so many stored scripts: all of them, unless Python is slow.
+EVERY = int(os.environ.get("EVERY", "1"))
 # How C is compiled.
 STRICT = ["-std=gnu11", "-O2", "-Wall", "-Wextra", "-Werror", "-pthread"]
 # The callers are in plain C.
