@@ -46,6 +46,10 @@ GIVEN = {
     "last_waits": "mut last_waits: LastWaits",
     "at": "mut at: usize",
     "origins": "origins: Origins",
+    "before": "before: Before",
+    "fact": "fact: Fact",
+    "policy": "policy: Policy",
+    "highest": "highest: HighestTtls",
 }
 # The same name for something else, by the file.
 GIVEN_IN = {
@@ -91,6 +95,7 @@ def public_items():
     """Each public name of the crates, with the highest crate that has it."""
     items = {}
     crates = ["base", "key", "keyset", "run", "judge", "network", "record", "notes", "policy"]
+    crates += ["policy_text"]
     for crate in reversed(crates):
         text = (CRATES / f"dnssec_{crate}" / "src" / "lib.rt").read_text()
         for path, listed in PUBLIC.findall(text):

@@ -1,0 +1,80 @@
+-- A text that is made of lines, or a line that is made of fields, is cut where it was joined.
+use Rattle.std.proofs.Common.{◌≡◌, ℕ, ◌==◌, ◌∙◌, ◌++◌, ◌∷◌, List, [], All, Bool, false, true, not, ap, sym}
+use Rattle.std.proofs.Common.{◌&&◌, append_assoc, arith, refl}
+use Rattle.std.proofs.lemmas.Bool.Decides.{nat_tests}
+use Rattle.std.proofs.lemmas.List.Splits.{slice_split_at, slice_split_none}
+use Rattle.std.proofs.lemmas.List.Sums.{AllPass-from_list_all}
+use Rattle.std.specs.List.{list_all, slice_split}
+use Rattle.dnssec_script.proofs.Judging.{without_end_last}
+use Rattle.dnssec_script.specs.Script.{fields_of, lines_of, without_end}
+
+-- the byte isn't in the text
+abbrev pub lacks : ℕ → List ℕ → Type 0
+lacks c text = list_all (λ b. not (b == c)) text ≡ true
+
+never : (b c : ℕ) → not (b == c) ≡ true → (b == c) ≡ false
+never b c h = grind (arith, nat_tests)
+
+pub none-of : (c : ℕ) (text : List ℕ) → lacks c text → All (λ b. (b == c) ≡ false) text
+none-of c text h =
+    let each = AllPass-from_list_all (λ b. not (b == c)) text h in
+    λ k d below. never _ c (each k d below)
+
+-- ---- fields
+
+pub one-field : (text : List ℕ) → lacks 32 text → fields_of text ≡ text ∷ []
+one-field text h = slice_split_none (λ b. b == 32) text (none-of 32 text h)
+
+pub first-field : (text rest : List ℕ) → lacks 32 text
+    → fields_of (text ++ 32 ∷ rest) ≡ text ∷ fields_of rest
+first-field text rest h = slice_split_at (λ b. b == 32) text 32 rest (none-of 32 text h) refl
+
+-- ---- lines
+
+-- the text of lines
+abbrev pub text_of : List (List ℕ) → List ℕ
+text_of [] = []
+text_of (line ∷ lines) = line ++ 10 ∷ text_of lines
+
+-- the same without the last line feed
+abbrev open_text : List ℕ → List (List ℕ) → List ℕ
+open_text line [] = line
+open_text line (next ∷ lines) = line ++ 10 ∷ open_text next lines
+
+closed : (line : List ℕ) (lines : List (List ℕ))
+    → text_of (line ∷ lines) ≡ open_text line lines ++ 10 ∷ []
+closed line [] = refl
+closed line (next ∷ lines) =
+    ap (λ t. line ++ 10 ∷ t) (closed next lines)
+    ∙ sym (append_assoc line (10 ∷ open_text next lines) (10 ∷ []))
+
+-- no line has a line feed
+abbrev pub AllLack : List (List ℕ) → Type 0
+AllLack lines = list_all (λ line. list_all (λ b. not (b == 10)) line) lines ≡ true
+
+both : (x y : Bool) → (x && y) ≡ true → (x ≡ true) × (y ≡ true)
+both true true h = (refl, refl)
+both true false h = cc
+both false y h = cc
+
+cut : (line : List ℕ) (lines : List (List ℕ)) → AllLack (line ∷ lines)
+    → slice_split (λ b. b == 10) (open_text line lines) ≡ line ∷ lines
+cut line [] h = slice_split_none (λ b. b == 10) line (none-of 10 line (both _ _ h).0)
+cut line (next ∷ lines) h =
+    slice_split_at (λ b. b == 10) line 10 (open_text next lines) (none-of 10 line (both _ _ h).0)
+    refl ∙ ap (λ t. line ∷ t) (cut next lines (both _ _ h).1)
+
+-- the lines of their text
+pub lines-back : (line : List ℕ) (lines : List (List ℕ)) → AllLack (line ∷ lines)
+    → lines_of (text_of (line ∷ lines)) ≡ line ∷ lines
+lines-back line lines h =
+    ap (λ t. slice_split (λ b. b == 10) (without_end t)) (closed line lines)
+    ∙ ap (slice_split (λ b. b == 10)) (without_end_last (open_text line lines) 10)
+    ∙ cut line lines h
+
+-- of one list and of another
+pub text-append : (xs ys : List (List ℕ)) → text_of (xs ++ ys) ≡ text_of xs ++ text_of ys
+text-append [] ys = refl
+text-append (x ∷ xs) ys =
+    ap (λ t. x ++ 10 ∷ t) (text-append xs ys)
+    ∙ sym (append_assoc x (10 ∷ text_of xs) (text_of ys))
