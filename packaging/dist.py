@@ -6,7 +6,7 @@
 It wants a clean tree whose commit has the tag of the release, what `make arm` has made of it, the
 logs of gates or of `packaging/proved.py` that have each of its proofs, and the tools of Python,
 Rust and Debian. --untagged makes it of any clean tree, to try it. Each file has the same bytes
-wherever it is made.
+wherever it is made; the crate, if cargo has the same version.
 """
 
 import argparse

@@ -53,22 +53,44 @@ def copy(place):
         shutil.copy2(TOP / program, place / program)
 
 
-def make(room, maker, words):
-    """Makes a release, and gives its sums by the names of its files."""
-    place = room / maker.folder
-    copy(place)
+def ran_by(room, maker, *words):
+    """Runs a program as a maker does."""
     # (Rust's tools look for themselves at home, and this home is another.)
     rust = os.environ.get("RUSTUP_HOME", str(Path.home() / ".rustup"))
-    environment = {"PATH": os.environ["PATH"], "HOME": str(place), "RUSTUP_HOME": rust,
-                   "LOCPATH": str(room / "locales"), **maker.environment}
+    environment = {"PATH": os.environ["PATH"], "HOME": str(room / maker.folder),
+                   "RUSTUP_HOME": rust, "LOCPATH": str(room / "locales"), **maker.environment}
     who = {}
     if os.geteuid() == 0:
         record = pwd.getpwnam(maker.user)
         who = {"user": record.pw_uid, "group": record.pw_gid, "extra_groups": []}
-        run("chown", "-R", f"{record.pw_uid}:{record.pw_gid}", place)
-    made = subprocess.run([sys.executable, "-B", place / "packaging" / "dist.py", place / "dist",
-                           *words], env=environment, umask=maker.mask, text=True,
+    return subprocess.run(words, env=environment, umask=maker.mask, text=True,
                           capture_output=True, check=False, **who)
+
+
+def tools_of(room, maker):
+    """Which tools a maker has, or why there is none."""
+    try:
+        return [ran_by(room, maker, tool, "--version").stdout for tool in (sys.executable, "cargo")]
+    except OSError as fault:
+        return fault
+
+
+def expect_tools(room):
+    """Both makers have the same tools. Those at the home of one aren't there for the other."""
+    first, second = (tools_of(room, maker) for maker in MAKERS)
+    if first != second:
+        raise Fault(f"the makers have other tools, {first} and {second}: call it with "
+                    "PATH=/usr/local/bin:/usr/sbin:/usr/bin:/sbin:/bin")
+
+
+def make(room, maker, words):
+    """Makes a release, and gives its sums by the names of its files."""
+    place = room / maker.folder
+    copy(place)
+    if os.geteuid() == 0:
+        run("chown", "-R", f"{maker.user}:", place)
+    made = ran_by(room, maker, sys.executable, "-B", place / "packaging" / "dist.py",
+                  place / "dist", *words)
     if made.returncode:
         raise Fault(f"a release by {maker.user} isn't made: {made.stderr}")
     rows = (row.split() for row in (place / "dist" / "SHA256SUMS").read_text().splitlines())
@@ -92,6 +114,7 @@ def main():
     with tempfile.TemporaryDirectory() as room:
         os.chmod(room, 0o755)
         try:
+            expect_tools(Path(room))
             words = words_of(given, Path(room))
             (Path(room) / "locales").mkdir(mode=0o755)
             run("localedef", "-i", TURKISH.partition(".")[0], "-f", "UTF-8",

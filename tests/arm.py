@@ -23,7 +23,7 @@ QEMU = "qemu-aarch64"
 # Debian's Python of this machine: what it compiles has the form that the one for ARM reads. Under
 # qemu each start of Python would compile all modules anew.
 COMPILER = "/usr/bin/python3"
-# Of so many stored scripts one is played in Python: all take an hour.
+# Of so many stored scripts Python plays one: under qemu it is slow.
 EVERY = "10"
 OURS = (TOP / "tests", TOP / "library" / "python")
 PACKAGES = ("python3-minimal", "libpython3-stdlib", "python3-jsonschema")
