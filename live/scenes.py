@@ -9,6 +9,7 @@ import emergencies
 import from_bind
 import lost
 import one_signer
+import running
 import two_emergencies
 import two_signers
 from lies import LYING, LYING_TWO
@@ -42,6 +43,7 @@ SCENES = [
     Scene("by-command", by_command.tour, "A", False),
     *(Scene(name, play, "A", False) for name, play in commanded.HONEST.items()),
     *(Scene(name, play, "A", False) for name, play in from_bind.HONEST.items()),
+    *(Scene(name, play, "A", False) for name, play in running.HONEST.items()),
     Scene("server-without-address", commanded.without_address, "AB", False),
     Scene("secondary-comes-back-old", commanded.comes_back_old, "A", True),
 ]
@@ -76,6 +78,7 @@ ONLY_WHOLE = {
     "from-bind-ksk-zsk",
     "from-bind-csk",
     "from-bind-serial-by-date",
+    *running.HONEST,
     "server-without-address",
     "secondary-comes-back-old",
 }

@@ -65,6 +65,13 @@ def _agreed(path, lines, files, args):
         return None
 
 
+def on_import(args):
+    from . import importing
+
+    came = importing.come(args, clock)
+    return came.status, came.text(), came.as_json()
+
+
 def on_call(args):
     from . import calling
 
@@ -100,11 +107,12 @@ def on_check(args):
 def on_plan(args):
     from keyset import Notes
 
-    from . import draw, plan, status, timeline
+    from . import draw, plan, signers, status, timeline
 
     lines, told = status.read(args.SCRIPT, clock())
     begin = int(clock() if args.start is None else args.start)
-    made = plan.Plan(lines, begin, *plan.assumed(args.SCRIPT, args.ttls, args.delays, begin))
+    assumed = plan.assumed(args.SCRIPT, args.ttls, args.delays, begin)
+    made = plan.Plan(lines, begin, *assumed, signers.planned(args, told["zone"]))
     for line in args.first or ():
         made.call(line)
     made.roll(args.ROLL, args.OLD, args.NEW)
@@ -201,15 +209,17 @@ READ_AS = {
     "--port": {"type": arguments.port},
     "SECONDS": {"type": arguments.span},
     "NUMBER": {"type": arguments.number},
+    "SYSTEM": {"choices": ("bind", "knot", "pdns", "opendnssec", "dnst")},
     "2|4..": {"type": int, "choices": (2, 4)},
-    "bind|ldns": {"choices": ("bind", "ldns"), "default": "bind"},
     "DS DNSKEY ZONE": {
         "type": arguments.number, "nargs": 3, "metavar": ("DS", "DNSKEY", "ZONE"),
     },
     "[KEYFILE..]": {"nargs": "*"},
     "SCRIPT..": {"nargs": "+"},
 }
-DEFAULTS = {"port": 53, "every": 10, "lifetime": 30 * 86400, "reload_within": 60}
+DEFAULTS = {
+    "port": 53, "every": 10, "lifetime": 30 * 86400, "reload_within": 60,
+}
 
 
 class Version(argparse.Action):

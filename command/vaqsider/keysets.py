@@ -3,6 +3,7 @@ of the parent; and which keys sign which set."""
 
 from __future__ import annotations
 
+import contextlib
 from pathlib import Path
 from typing import Iterable
 
@@ -11,12 +12,13 @@ import dns.name
 
 from . import keyfiles
 from .errors import UNAVAILABLE, Failure
+from .signers import DELETION, Key, Sets
 from .zonefile import By, Row, Zone, parsed
 
 # The types of a DS record's digest, by their numbers there.
 DIGESTS = {2: "SHA256", 4: "SHA384"}
 # CDS and CDNSKEY that ask the parent to remove the DS set (RFC 8078, section 4).
-DELETE = {"CDS": ["0 0 0 00"], "CDNSKEY": ["0 3 0 AA=="]}
+DELETE = {"CDS": ["0 0 0 00"], "CDNSKEY": [DELETION]}
 
 
 class KeySets:
@@ -29,10 +31,19 @@ class KeySets:
         keys = [key for key in told["keys"] if key["reference"] in names]
         self.files = {key["reference"]: keyfiles.find(key, folders) for key in keys}
         self.known = {By(key["algorithm"], key["tag"]) for key in told["keys"]}
+        self._told, self._folders = told["keys"], folders
         self.has_ds = {key["reference"] for key in keys if key["ds_visible"] is not None}
 
     def of(self, kind: str) -> list[keyfiles.KeyFile]:
         return [self.files[name] for name in self.published[kind]]
+
+    def every(self) -> dict[str, keyfiles.KeyFile]:
+        """The files of all keys of the script, also of those that have left, if they are there."""
+        found = dict(self.files)
+        for key in (key for key in self._told if key["reference"] not in found):
+            with contextlib.suppress(Failure):
+                found[key["reference"]] = keyfiles.find(key, self._folders)
+        return found
 
     def by(self, names: Iterable[str]) -> frozenset[By]:
         """These keys as signatures name them."""
@@ -58,6 +69,14 @@ class KeySets:
         data = {"CDS": self.ds(digests), "CDNSKEY": [file.data for file in self.of("ds")]}
         of = data if self.published["ds"] else DELETE
         return {kind: self._rows(kind, ttl, texts) for kind, texts in of.items()}
+
+    def sets(self, has_cds: bool) -> Sets:
+        """What is due, for a signer."""
+        keys = {name: Key.of(file.data, name, file) for name, file in self.files.items()}
+        of = {kind: frozenset(keys[name] for name in names)
+              for kind, names in self.published.items()}
+        cds = (of["ds"] or frozenset([Key(DELETION)])) if has_cds else frozenset()
+        return Sets(of["dnskey"], of["signers"], of["zone"], cds)
 
     def _rows(self, kind: str, ttl: int, data: list[str]) -> list[Row]:
         return [Row(self.origin, ttl, kind, text) for text in data]

@@ -1,0 +1,64 @@
+"""OpenDNSSEC's keys, by `ods-enforcer key list`. Their private halves stay in its PKCS#11 store,
+and the public ones are in the DNSKEY set that its zone gives."""
+
+from __future__ import annotations
+
+import re
+
+from ..errors import UNAVAILABLE, Failure
+from ..signers import Key
+from ..signers.daemon import said
+from . import Found, Told, expect
+
+THERE, OUT, NONE = "omnipresent", "hidden", "NA"
+STATES = {THERE, OUT, "rumoured", "unretentive", NONE}
+# A row of `--debug`: zone, role, the states of DS, DNSKEY and both kinds of signatures, two flags,
+# and the number of the key in its store; and one of `--verbose`.
+DEBUG = re.compile(r"(?P<zone>\S+)\s+(?P<role>KSK|ZSK|CSK)\s+(?P<ds>\S+)\s+(?P<dnskey>\S+)\s+"
+                   r"(?P<keys>\S+)\s+(?P<rest>\S+)\s+[01]\s+[01]\s+(?P<id>[0-9a-f]+)\s*",
+                   re.IGNORECASE)
+VERBOSE = re.compile(r"(?P<zone>\S+)\s+(?:KSK|ZSK|CSK)\s+.*\s(?P<algorithm>\d+)\s+"
+                     r"(?P<id>[0-9a-f]{16,})\s+\S+\s+(?P<tag>\d+)\s*", re.IGNORECASE)
+STOPS = (
+    "'ods-enforcer stop' first: the enforcer rolls nothing from then on. The signer goes on to"
+    " renew signatures meanwhile",
+    "the private halves stay in the PKCS#11 store, as the objects {ids}: what signs from now on has"
+    " to reach them there. --signer 'hook COMMAND' has any such signer driven",
+    "only after the first 'vaqsider act', whose serial has to be higher: 'ods-signer stop'",
+)
+
+
+def tell(zone: str, args) -> Told:
+    """What the enforcer says. The records of its keys are taken from the servers."""
+    debug, verbose = (_list(how) for how in ("--debug", "--verbose"))
+    name = zone.rstrip(".").lower()
+    rows = filter(None, map(DEBUG.fullmatch, debug))
+    rows = [it for it in rows if it["zone"].rstrip(".").lower() == name]
+    tags = {it["id"].lower(): (int(it["tag"]), int(it["algorithm"]))
+            for it in filter(None, map(VERBOSE.fullmatch, verbose))}
+    if not rows:
+        raise Failure(f"ods-enforcer key list: no keys of {zone} that are known", UNAVAILABLE)
+    records = {(it.tag, it.algorithm): it for it in args.records()}
+    keys, moving, ids = [], [], []
+    for row in rows:
+        states = [row[it] for it in ("ds", "dnskey", "keys", "rest")]
+        expect(set(states) <= STATES, f"ods-enforcer key list: a state that isn't known: {row[0]}")
+        counts = [it for it in states if it != NONE]
+        if set(counts) == {OUT}:
+            continue
+        at = tags.get(row["id"].lower())
+        if set(counts) != {THERE}:
+            waits = "'ods-enforcer key ds-seen', once the parent has it" if row["ds"] not in (
+                THERE, NONE) else "wait until 'ods-enforcer key list --debug' says omnipresent"
+            moving.append(f"key {at[0] if at else row['id']} is {', '.join(counts)}: {waits}")
+        if at not in records:
+            raise Failure(f"the servers give no DNSKEY record of the key {at or row['id']}",
+                          UNAVAILABLE)
+        ids.append(row["id"])
+        role = row["role"].upper()
+        keys.append(Found(records[at], role != "ZSK", role != "KSK"))
+    return Told(keys, moving, [it.format(ids=" ".join(ids)) for it in STOPS])
+
+
+def _list(how: str) -> list[str]:
+    return said(("ods-enforcer", "key", "list", how)).splitlines()
