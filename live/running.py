@@ -3,6 +3,7 @@ the command. In each act one command of the signer fails, or two do, and the act
 
 import asyncio
 import json
+import re
 import shutil
 import signal
 import sqlite3
@@ -192,7 +193,7 @@ class Named(Signer):
 
 # An old key of named signs beside the new one until it leaves: a watch says so of the NS set, and
 # reports nothing less for that.
-BESIDE = "NS signed by"
+BESIDE, LACK = "NS signed by", re.compile(r"127\.\S+: ")
 
 
 class Running(Operator):
@@ -238,7 +239,7 @@ class Running(Operator):
     async def watch(self, *how, ends=(OK,), **more):
         is_named = self.signer is not None and self.signer.name == Named.name
         told = await super().watch(*how, ends=(*ends, DUE) if is_named else ends, **more)
-        wrong = [it for it in told.splitlines() if it.startswith("127.") and BESIDE not in it]
+        wrong = [it for it in told.splitlines() if LACK.match(it) and BESIDE not in it]
         if wrong and DUE not in ends:
             raise Failed(f"watch says {told}")
         return told

@@ -363,6 +363,18 @@ def typed_acts():
                     yield f"a dry run says {said}"
 
 
+def deaf():
+    """A database whose commands end well and change nothing: an act says what isn't as it is
+    due."""
+    with folder():
+        fake = stored()
+        fake.publish_zone_key = lambda number: None
+        with fake.installed():
+            said, status = typed(ACT, 205)
+        if status != 69 or "pdns has not what is due: DNSKEY" not in said:
+            yield f"an act on a deaf database ends with {status}: {said}"
+
+
 def _notes() -> str:
     return Path("start.notes").read_text()
 
@@ -403,7 +415,8 @@ def typed_wrongly():
                 yield f"{' '.join(words)}: {status}: {said}"
 
 
-CHECKS = (courses, lacks, wrong, private, hooks, names, typed_acts, typed_wrongly)
+CHECKS = (courses, lacks, wrong, private, hooks, names, typed_acts, deaf,
+          typed_wrongly)
 COUNT = sum(2 * len(it) - 2 for it in COURSES.values()) + len(LACKS) + len(WRONG) + len(HOOKS) \
     + len(TYPED)
 

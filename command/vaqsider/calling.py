@@ -94,18 +94,9 @@ def reach(moment, clock):
     time.sleep(max(0, moment - clock()))
 
 
-def first_lines(zone, files, moment, is_csk):
-    """The first lines of a zone's script, with the keys of these files. If the zone is signed
-    already, the keys come in at this moment."""
-    return _checked(zone, [(file, file.line(is_csk and file.is_sep)) for file in files], moment)
-
-
-def signed_lines(zone, added, moment):
-    """The same of files that come with the lines that add them, in a zone that is signed."""
-    return _checked(zone, added, moment)
-
-
-def _checked(zone, added, moment):
+def first_lines(zone, added, moment):
+    """The first lines of a zone's script, with the keys of files, each with the line that adds it.
+    If the zone is signed already, the keys come in at this moment."""
     for file, _ in added:
         if file.owner.lower() != zone.lower():
             raise Failure(f"{file.path}: a key of {file.owner}, not of {zone}")

@@ -37,7 +37,8 @@ def on_init(args):
     path = Path(args.script or f"{arguments.file_name(args.ZONE)}.script")
     Notes(path)
     moment = int(clock()) if args.signed else None
-    lines = calling.first_lines(zone, files, moment, args.csk)
+    added = [(file, file.line(args.csk and file.is_sep)) for file in files]
+    lines = calling.first_lines(zone, added, moment)
     seen = _agreed(path, lines, files, args) if args.signed else None
     calling.begin(path, lines, args.before)
     if seen:

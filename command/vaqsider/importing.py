@@ -22,7 +22,7 @@ from .arguments import file_name
 from .errors import DUE, USAGE, WARNING, Failure
 from .looking import Look
 from .signers import Key
-from .sources import Found, Told, bind, dnst, knot, opendnssec, pdns
+from .sources import Asked, Found, Told, bind, dnst, knot, opendnssec, pdns
 
 SOURCES = {"bind": bind.tell, "knot": knot.tell, "pdns": pdns.tell, "opendnssec": opendnssec.tell,
            "dnst": dnst.tell}
@@ -65,8 +65,8 @@ def come(args: Namespace, clock: Callable[[], float]) -> Came:
         raise Failure(f"{script}: File exists", USAGE)
     if args.before is None:
         raise Failure("--before: say the highest TTLs that servers gave", USAGE)
-    args.records = lambda: _records(zone, args)
-    told = SOURCES[args.SYSTEM](zone, args)
+    asked = Asked(args.source, args.store, lambda: _records(zone, args))
+    told = SOURCES[args.SYSTEM](zone, asked)
     if told.moving:
         text = "it is rolling keys, so they don't come in yet"
         raise Failure("\n".join([*told.moving, text]), WARNING)
@@ -97,7 +97,8 @@ def _looked(args, script, zone, files, told, clock) -> Came:
 
 def _lines(zone: str, files, moment: int) -> list[str]:
     """The first lines of a script, by which these keys come in at a moment."""
-    return calling.signed_lines(zone, [(file, file.line(is_csk)) for file, is_csk in files], moment)
+    added = [(file, file.line(is_csk)) for file, is_csk in files]
+    return calling.first_lines(zone, added, moment)
 
 
 def _digest(look: Look, lines: list[str]) -> str:

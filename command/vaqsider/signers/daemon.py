@@ -171,14 +171,17 @@ class Daemon:
     @contextlib.contextmanager
     def publish(self, wish: Wish) -> Iterator[Plan]:
         """The plan, with a folder for its files. The commands run when it is put."""
+        if self.now() == wish.sets:
+            with self.renew(wish) as plan:
+                yield plan
+            return
         with place.folder(Path(self.args.SCRIPT).with_suffix(f".{self.store.name}")) as folder:
             yield self.plan(replace(wish, folder=folder))
 
     @contextlib.contextmanager
     def renew(self, wish: Wish) -> Iterator[Plan]:
         """The same, if nothing but signatures is due."""
-        now = self.now()
-        yield Plan(self.store, now, now, list(self.store.renew()), self.known)
+        yield Plan(self.store, wish.sets, wish.sets, list(self.store.renew()), self.known)
 
 
 def is_here(file: KeyFile | None) -> bool:

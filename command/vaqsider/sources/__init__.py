@@ -14,8 +14,8 @@ from ..signers import Key
 
 @dataclass(frozen=True)
 class Found:
-    """A key that a system has for a zone: what it is for; until which moment something of it may
-    still change, in words, if its roll isn't over; and what has its private half, if a file may."""
+    """A key that a system uses for a zone: what it signs; what gives its private half, if that may
+    come out; and its file, if it has one."""
 
     key: Key
     signs_keys: bool
@@ -38,8 +38,18 @@ class Told:
     stops: list[str]
 
 
+@dataclass(frozen=True)
+class Asked:
+    """What a source may need: where its settings are, where its private halves, and the DNSKEY
+    records that the zone's servers give."""
+
+    source: str | None
+    store: str | None
+    records: Callable[[], list[Key]]
+
+
 class Source(Protocol):
-    def __call__(self, zone: str, args) -> Told:
+    def __call__(self, zone: str, asked: Asked) -> Told:
         """What the system says now."""
 
 

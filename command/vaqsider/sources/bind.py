@@ -11,7 +11,7 @@ from ..keyfiles import KeyFile, read
 from ..signers import Key
 from ..signers.daemon import said
 from ..signers.inline import Held
-from . import Found, Told, expect, fields_of, read_text
+from . import Asked, Found, Told, expect, fields_of, read_text
 
 STATES = {"DNSKEYState": "its DNSKEY record", "KRRSIGState": "its signature of the DNSKEY set",
           "ZRRSIGState": "its signatures of the zone", "DSState": "its DS record"}
@@ -31,9 +31,9 @@ STOPS = (
 )
 
 
-def tell(zone: str, args) -> Told:
+def tell(zone: str, asked: Asked) -> Told:
     """What named's folder says."""
-    folder = Path(args.source or ".")
+    folder = Path(asked.source or ".")
     expect(folder.is_dir(), f"{folder}: it is no folder: name named's key-directory by --source")
     files = [read(path) for path in sorted(folder.glob("K*.key"))]
     files = [it for it in files if it.owner.rstrip(".").lower() == zone.rstrip(".").lower()]

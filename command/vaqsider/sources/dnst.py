@@ -9,7 +9,7 @@ from urllib.parse import unquote, urlparse
 from ..errors import UNAVAILABLE, Failure
 from ..keyfiles import read
 from ..signers import Key
-from . import Found, Told, expect, read_text
+from . import Asked, Found, Told, expect, read_text
 
 FLAGS = ("old", "signer", "present", "at_parent")
 STOPS = (
@@ -19,9 +19,9 @@ STOPS = (
 )
 
 
-def tell(zone: str, args) -> Told:
+def tell(zone: str, asked: Asked) -> Told:
     """What a state file says."""
-    path = Path(args.source or f"{zone.rstrip('.')}-keyset.json")
+    path = Path(asked.source or f"{zone.rstrip('.')}-keyset.json")
     try:
         state = json.loads(read_text(path))
         told = state.get("keyset", state)

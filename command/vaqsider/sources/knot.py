@@ -9,7 +9,7 @@ from typing import Callable
 from ..errors import UNAVAILABLE, Failure
 from ..signers import Key
 from ..signers.knot import Held, Knot
-from . import Found, Told, expect, in_private
+from . import Asked, Found, Told, expect, in_private
 
 STOPS = (
     "before anything else: 'manual: on' in the policy of {zone}, then 'knotc reload': Knot rolls"
@@ -21,16 +21,16 @@ STOPS = (
 )
 
 
-def tell(zone: str, args) -> Told:
+def tell(zone: str, asked: Asked) -> Told:
     """What Knot's store has."""
-    store = Knot(zone.rstrip(".") + ".", args.source)
+    store = Knot(zone.rstrip(".") + ".", asked.source)
     held = store.held()
     expect(bool(held), f"Knot has no keys for {zone}")
     keys, moving = [], []
     for it in held:
         moving += _moving(it)
         if it.is_published or it.is_active:
-            keys.append(Found(it.key, it.is_ksk, it.is_zsk, _pem(it, args.store)))
+            keys.append(Found(it.key, it.is_ksk, it.is_zsk, _pem(it, asked.store)))
     return Told(keys, moving, [text.format(zone=zone) for text in STOPS])
 
 

@@ -8,7 +8,7 @@ import re
 from ..errors import UNAVAILABLE, Failure
 from ..signers import Key
 from ..signers.daemon import said
-from . import Found, Told, expect
+from . import Asked, Found, Told, expect
 
 THERE, OUT, NONE = "omnipresent", "hidden", "NA"
 STATES = {THERE, OUT, "rumoured", "unretentive", NONE}
@@ -28,7 +28,7 @@ STOPS = (
 )
 
 
-def tell(zone: str, args) -> Told:
+def tell(zone: str, asked: Asked) -> Told:
     """What the enforcer says. The records of its keys are taken from the servers."""
     debug, verbose = (_list(how) for how in ("--debug", "--verbose"))
     name = zone.rstrip(".").lower()
@@ -38,7 +38,7 @@ def tell(zone: str, args) -> Told:
             for it in filter(None, map(VERBOSE.fullmatch, verbose))}
     if not rows:
         raise Failure(f"ods-enforcer key list: no keys of {zone} that are known", UNAVAILABLE)
-    records = {(it.tag, it.algorithm): it for it in args.records()}
+    records = {(it.tag, it.algorithm): it for it in asked.records()}
     keys, moving, ids = [], [], []
     for row in rows:
         states = [row[it] for it in ("ds", "dnskey", "keys", "rest")]

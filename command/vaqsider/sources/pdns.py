@@ -5,7 +5,7 @@ from __future__ import annotations
 from ..signers import by_flags
 from ..signers.daemon import said
 from ..signers.pdns import PowerDns
-from . import Found, Told, expect
+from . import Asked, Found, Told, expect
 
 STOPS = (
     "nobody may roll by pdnsutil any more: the script says which keys are published and active",
@@ -16,10 +16,10 @@ STOPS = (
 )
 
 
-def tell(zone: str, args) -> Told:
+def tell(zone: str, asked: Asked) -> Told:
     """What PowerDNS has. Its users roll by hand: a key of which only one of both flags is set is in
     mid-roll."""
-    store = PowerDns(zone.rstrip(".") + ".", args.source)
+    store = PowerDns(zone.rstrip(".") + ".", asked.source)
     held = store.held()
     expect(bool(held), f"PowerDNS has no keys for {zone}")
     signers, signs = by_flags(it.key for it in held if it.is_active)
