@@ -96,6 +96,8 @@ class Signer:
         self.operator, self.zone, self.port = operator, operator.zone, free_port()
         self.folder = operator.folder / self.name
         self.folder.mkdir()
+        # Servers take nothing from it before the first act that ends well.
+        self.serves = False
 
     def write(self, serial):
         """The unsigned zone, in a file."""
@@ -225,6 +227,7 @@ class Running(Operator):
             return await super().act(*how)
         await self.broken_off(*how)
         done = json.loads(await self.type(*self.words_of_act(), *how))
+        self.signer.serves = True
         await self.compare()
         return [record.partition(" DS ")[2].lower() for record in done["ds"]]
 
@@ -254,7 +257,8 @@ class Running(Operator):
             await self.type(*self.words_of_act(), *how, ends=(0, UNAVAILABLE))
         finally:
             self.path = ""
-        await self.give()
+        if self.signer.serves:
+            await self.give()
 
     async def give(self):
         """Gives the servers what the signer gives now, as a transfer does."""

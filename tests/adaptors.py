@@ -363,6 +363,22 @@ def typed_acts():
                     yield f"a dry run says {said}"
 
 
+def nsec3():
+    """PowerDNS gets the parameters of NSEC3 by the option of an act, and keeps them without it."""
+    with folder():
+        fake = stored()
+        for words, wanted in ((["--nsec3", "1 0 0 -"], "1 0 0 -"), ([], "1 0 0 -"),
+                              (["--nsec3", "no"], None)):
+            with fake.installed():
+                said, status = typed([*ACT, *words], 205)
+            if status or fake.nsec3 != wanted:
+                yield f"an act with {words} ends with {status}, {fake.nsec3}: {said}"
+        with fake.installed():
+            said, status = typed([*ACT, "--nsec3", "1; 2"], 205)
+        if status != 64:
+            yield f"an act with other parameters ends with {status}: {said}"
+
+
 def deaf():
     """A database whose commands end well and change nothing: an act says what isn't as it is
     due."""
@@ -415,7 +431,7 @@ def typed_wrongly():
                 yield f"{' '.join(words)}: {status}: {said}"
 
 
-CHECKS = (courses, lacks, wrong, private, hooks, names, typed_acts, deaf,
+CHECKS = (courses, lacks, wrong, private, hooks, names, typed_acts, nsec3, deaf,
           typed_wrongly)
 COUNT = sum(2 * len(it) - 2 for it in COURSES.values()) + len(LACKS) + len(WRONG) + len(HOOKS) \
     + len(TYPED)

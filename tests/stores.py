@@ -55,7 +55,7 @@ class Pdns(Fake):
     def __init__(self, zone: str = "example.com") -> None:
         super().__init__()
         self.zone, self.keys, self.records = zone, [], {"CDS": [], "CDNSKEY": []}
-        self.serial, self.direct, self.version = 1, "yes", "4.7"
+        self.serial, self.direct, self.version, self.nsec3 = 1, "yes", "4.7", None
 
     def is_change(self, words) -> bool:
         reading = ("show-zone", "list-zone", "export-zone-key", "current-config")
@@ -121,6 +121,8 @@ class Pdns(Fake):
     def replace_rrset(self, name, kind, ttl, *data): self.records[kind] = list(data)
     def delete_rrset(self, name, kind): self.records[kind] = []
     def rectify_zone(self): pass
+    def set_nsec3(self, params): self.nsec3 = params
+    def unset_nsec3(self): self.nsec3 = None
     def increase_serial(self): self.serial += 1
 
 

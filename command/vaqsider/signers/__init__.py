@@ -11,7 +11,7 @@ from dataclasses import dataclass, field
 from pathlib import Path
 from typing import Callable, ContextManager, Iterable, Iterator, Protocol
 
-from ..errors import USAGE, Failure
+from ..errors import UNAVAILABLE, USAGE, Failure
 from ..keyfiles import SEP, KeyFile, key_tag
 
 # What CDS for no key at all is for: the DS set has to go (RFC 8078, section 4).
@@ -44,6 +44,12 @@ class Key:
     def tag(self) -> int:
         flags, protocol, algorithm, key = self.data.split()
         return key_tag(int(flags), int(protocol), int(algorithm), key)
+
+    def at_hand(self) -> KeyFile:
+        """Its file, which has to be here."""
+        if self.file is None:
+            raise Failure(f"{self} has no key file here", UNAVAILABLE)
+        return self.file
 
     def __str__(self) -> str:
         return self.name or ("deletion" if self.data == DELETION else str(self.tag))
@@ -95,7 +101,9 @@ class Wish:
 class Version(Protocol):
     """What comes next, ready to be published."""
 
-    has_cds: bool
+    @property
+    def has_cds(self) -> bool:
+        """Whether CDS will be in."""
 
     def commands(self) -> list[list[str]]:
         """The programs that make it."""
@@ -213,7 +221,7 @@ def store(name: str, command: str, args: Namespace, origin: str):
 def _pdns(_, args, origin):
     from . import pdns
 
-    return pdns.PowerDns(origin, args.signer_config)
+    return pdns.PowerDns(origin, args.signer_config, getattr(args, "nsec3", None))
 
 
 def _knot(_, args, origin):

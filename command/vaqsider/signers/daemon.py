@@ -63,9 +63,11 @@ def said(words: tuple[str, ...] | list[str], stdin: str = "", seconds: float = 0
 
 
 class Store(Protocol):
-    """The database of a signer that runs, by its three verbs."""
+    """The database of a signer that runs, by its three verbs; and which options of signing an act
+    may give it."""
 
     name: str
+    options: tuple[str, ...]
 
     def lacks(self, wanted: Sets) -> Iterator[str]:
         """What of these sets it can't do."""
@@ -143,7 +145,7 @@ class Daemon:
         self.store, self.args, self.act = store, args, act
         self.known = [Key.of(file.data, name, file) for name, file in act.keys.every().items()]
         for name, usual in OF_FILES.items():
-            if getattr(args, name) != usual:
+            if getattr(args, name) != usual and name not in store.options:
                 option = name.replace("_", "-")
                 raise Failure(f"--{option}: {store.name} has that in its own settings")
 

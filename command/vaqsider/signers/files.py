@@ -112,7 +112,7 @@ class Files:
         self.args, self.act, self.keys = args, act, act.keys
         name, beside = file_name(act.told["zone"]), Path(args.SCRIPT).parent
         self.zone_file = Path(args.zone_file or beside / f"{name}.zone")
-        self.signed = Path(args.out or f"{self.zone_file}.signed")
+        self.signed: Path = Path(args.out or f"{self.zone_file}.signed")
         self.name = args.signer or "bind"
         self.tools: Tools = TOOLS[self.name]
 
@@ -123,7 +123,7 @@ class Files:
         """The sets of the signed zone that is in place."""
         with tempfile.TemporaryDirectory() as made:
             last = self.last(Path(made).resolve())
-        return last and _sets_of(last)
+        return None if last is None else _sets_of(last)
 
     @contextlib.contextmanager
     def publish(self, wish: Wish) -> Iterator[Plan]:

@@ -19,7 +19,7 @@ PATIENCE = 3600
 class Hook:
     """A command that is asked by JSON on its standard input."""
 
-    name = "hook"
+    name, options = "hook", ()
 
     def __init__(self, origin: str, command: str) -> None:
         self.zone, self.command = origin, command.strip()
@@ -68,9 +68,10 @@ class Hook:
     def ttls(self) -> dict[str, int]:
         told = self._answer("ttls")
         ttls = {kind: told.get(kind) for kind in ("dnskey", "zone")}
-        if not all(type(it) is int and 0 <= it < 2**32 for it in ttls.values()):
+        found = {kind: it for kind, it in ttls.items() if type(it) is int and 0 <= it < 2**32}
+        if len(found) != len(ttls):
             raise Failure(f"{self.command}: ttls: it says {ttls}", UNAVAILABLE)
-        return ttls
+        return found
 
     def fits(self, key: Key) -> bool:
         """It knows where its keys are."""

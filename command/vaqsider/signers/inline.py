@@ -65,7 +65,7 @@ class Held:
 class Inline:
     """named, by its keys and by rndc."""
 
-    name = "bind-inline"
+    name, options = "bind-inline", ()
 
     def __init__(self, origin: str, args: Namespace, clock: Callable[[], float] = time.time):
         self.zone, self.clock = origin.rstrip(".") or ".", clock
@@ -172,9 +172,7 @@ class Inline:
             sync = ["-P", "sync", "now", "-D", "sync", "none"] if has_cds else [
                 "-D", "sync", "now"]
             times += sync
-        file = key.file
-        if file is None:
-            raise Failure(f"{key} has no file in {self.folder}", UNAVAILABLE)
+        file = key.at_hand()
         words = ("dnssec-settime", *times, str(file.path))
         return Step(words, lambda: _settime(file, times, folder))
 

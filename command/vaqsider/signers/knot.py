@@ -67,7 +67,7 @@ class Held:
 class Knot:
     """Knot DNS, with the settings of a file."""
 
-    name = "knot"
+    name, options = "knot", ()
 
     def __init__(self, origin: str, config: str | None, clock=None) -> None:
         import time
@@ -215,12 +215,13 @@ class Knot:
     def _imported(self, key: Key, folder: Path) -> Step:
         """A key comes in by a copy of its file with times that never come: it isn't used before it
         has times of its own."""
-        path = folder / key.file.path.name
+        file = key.at_hand()
+        path = folder / file.path.name
         words = self.keymgr("import-bind", str(path))
 
         def late() -> tuple[str, ...]:
-            shutil.copyfile(key.file.path, path)
-            text = TIMED.sub("", key.file.private.read_text(encoding="ascii"))
+            shutil.copyfile(file.path, path)
+            text = TIMED.sub("", file.private.read_text(encoding="ascii"))
             path.with_suffix(".private").write_text(
                 f"{text}Publish: {FAR}\nActivate: {FAR}\n", encoding="ascii")
             return words

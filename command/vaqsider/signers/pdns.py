@@ -15,6 +15,7 @@ import dns.dnssec
 import dns.name
 
 from ..errors import UNAVAILABLE, Failure
+from ..signing import Nsec3
 from ..zonefile import parsed
 from . import DELETION, Key, Sets, by_flags, lacks_by_flags
 from .daemon import Step, is_here, said
@@ -41,10 +42,10 @@ class Held:
 class PowerDns:
     """PowerDNS, with the settings in a folder."""
 
-    name = "pdns"
+    name, options = "pdns", ("nsec3",)
 
-    def __init__(self, origin: str, config: str | None) -> None:
-        self.zone = origin.rstrip(".") or "."
+    def __init__(self, origin: str, config: str | None, nsec3: str | None = None) -> None:
+        self.zone, self.nsec3 = origin.rstrip(".") or ".", nsec3
         if self.zone.startswith("-"):
             raise Failure(f"pdnsutil takes {self.zone} for an option")
         self.config = [f"--config-dir={config}"] if config else []
@@ -151,7 +152,7 @@ class PowerDns:
             yield from self._cds_steps(wanted.cds)
 
     def _imported(self, key: Key) -> Step:
-        kind, private = "ksk" if key.is_sep else "zsk", str(key.file.private.resolve())
+        kind, private = "ksk" if key.is_sep else "zsk", str(key.at_hand().private.resolve())
         return self.step("import-zone-key", self.zone, private, "inactive", kind, "unpublished")
 
     def _changed(self, verb: str, key: Key) -> Step:
@@ -188,6 +189,12 @@ class PowerDns:
     def renew(self) -> Iterator[Step]:
         """A higher serial, for PowerDNS signs anew each week under the same; and the server learns
         that its caches are old, and tells secondaries."""
+        if self.nsec3 == "no":
+            yield self.step("unset-nsec3", self.zone)
+        elif self.nsec3:
+            how = Nsec3.of(self.nsec3)
+            params = f"{how.algorithm} {how.flags} {how.iterations} {how.salt}"
+            yield self.step("set-nsec3", self.zone, params)
         yield self.step("increase-serial", self.zone)
         yield self.step("rectify-zone", self.zone)
         yield Step(("pdns_control", *self.config, "purge", f"{self.zone}$"))

@@ -19,6 +19,8 @@ STOPS = (
     "if Knot is to sign no more: 'dnssec-signing: off', with the signed file of 'vaqsider act' as"
     " its zone file, under a higher serial; and only after that 'knotc reload'",
 )
+OF_RSA = ("Modulus", "PublicExponent", "PrivateExponent", "Prime1", "Prime2", "Exponent1",
+          "Exponent2", "Coefficient")
 
 
 def tell(zone: str, asked: Asked) -> Told:
@@ -72,29 +74,26 @@ def from_pem(data: bytes, key: Key, where: str) -> str:
         private = serialization.load_pem_private_key(data, password=None)
     except (ValueError, TypeError) as error:
         raise Failure(f"{where}: {error}", UNAVAILABLE) from None
-    numbers = getattr(private, "private_numbers", lambda: None)()
     if isinstance(private, ec.EllipticCurvePrivateKey):
-        size = (private.curve.key_size + 7) // 8
-        fields = {"PrivateKey": _bytes(numbers.private_value, size)}
-        point = numbers.public_numbers
-        public = point.x.to_bytes(size, "big") + point.y.to_bytes(size, "big")
+        of_curve = private.private_numbers()
+        length, point = (private.curve.key_size + 7) // 8, of_curve.public_numbers
+        fields = {"PrivateKey": _bytes(of_curve.private_value, length)}
+        public = point.x.to_bytes(length, "big") + point.y.to_bytes(length, "big")
     elif isinstance(private, (ed25519.Ed25519PrivateKey, ed448.Ed448PrivateKey)):
         raw = serialization.Encoding.Raw
         fields = {"PrivateKey": base64.b64encode(private.private_bytes(
             raw, serialization.PrivateFormat.Raw, serialization.NoEncryption())).decode()}
         public = private.public_key().public_bytes(raw, serialization.PublicFormat.Raw)
     elif isinstance(private, rsa.RSAPrivateKey):
+        numbers = private.private_numbers()
         of = numbers.public_numbers
-        fields = dict(zip(
-            ("Modulus", "PublicExponent", "PrivateExponent", "Prime1", "Prime2", "Exponent1",
-             "Exponent2", "Coefficient"),
-            map(_bytes, (of.n, of.e, numbers.d, numbers.p, numbers.q, numbers.dmp1, numbers.dmq1,
-                         numbers.iqmp)),
-        ))
-        exponent = of.e.to_bytes((of.e.bit_length() + 7) // 8, "big")
-        size = bytes([len(exponent)]) if len(exponent) < 256 else b"\0" + len(
+        values = (of.n, of.e, numbers.d, numbers.p, numbers.q, numbers.dmp1, numbers.dmq1,
+                  numbers.iqmp)
+        fields = dict(zip(OF_RSA, map(_bytes, values)))
+        exponent, modulus = (base64.b64decode(_bytes(it)) for it in (of.e, of.n))
+        head = bytes([len(exponent)]) if len(exponent) < 256 else b"\0" + len(
             exponent).to_bytes(2, "big")
-        public = size + exponent + of.n.to_bytes((of.n.bit_length() + 7) // 8, "big")
+        public = head + exponent + modulus
     else:
         raise Failure(f"{where}: a kind of key that DNSSEC hasn't got", UNAVAILABLE)
     if base64.b64decode(key.data.split()[3]) != public:

@@ -32,8 +32,8 @@ def tell(zone: str, asked: Asked) -> Told:
     """What the enforcer says. The records of its keys are taken from the servers."""
     debug, verbose = (_list(how) for how in ("--debug", "--verbose"))
     name = zone.rstrip(".").lower()
-    rows = filter(None, map(DEBUG.fullmatch, debug))
-    rows = [it for it in rows if it["zone"].rstrip(".").lower() == name]
+    found = filter(None, map(DEBUG.fullmatch, debug))
+    rows = [it for it in found if it["zone"].rstrip(".").lower() == name]
     tags = {it["id"].lower(): (int(it["tag"]), int(it["algorithm"]))
             for it in filter(None, map(VERBOSE.fullmatch, verbose))}
     if not rows:

@@ -2,6 +2,8 @@
 
 from __future__ import annotations
 
+from functools import partial
+
 from ..signers import by_flags
 from ..signers.daemon import said
 from ..signers.pdns import PowerDns
@@ -33,6 +35,5 @@ def tell(zone: str, asked: Asked) -> Told:
             moving.append(f"key {tag} is active and not published: deactivate-zone-key first")
         if it.is_active or it.is_published:
             words = store.words("export-zone-key", store.zone, it.id)
-            keys.append(Found(it.key, it.key in signers, it.key in signs,
-                              lambda words=words: said(words)))
+            keys.append(Found(it.key, it.key in signers, it.key in signs, partial(said, words)))
     return Told(keys, moving, [it.format(zone=zone) for it in STOPS])
