@@ -8,6 +8,7 @@
 
 from __future__ import annotations
 
+import contextlib
 import os
 import shutil
 import socket
@@ -33,6 +34,8 @@ from vaqsider.signers.inline import Inline
 from vaqsider.signers.knot import Knot
 from vaqsider.signers.pdns import PowerDns
 
+# For how many seconds a server may take to begin.
+PATIENCE = 30
 ORIGIN, HERE = "example.com.", "127.0.0.1"
 RRSIG = dns.rdatatype.RRSIG
 ZONE = """$TTL 300
@@ -85,6 +88,7 @@ class Server:
         Path("zone").write_text(ZONE)
         self.prepare()
         self.process = self.begin()
+        self.wait()
 
     def start(self, *words: str) -> subprocess.Popen:
         with open("log", "ab") as log:
@@ -105,15 +109,19 @@ class Server:
               for kind, (_, made) in told.items()}
         return Sets(frozenset(of["DNSKEY"]), by["DNSKEY"], by["SOA"], frozenset(of["CDNSKEY"]))
 
+    def wait(self) -> None:
+        """Waits until it gives the zone."""
+        for _ in range(PATIENCE * 5):
+            with contextlib.suppress(OSError, dns.exception.DNSException):
+                if self.ask("SOA")[0]:
+                    return
+            time.sleep(0.2)
+        raise SystemExit(f"it doesn't give the zone: {Path('log').read_text()[-2000:]}")
+
     def ask(self, kind: str):
         query = dns.message.make_query(ORIGIN, kind, want_dnssec=True, payload=4096)
         query.flags &= ~dns.flags.RD
-        for _ in range(50):
-            try:
-                answer = dns.query.udp_with_fallback(query, HERE, timeout=2, port=self.port)[0]
-                break
-            except (OSError, dns.exception.DNSException):
-                time.sleep(0.2)
+        answer = dns.query.udp_with_fallback(query, HERE, timeout=2, port=self.port)[0]
         found = [it for it in answer.answer if it.name.to_text() == ORIGIN]
         of = {name: [data for it in found if it.rdtype == number for data in it]
               for name, number in ((kind, dns.rdatatype.from_text(kind)), ("RRSIG", RRSIG))}
@@ -173,8 +181,8 @@ class OfKnot(Server):
         self.store = Knot(ORIGIN, str(self.here / "knot.conf"))
 
     def begin(self) -> subprocess.Popen:
-        made = self.start("knotd", "-c", "knot.conf")
-        self.ask("SOA")
+        made = self.process = self.start("knotd", "-c", "knot.conf")
+        self.wait()
         self.conf("on")
         subprocess.run(["knotc", "-c", "knot.conf", "reload"], stdout=subprocess.DEVNULL)
         time.sleep(1)
@@ -207,7 +215,7 @@ class OfBind(Server):
 
     def begin(self) -> subprocess.Popen:
         made = self.start("./named", "-g", "-n", "1", "-c", "conf")
-        self.ask("SOA")
+        self.wait()
         time.sleep(1)
         return made
 
@@ -240,11 +248,13 @@ def step(server: Server, known, wanted: Sets):
         for one in [*store.publish(store.now(known), wanted, Path(made)), *store.renew()]:
             one.run()
     yield from store.now(known).differences(wanted)
-    for _ in range(20):
-        left = [*server.given(known).differences(wanted)]
+    left = ["no answer"]
+    for _ in range(PATIENCE):
+        with contextlib.suppress(OSError, dns.exception.DNSException):
+            left = [*server.given(known).differences(wanted)]
         if not left:
             return
-        time.sleep(0.2)
+        time.sleep(0.3)
     yield from (f"the server gives: {it}" for it in left)
 
 

@@ -1,5 +1,5 @@
-"""Whatever signs a zone, each behind the same three verbs: publish these sets, renew, and what is
-there now. A signer that can't do what is asked says so before a roll starts.
+"""Whatever signs a zone, each by the same three verbs: publish these sets, renew, and what is there
+now. A signer that can't do what is asked says so before a roll starts.
 
 `bind` and `ldns` make a file of a file. The others keep keys in a database of their own, and sign
 while they run."""
