@@ -401,7 +401,7 @@ async def round_trip(zone):
         operator.signer = maker(operator)
         await operator.signer.start(operator.served + 1)
         await operator.act()
-        await operator.watch("--state")
+        await is_right(operator)
         await replace_one(operator, roll)
     await back_to_files(operator)
     await operator.type("check", operator.script)
@@ -432,13 +432,19 @@ async def stop(operator, bind):
     end(processes.running.pop(f"signer-{operator.zone.name.rstrip('.')}"), signal.SIGTERM)
 
 
+async def is_right(operator):
+    """All servers have what is due, as soon as the slowest one has taken it."""
+    await asyncio.sleep(operator.zone.world.fleet.SLOWEST + 1)
+    await operator.watch("--state")
+
+
 async def back_to_files(operator):
     """From Knot back to BIND's tools, which sign a file: a higher serial, and another roll."""
     operator.signer = None
     operator.serial = operator.served + 1
     operator.file.write_text(f"$TTL {TTL}\n" + "\n".join(operator.records()) + "\n")
     await Operator.act(operator)
-    await operator.watch("--state")
+    await is_right(operator)
     await replace_one(operator, "zsk-roll")
 
 

@@ -398,6 +398,8 @@ def _notes() -> str:
 # How an act is typed, with what before it, its status and what it says.
 TYPED = (
     ("", [*ACT, "--lifetime", "5"], 64, "--lifetime: pdns has that in its own settings"),
+    ("", [*ACT, "--digest", "4"], 64, "--digest: pdns has that in its own settings"),
+    ("", [*ACT, "--out", "x"], 64, "--out: pdns has that in its own settings"),
     ("", ["act", "start.script", "--signer", "opendnssec"], 64, "--signer is bind, ldns, pdns,"),
     ("", ["act", "start.script", "--signer", "hook"], 64, "--signer is bind, ldns, pdns,"),
     ("", ["act", "start.script", "--signer", "pdns x"], 64, "--signer is bind, ldns, pdns,"),

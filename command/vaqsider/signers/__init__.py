@@ -173,9 +173,9 @@ def lacks_by_flags(name: str, wanted: Sets) -> Iterator[str]:
 
 
 NAMES = ("bind", "ldns", "pdns", "knot", "bind-inline", "hook COMMAND")
-# What a signer that runs sets itself, with the option of an act for it.
-OF_FILES = {"serial": "unixtime", "nsec3": None, "lifetime": 30 * 86400, "jitter": None,
-            "dnskey_ttl": None}
+# What a signer that runs sets itself: the options of an act for it, with what it does itself.
+OF_FILES = {"serial": ["unixtime"], "nsec3": [None], "lifetime": [30 * 86400], "jitter": [None],
+            "dnskey_ttl": [None], "digest": [None, [2]], "out": [None]}
 
 
 def of(args: Namespace, act) -> Signer:

@@ -145,7 +145,7 @@ class Daemon:
         self.store, self.args, self.act = store, args, act
         self.known = [Key.of(file.data, name, file) for name, file in act.keys.every().items()]
         for name, usual in OF_FILES.items():
-            if getattr(args, name) != usual and name not in store.options:
+            if getattr(args, name) not in usual and name not in store.options:
                 option = name.replace("_", "-")
                 raise Failure(f"--{option}: {store.name} has that in its own settings")
 
