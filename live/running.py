@@ -439,8 +439,10 @@ async def is_right(operator):
 
 
 async def back_to_files(operator):
-    """From Knot back to BIND's tools, which sign a file: a higher serial, and another roll."""
+    """From Knot back to BIND's tools, which sign a file: a higher serial, and another roll. The
+    signed file of long ago goes first: its keys have left the script."""
     operator.signer = None
+    operator.signed.unlink()
     operator.serial = operator.served + 1
     operator.file.write_text(f"$TTL {TTL}\n" + "\n".join(operator.records()) + "\n")
     await Operator.act(operator)
