@@ -6,19 +6,24 @@ from __future__ import annotations
 import contextlib
 import itertools
 import re
+import socket
+import threading
+import time
 from argparse import Namespace
 from pathlib import Path
+from unittest import mock
 
 import stores
 import testkeys
 from typed import folder, typed
 from vaqsider import keyfiles
 from vaqsider.errors import Failure
-from vaqsider.signers import DELETION, Key, Sets
+from vaqsider.signers import DELETION, Key, Sets, pdns_api
 from vaqsider.signers.hook import Hook
 from vaqsider.signers.inline import Inline
 from vaqsider.signers.knot import Knot
-from vaqsider.signers.pdns import PowerDns
+from vaqsider.signers.pdns import Pdnsutil
+from vaqsider.signers.pdns_api import Api
 
 ZONE = "example.com."
 # Each key with the number of its private half, and its flags.
@@ -33,7 +38,8 @@ def make() -> dict[str, Key]:
         key = Key.of(data)
         path = Path(f"Kexample.com.+013+{key.tag:05}.key")
         path.write_text(f"{ZONE} IN DNSKEY {data}\n")
-        path.with_suffix(".private").write_text("Private-key-format: v1.3\nAlgorithm: 13\n")
+        path.with_suffix(".private").write_text(
+            f"Private-key-format: v1.3\nAlgorithm: 13\nPrivateKey: {name}==\n")
         made[name] = Key.of(data, name, keyfiles.read(path))
     return made
 
@@ -62,7 +68,10 @@ OF_CSK = ("K1,Z1,C3 K1,C3 Z1 -", "K1,Z1,C3 K1,C3 C3 C3", "C3 C3 C3 -")
 def of(name: str):
     """A signer and its database."""
     if name == "pdns":
-        return PowerDns(ZONE, None), stores.Pdns()
+        return Pdnsutil(ZONE, None), stores.Pdns()
+    if name == "pdns-api":
+        Path("secret").write_text(f"{stores.SECRET}\n")
+        return Api(ZONE, "http://pdns", "secret"), stores.PdnsApi()
     if name == "knot":
         fake = stores.Knot()
         return Knot(ZONE, None, fake.clock), fake
@@ -70,7 +79,7 @@ def of(name: str):
     return Inline(ZONE, args, lambda: stores.NOW), stores.Bind(Path())
 
 
-COURSES = {"pdns": COURSE + UNSIGNED, "knot": COURSE[1:] + OF_CSK, "bind-inline": COURSE[1:]}
+COURSES = {"pdns": COURSE + UNSIGNED, "pdns-api": COURSE + UNSIGNED, "knot": COURSE[1:] + OF_CSK, "bind-inline": COURSE[1:]}
 
 
 def steps(store, known, wanted):
@@ -171,6 +180,10 @@ def _pdns_of(change):
     return prepare
 
 
+def _instead(**answers):
+    return _pdns_of(lambda it: it.instead.update(answers))
+
+
 def _knot_of(**times):
     def prepare(fake, keys):
         fake.does(["keymgr", ZONE, "import-bind", str(keys["K1"].file.path)])
@@ -204,6 +217,19 @@ WRONG = (
      "only with direct-dnskey=yes"),
     ("pdns", _pdns_of(lambda it: setattr(it, "fails_at", 1)), FIRST, "database is locked"),
     ("pdns", _pdns_of(lambda it: setattr(it, "fails_at", 5)), FIRST, "database is locked"),
+    ("pdns-api", _pdns_of(lambda it: setattr(it, "lacks", ("dnskey",))), FIRST, "isn't known"),
+    ("pdns-api", _pdns_of(lambda it: setattr(it, "lacks", ("published",))), FIRST, "isn't known"),
+    ("pdns-api", _pdns_of(lambda it: setattr(it, "zone", "example.net")), FIRST, "has no zone"),
+    ("pdns-api", _pdns_of(lambda it: setattr(it, "presigned", True)), FIRST, "presigned"),
+    ("pdns-api", _pdns_of(lambda it: setattr(it, "direct", "no")), "K1,Z1 K1 Z1 K1",
+     "only with direct-dnskey=yes"),
+    ("pdns-api", _pdns_of(lambda it: setattr(it, "fails_at", 1)), FIRST, "database is locked"),
+    ("pdns-api", _pdns_of(lambda it: setattr(it, "fails_at", 5)), FIRST, "database is locked"),
+    ("pdns-api", _instead(GET=(200, b"<html>")), FIRST, "no JSON"),
+    ("pdns-api", _instead(GET=(200, b'[{"id": "exa')), FIRST, "no JSON"),
+    ("pdns-api", _instead(GET=(200, b"{}")), FIRST, "has no zone"),
+    ("pdns-api", _instead(GET=(200, b'[{"name": "x"}]')), FIRST, "isn't known"),
+    ("pdns-api", _instead(POST=(404, b"Not Found")), FIRST, "404"),
     ("knot", _knot_of(retire_active=9), FIRST, "Knot rolls"),
     ("knot", _knot_of(pre_active=9), FIRST, "Knot rolls"),
     ("knot", _setting("policy[m]", "policy[m].manual = off"), FIRST,
@@ -300,6 +326,46 @@ def hooks():
             yield f"a hook is asked {text}"
 
 
+OK = "HTTP/1.1 200 OK\r\nContent-Length: {}\r\n\r\n{}"
+# What comes over the wire, and what is said of it.
+WIRES = (
+    (OK.format(2, "[]"), "has no zone"), (OK.format(9, "[]"), "IncompleteRead"), ("", "Remote end"),
+    ("no HTTP\r\n\r\n", ": no HTTP"), ("HTTP/1.1 302 x\r\nLocation: http://127.0.0.2/\r\n"
+     "Content-Length: 0\r\n\r\n", "302: refused"),
+    ("HTTP/1.1 401 Unauthorized\r\nContent-Length: 2\r\n\r\n{}", "401: refused"),
+    ("HTTP/1.1 422 x\r\nContent-Length: 15\r\n\r\n{\"error\": \"no\"}", "422: no"), (None, "timed out"),
+)
+
+
+def wires():
+    """What an API says over HTTP that isn't as it should be."""
+    for text, says in WIRES:
+        with folder(), socket.create_server(("127.0.0.1", 0)) as server:
+            Path("secret").write_text("of-a-test\n")
+            port = server.getsockname()[1]
+            answers = threading.Thread(target=_answer, args=(server, text), daemon=True)
+            answers.start()
+            store = Api(ZONE, f"http://127.0.0.1:{port}", "secret")
+            with mock.patch.object(pdns_api, "SECONDS", 0.5):
+                said = _said(lambda: store.now([]))
+            answers.join()
+        if says not in said:
+            yield f"an API that answers {text!r}: {said}"
+    if "refused" not in _said(lambda: pdns_api.exchange("GET", f"http://127.0.0.1:{port}", "", None)):
+        yield "an API that isn't there"
+
+
+def _answer(server, text) -> None:
+    """Answers one request, or never."""
+    asked, _ = server.accept()
+    with asked:
+        asked.recv(4096)
+        if text is None:
+            time.sleep(1)
+        else:
+            asked.sendall(text.encode())
+
+
 def _said(part) -> str:
     try:
         part()
@@ -314,22 +380,23 @@ NAMES = ("-x.example.", "0/25.2.0.192.in-addr.arpa.", "a\\.b.example.", ".")
 def names():
     """A zone's name never becomes an option of a tool."""
     args = Namespace(keys=["."], SCRIPT="z.script", signer_config=None, zone_file="zone")
-    makers = (lambda it: PowerDns(it, None), lambda it: Knot(it, None), lambda it: Inline(it, args))
+    makers = (lambda it: Pdnsutil(it, None), lambda it: Knot(it, None), lambda it: Inline(it, args))
     for zone, maker in itertools.product(NAMES, makers):
         if bool(_said(lambda: maker(zone))) != zone.startswith("-"):
             yield f"a zone {zone} by {maker}"
 
 
 ACT = ["act", "start.script", "--signer", "pdns"]
+BY_API = [*ACT[:-1], "pdns-api http://pdns", "--signer-config", "secret"]
 NOTED = "published dnskey 10 60 205"
 
 
-def stored() -> stores.Pdns:
+def stored(fake: stores.Pdns | None = None) -> stores.Pdns:
     """A database with the keys of start.script that are in use before its roll, and the files of
     private halves."""
-    fake = stores.Pdns()
+    fake = fake or stores.Pdns()
     for path in sorted(Path().glob("K*.key")):
-        path.with_suffix(".private").touch()
+        path.with_suffix(".private").write_text(path.name)
         key = Key.of(keyfiles.read(path).data)
         if key.tag != 10133:
             fake.keys.append({"key": key, "active": True, "published": True})
@@ -340,27 +407,32 @@ def stored() -> stores.Pdns:
 def typed_acts():
     """An act by a signer that runs: what it prints, notes and leaves; and after each command that
     fails the same act ends as it would have."""
-    for fails_at in range(1, 9):
+    for fails_at, (maker, words, raises) in itertools.product(range(1, 9), (
+            (stores.Pdns, ACT, "increase-serial"), (stores.PdnsApi, BY_API, "a higher serial"))):
         with folder():
-            fake = stored()
+            fake = stored(maker())
             with fake.installed():
-                fake.fails_at = fails_at
-                said, status = typed(ACT, 205)
-                is_broken = fails_at <= fake.changes
-                if status != (69 if is_broken else 0) or NOTED not in _notes():
-                    yield f"an act that fails at {fails_at} ends with {status}: {said}{_notes()}"
-                fake.fails_at = None
-                said, status = typed(ACT, 206)
-                serial, tags = fake.serial, {key.tag for key in fake.sets()[0]}
-                if status or "pdns h" not in said or tags != {10133, 46350, 64103}:
-                    yield f"the act after it ends with {status}: {said}{tags}"
-                said, status = typed(ACT, 207)
-                if status or "signed anew" not in said or fake.serial <= serial \
-                        or _notes().count("published dnskey") != 1:
-                    yield f"an act that renews ends with {status}: {said}{_notes()}"
-                said, status = typed([*ACT, "--dry-run"], 208)
-                if "now: DNSKEY" not in said or said.count("increase-serial") != 1:
-                    yield f"a dry run says {said}"
+                yield from _typed_act(fake, fails_at, words, raises)
+
+
+def _typed_act(fake, fails_at, words, raises):
+    fake.fails_at = fails_at
+    said, status = typed(words, 205)
+    is_broken = fails_at <= fake.changes
+    if status != (69 if is_broken else 0) or NOTED not in _notes():
+        yield f"an act that fails at {fails_at} ends with {status}: {said}{_notes()}"
+    fake.fails_at = None
+    said, status = typed(words, 206)
+    serial, tags = fake.serial, {key.tag for key in fake.sets()[0]}
+    if status or " had, " not in said and " has " not in said or tags != {10133, 46350, 64103}:
+        yield f"the act after it ends with {status}: {said}{tags}"
+    said, status = typed(words, 207)
+    if status or "signed anew" not in said or fake.serial <= serial \
+            or _notes().count("published dnskey") != 1:
+        yield f"an act that renews ends with {status}: {said}{_notes()}"
+    said, status = typed([*words, "--dry-run"], 208)
+    if "now: DNSKEY" not in said or said.count(raises) != 1:
+        yield f"a dry run says {said}"
 
 
 def nsec3():
@@ -382,13 +454,15 @@ def nsec3():
 def deaf():
     """A database whose commands end well and change nothing: an act says what isn't as it is
     due."""
-    with folder():
-        fake = stored()
-        fake.publish_zone_key = lambda number: None
-        with fake.installed():
-            said, status = typed(ACT, 205)
-        if status != 69 or "pdns has not what is due: DNSKEY" not in said:
-            yield f"an act on a deaf database ends with {status}: {said}"
+    for fake, words, name in ((stores.Pdns(), ACT, "pdns"), (stores.PdnsApi(), BY_API, "pdns-api")):
+        with folder():
+            stored(fake)
+            fake.publish_zone_key = lambda number: None
+            fake._put = lambda *_, told: None
+            with fake.installed():
+                said, status = typed(words, 205)
+            if status != 69 or f"{name} has not what is due: DNSKEY" not in said:
+                yield f"an act on a deaf database ends with {status}: {said}"
 
 
 def _notes() -> str:
@@ -403,6 +477,10 @@ TYPED = (
     ("", ["act", "start.script", "--signer", "opendnssec"], 64, "--signer is bind, ldns, pdns,"),
     ("", ["act", "start.script", "--signer", "hook"], 64, "--signer is bind, ldns, pdns,"),
     ("", ["act", "start.script", "--signer", "pdns x"], 64, "--signer is bind, ldns, pdns,"),
+    ("", ["act", "start.script", "--signer", "pdns-api"], 64, "--signer is bind, ldns, pdns,"),
+    ("", BY_API[:4], 64, "--signer-config names the file"),
+    ("", [*BY_API[:3], "pdns-api pdns", *BY_API[4:]], 64, "the URL begins with http"),
+    ("", [*BY_API[:-1], "none"], 69, "none: No such file"),
     ("real", ["act", "start.script", "--signer", "hook echo {"], 69, "what it says is no JSON"),
     ("gone", ACT, 69, "is neither in pdns nor, with its private half, here"),
     ("other", ACT, 69, "pdns has keys that this script has not published"),
@@ -433,10 +511,10 @@ def typed_wrongly():
                 yield f"{' '.join(words)}: {status}: {said}"
 
 
-CHECKS = (courses, lacks, wrong, private, hooks, names, typed_acts, nsec3, deaf,
+CHECKS = (courses, lacks, wrong, private, hooks, wires, names, typed_acts, nsec3, deaf,
           typed_wrongly)
 COUNT = sum(2 * len(it) - 2 for it in COURSES.values()) + len(LACKS) + len(WRONG) + len(HOOKS) \
-    + len(TYPED)
+    + len(WIRES) + len(TYPED)
 
 
 def faults():

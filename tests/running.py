@@ -1,9 +1,10 @@
 #!/usr/bin/env python3
 """Signers that run, by the real ones: PowerDNS, Knot DNS and named. The gate doesn't need them.
 
-    tests/running.py [NAME..]    pdns, knot, bind-inline: takes each through a course of rolls, with
-                                 a crash before each command. After each step it asks the server
-                                 itself, and compares what that gives with what is due
+    tests/running.py [NAME..]    pdns, pdns-pgsql, pdns-api (also on PostgreSQL), knot, bind-inline:
+                                 takes each through a course of rolls, with a crash before each
+                                 command. After each step it asks the server itself, and compares
+                                 what that gives with what is due
 """
 
 from __future__ import annotations
@@ -26,13 +27,17 @@ import dns.query
 import dns.rdatatype
 
 import adaptors
-from typed import folder
+from typed import TOP, folder
 from vaqsider import keyfiles
 from vaqsider.errors import Failure
 from vaqsider.signers import Key, Sets, daemon
 from vaqsider.signers.inline import Inline
 from vaqsider.signers.knot import Knot
-from vaqsider.signers.pdns import PowerDns
+from vaqsider.signers.pdns import Pdnsutil
+from vaqsider.signers.pdns_api import Api
+
+sys.path.append(str(TOP / "live"))
+from postgres import Postgres  # noqa: E402
 
 # For how many seconds a server may take to begin.
 PATIENCE = 30
@@ -48,15 +53,20 @@ mail 7200 A 127.0.0.2
 KEYS = {"K1": ("13", True), "K2": ("13", True), "Z1": ("13", False), "Z2": ("13", False),
         "C3": ("13", True), "K4": ("8", True), "Z4": ("8", False)}
 TWO = ("K1,Z1,K4,Z4 K1,K4 Z1,Z4 -", "K1,Z1,K4,Z4 K1,K4 Z1,Z4 K4", "K4,Z4 K4 Z4 -")
+OF_PDNS = (*adaptors.COURSE[1:], *TWO, "K4,Z4 K4 Z4 0", "- - - -")
 COURSES = {
-    "pdns": (*adaptors.COURSE[1:], *TWO, "K4,Z4 K4 Z4 0", "- - - -"),
+    "pdns": OF_PDNS,
+    "pdns-pgsql": OF_PDNS[:5],
+    "pdns-api": OF_PDNS,
     "knot": (*adaptors.COURSE[1:], *adaptors.OF_CSK, *TWO),
     "bind-inline": (*adaptors.COURSE[1:], *TWO),
 }
 SCHEMA = Path("/usr/share/doc/pdns-backend-sqlite3/schema.sqlite3.sql")
-TOOLS = {"pdns": ("pdnsutil", "pdns_server", "pdns_control"), "knot": ("knotd", "keymgr", "knotc"),
+OF_PDNS_TOOLS = ("pdnsutil", "pdns_server", "pdns_control")
+TOOLS = {"pdns": OF_PDNS_TOOLS, "pdns-pgsql": OF_PDNS_TOOLS, "pdns-api": OF_PDNS_TOOLS, "knot": ("knotd", "keymgr", "knotc"),
          "bind-inline": ("named", "rndc", "dnssec-settime", "dnssec-keygen")}
-PACKAGES = "pdns-server pdns-backend-sqlite3 knot bind9 bind9-utils"
+PACKAGES = ("pdns-server pdns-backend-sqlite3 pdns-backend-pgsql postgresql knot bind9 "
+            "bind9-utils")
 SECRET = "key k { algorithm hmac-sha256; secret \"%s=\"; };" % ("A" * 43)
 
 
@@ -128,20 +138,60 @@ class Server:
         return of[kind], of["RRSIG"]
 
 
+SQLITE = "launch=gsqlite3\ngsqlite3-database={here}/db\ngsqlite3-dnssec=yes\n"
+PDNS = """socket-dir={here}
+local-address={at}
+local-port={port}
+setuid=
+setgid=
+guardian=no
+daemon=no
+direct-dnskey=yes
+"""
+
+
 class OfPdns(Server):
     def prepare(self) -> None:
-        Path("pdns.conf").write_text(
-            f"launch=gsqlite3\ngsqlite3-database={self.here}/db\ngsqlite3-dnssec=yes\n"
-            f"socket-dir={self.here}\nlocal-address={HERE}\nlocal-port={self.port}\nsetuid=\n"
-            "setgid=\nguardian=no\ndaemon=no\ndirect-dnskey=yes\n")
-        with sqlite3.connect("db") as database:
-            database.executescript(SCHEMA.read_text())
+        Path("pdns.conf").write_text(self.database() + PDNS.format(
+            here=self.here, at=HERE, port=self.port))
         subprocess.run(["pdnsutil", "--config-dir=.", "load-zone", ORIGIN, "zone"], check=True,
                        stdout=subprocess.DEVNULL, stderr=subprocess.DEVNULL)
-        self.store = PowerDns(ORIGIN, str(self.here))
+        self.store = self.adaptor()
+
+    def database(self) -> str:
+        with sqlite3.connect("db") as database:
+            database.executescript(SCHEMA.read_text())
+        return SQLITE.format(here=self.here)
+
+    def adaptor(self):
+        return Pdnsutil(ORIGIN, str(self.here))
 
     def begin(self) -> subprocess.Popen:
         return self.start("pdns_server", "--config-dir=.")
+
+
+class OfPdnsOnPostgres(OfPdns):
+    def database(self) -> str:
+        self.postgres = Postgres()
+        self.postgres.begin()
+        return self.postgres.settings()
+
+    def end(self) -> None:
+        super().end()
+        self.postgres.end()
+
+
+API = "webserver=yes\nwebserver-address={at}\nwebserver-port={port}\napi=yes\napi-key=of-a-test\n"
+
+
+class OfPdnsByApi(OfPdnsOnPostgres):
+    def database(self) -> str:
+        self.api = free_port()
+        Path("secret").write_text("of-a-test\n")
+        return super().database() + API.format(at=HERE, port=self.api)
+
+    def adaptor(self):
+        return Api(ORIGIN, f"http://{HERE}:{self.api}", "secret")
 
 
 KNOT = """server:
@@ -220,7 +270,7 @@ class OfBind(Server):
         return made
 
 
-SERVERS = {"pdns": OfPdns, "knot": OfKnot, "bind-inline": OfBind}
+SERVERS = {"pdns": OfPdns, "pdns-pgsql": OfPdnsOnPostgres, "pdns-api": OfPdnsByApi, "knot": OfKnot, "bind-inline": OfBind}
 
 
 def course(name: str):

@@ -13,7 +13,7 @@ import typed  # noqa: F401 (it has the command on the path)
 from vaqsider import keyfiles
 from vaqsider.errors import Failure
 from vaqsider.signers import Key, by_flags
-from vaqsider.signers import daemon, hook, inline, knot, pdns
+from vaqsider.signers import daemon, hook, inline, knot, pdns, pdns_api
 from vaqsider.sources import bind as source_of_bind
 from vaqsider.sources import opendnssec as source_of_ods
 from vaqsider.sources import pdns as source_of_pdns
@@ -124,6 +124,92 @@ class Pdns(Fake):
     def set_nsec3(self, params): self.nsec3 = params
     def unset_nsec3(self): self.nsec3 = None
     def increase_serial(self): self.serial += 1
+
+
+SECRET = "of-a-test"
+
+
+class PdnsApi(Pdns):
+    """What the API of PowerDNS does. An answer to a method may be another one."""
+
+    def __init__(self) -> None:
+        super().__init__()
+        self.presigned, self.instead, self.lacks = False, {}, ()
+
+    @contextlib.contextmanager
+    def installed(self):
+        Path("secret").write_text(f"{SECRET}\n")
+        with super().installed(), mock.patch.object(pdns_api, "exchange", self.exchange):
+            yield self
+
+    def exchange(self, method: str, url: str, secret: str, body) -> tuple[int, bytes]:
+        if secret != SECRET:
+            return 401, b"Unauthorized"
+        if method in self.instead:
+            return self.instead[method]
+        if method != "GET":
+            self.changes += 1
+            if self.changes == self.fails_at:
+                return 500, b'{"error": "database is locked"}'
+        told = json.loads(body) if body else None
+        value = self.answer(method, url.partition("/localhost")[2], told)
+        if isinstance(value, str):
+            return 422, json.dumps({"error": value}).encode()
+        if method != "GET":
+            self.served.append(self.sets())
+        return 200, b"" if value is None else json.dumps(value).encode()
+
+    def answer(self, method: str, path: str, told):
+        """A value, nothing, or an error as a text."""
+        if path == f"/zones?zone={self.zone}.":
+            return [{"id": f"{self.zone}."}]
+        if path.startswith("/zones?"):
+            return []
+        if path == "/config":
+            return [{"name": "direct-dnskey", "type": "ConfigSetting", "value": self.direct}]
+        rest = path.removeprefix(f"/zones/{self.zone}.").strip("/").split("/")
+        return getattr(self, f"_{method.lower()}")(*rest, told=told)
+
+    def _get(self, what: str, told):
+        if what == "cryptokeys":
+            return [self._told(number, it) for number, it in enumerate(self.keys, start=1)]
+        rows = [("SOA", 300, [f"ns. h. {self.serial} 3600 600 86400 60"]), ("NS", 7200, ["ns."])]
+        rows += [(kind, 60, data) for kind, data in self.records.items() if data]
+        return {"presigned": self.presigned, "rrsets": [
+            {"name": f"{self.zone}.", "type": kind, "ttl": ttl, "comments": [],
+             "records": [{"content": it, "disabled": False} for it in data]}
+            for kind, ttl, data in rows]}
+
+    def _told(self, number: int, it: dict) -> dict:
+        told = {"type": "Cryptokey", "id": number, "active": it["active"], "keytype": "csk",
+                "published": it["published"], "dnskey": it["key"].data, "bits": 256}
+        return {name: value for name, value in told.items() if name not in self.lacks}
+
+    def _post(self, _: str, told):
+        file = next(it for it in Path().glob("K*.private") if it.read_text() == told["privatekey"])
+        self.keys.append({"key": Key.of(keyfiles.read(file.with_suffix(".key")).data),
+                          "active": told["active"], "published": told["published"]})
+        return self._told(len(self.keys), self.keys[-1])
+
+    def _put(self, what: str, number: str = "", told=None):
+        if what == "cryptokeys":
+            for name in ("active", "published"):
+                if not isinstance(told.get(name), bool):
+                    return f"Key '{name}' not present or not a Bool"
+                self._set(number, name, told[name])
+        if what == "" and "nsec3param" in told:
+            self.nsec3 = told["nsec3param"] or None
+        if what == "rectify" and not any(it["active"] for it in self.keys):
+            return f"Zone '{self.zone}' is not DNSSEC signed, not rectifying."
+        return None
+
+    def _patch(self, _: str, told):
+        for it in told["rrsets"]:
+            data = [row["content"] for row in it.get("records", ())]
+            if it["type"] == "SOA":
+                self.serial = int(data[0].split()[2])
+            else:
+                self.records[it["type"]] = data
 
 
 class Knot(Fake):

@@ -172,7 +172,9 @@ def lacks_by_flags(name: str, wanted: Sets) -> Iterator[str]:
         yield f"{name} would sign the zone by {listed(zone)}, not {listed(wanted.zone)}"
 
 
-NAMES = ("bind", "ldns", "pdns", "knot", "bind-inline", "hook COMMAND")
+NAMES = ("bind", "ldns", "pdns", "pdns-api URL", "knot", "bind-inline", "hook COMMAND")
+# The signers that are named with a word more.
+WITH = ("hook", "pdns-api")
 # What a signer that runs sets itself: the options of an act for it, with what it does itself.
 OF_FILES = {"serial": ["unixtime"], "nsec3": [None], "lifetime": [30 * 86400], "jitter": [None],
             "dnskey_ttl": [None], "digest": [None, [2]], "out": [None]}
@@ -213,7 +215,7 @@ def planned(args: Namespace, zone: str) -> Planned | None:
 
 def store(name: str, command: str, args: Namespace, origin: str):
     """The database of a signer that runs."""
-    if name not in STORES or (name == "hook") != bool(command.strip()):
+    if name not in STORES or (name in WITH) != bool(command.strip()):
         raise Failure(f"--signer is {', '.join(NAMES)}, not '{args.signer}'", USAGE)
     return STORES[name](command, args, origin)
 
@@ -221,7 +223,14 @@ def store(name: str, command: str, args: Namespace, origin: str):
 def _pdns(_, args, origin):
     from . import pdns
 
-    return pdns.PowerDns(origin, args.signer_config, getattr(args, "nsec3", None))
+    return pdns.Pdnsutil(origin, args.signer_config, getattr(args, "nsec3", None))
+
+
+def _pdns_api(url, args, origin):
+    from . import pdns_api
+
+    nsec3 = getattr(args, "nsec3", None)
+    return pdns_api.Api(origin, url.strip(), args.signer_config, nsec3)
 
 
 def _knot(_, args, origin):
@@ -243,5 +252,5 @@ def _hook(command, args, origin):
 
 
 STORES: dict[str, Callable] = {
-    "pdns": _pdns, "knot": _knot, "bind-inline": _inline, "hook": _hook,
+    "pdns": _pdns, "pdns-api": _pdns_api, "knot": _knot, "bind-inline": _inline, "hook": _hook,
 }

@@ -29,17 +29,19 @@ SECONDS = 60
 
 @dataclass(frozen=True)
 class Step:
-    """A command of a signer. Its words may be made only when it is its turn, of what is there
-    then; until then they are shown as here. Without words it is done by then."""
+    """A command of a signer. What is run may be made only when it is its turn, of what is there
+    then; until then it is shown by these words. Made of no words, it is done by then."""
 
     words: tuple[str, ...]
-    late: Callable[[], tuple[str, ...]] | None = None
+    late: Callable[[], Step | tuple[str, ...]] | None = None
     stdin: str = ""
     seconds: float = 0
 
     def run(self) -> str:
-        words = self.late() if self.late else self.words
-        return said(words, self.stdin, self.seconds) if words else ""
+        made = self.late() if self.late else self.words
+        if isinstance(made, Step):
+            return made.run()
+        return said(made, self.stdin, self.seconds) if made else ""
 
 
 def said(words: tuple[str, ...] | list[str], stdin: str = "", seconds: float = 0) -> str:
@@ -157,10 +159,12 @@ class Daemon:
 
     def plan(self, wish: Wish) -> Plan:
         """What has to be changed, if all of it can be."""
+        return self._from(self.now(), wish)
+
+    def _from(self, now: Sets, wish: Wish) -> Plan:
         lacks = list(self.lacks(wish.sets))
         if lacks:
             raise Failure("; ".join(lacks), UNAVAILABLE)
-        now = self.now()
         there = {By(key.algorithm, key.tag) for key in now.dnskey}
         self.act.expect_own(there, self.store.name)
         for key in sorted(wish.sets.keys, key=str):
@@ -173,12 +177,13 @@ class Daemon:
     @contextlib.contextmanager
     def publish(self, wish: Wish) -> Iterator[Plan]:
         """The plan, with a folder for its files. The commands run when it is put."""
-        if self.now() == wish.sets:
+        now = self.now()
+        if now == wish.sets:
             with self.renew(wish) as plan:
                 yield plan
             return
         with place.folder(Path(self.args.SCRIPT).with_suffix(f".{self.store.name}")) as folder:
-            yield self.plan(replace(wish, folder=folder))
+            yield self._from(now, replace(wish, folder=folder))
 
     @contextlib.contextmanager
     def renew(self, wish: Wish) -> Iterator[Plan]:

@@ -75,6 +75,8 @@ class Knot:
         self.zone = origin
         self.config = ["-c", config] if config else []
         self.clock = clock or time.time
+        # The record of each key, by its number there: that never changes.
+        self.told: dict[str, str] = {}
         if origin.startswith("-"):
             raise Failure(f"keymgr takes {origin} for an option")
 
@@ -98,11 +100,13 @@ class Knot:
 
     def _record(self, number: str) -> str:
         """The data of a key's DNSKEY record."""
-        text = said(self.keymgr("dnskey", number))
-        match = re.search(r"\sDNSKEY\s+(\d+ 3 \d+ .+)", text)
-        if match is None:
-            raise Failure(f"keymgr dnskey {number}: no DNSKEY record", UNAVAILABLE)
-        return match[1]
+        if number not in self.told:
+            text = said(self.keymgr("dnskey", number))
+            match = re.search(r"\sDNSKEY\s+(\d+ 3 \d+ .+)", text)
+            if match is None:
+                raise Failure(f"keymgr dnskey {number}: no DNSKEY record", UNAVAILABLE)
+            self.told[number] = match[1]
+        return self.told[number]
 
     def now(self, known: list[Key]) -> Sets:
         names = {key: key for key in known}

@@ -6,7 +6,7 @@ from functools import partial
 
 from ..signers import by_flags
 from ..signers.daemon import said
-from ..signers.pdns import PowerDns
+from ..signers.pdns import Pdnsutil
 from . import Asked, Found, Told, expect
 
 STOPS = (
@@ -21,7 +21,7 @@ STOPS = (
 def tell(zone: str, asked: Asked) -> Told:
     """What PowerDNS has. Its users roll by hand: a key of which only one of both flags is set is in
     mid-roll."""
-    store = PowerDns(zone.rstrip(".") + ".", asked.source)
+    store = Pdnsutil(zone.rstrip(".") + ".", asked.source)
     held = store.held()
     expect(bool(held), f"PowerDNS has no keys for {zone}")
     signers, signs = by_flags(it.key for it in held if it.is_active)
