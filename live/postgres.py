@@ -30,13 +30,22 @@ class Postgres:
             self.words = ["setpriv", f"--reuid={OWNER}", f"--regid={OWNER}", "--init-groups"]
 
     def begin(self):
-        data = self.folder / "data"
-        self.run(tool("initdb"), "-D", data, "-U", NAME, "-A", "trust", "--no-sync")
+        self.prepare()
+        self.start()
+        self.fill()
+
+    def prepare(self):
+        self.run(tool("initdb"), "-D", self.folder / "data", "-U", NAME, "-A", "trust", "--no-sync")
+
+    def start(self):
+        """It ends with the thread that starts it, whatever happens."""
         with open(self.folder / "log", "ab") as log:
             self.process = subprocess.Popen(
-                [*self.words, "setpriv", "--pdeathsig", "KILL", tool("postgres"), "-D", str(data),
-                 "-k", str(self.folder), "-h", "", "-F"],
+                [*self.words, "setpriv", "--pdeathsig", "KILL", tool("postgres"), "-D",
+                 str(self.folder / "data"), "-k", str(self.folder), "-h", "", "-F"],
                 stdout=log, stderr=log, cwd=self.folder, start_new_session=True)
+
+    def fill(self):
         self.wait()
         self.psql("template1", "-c", f"CREATE DATABASE {NAME}")
         self.psql(NAME, "-f", SCHEMA)

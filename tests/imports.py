@@ -86,9 +86,32 @@ def _of_pdns(*flags, **how):
             fake.keys.append({"key": keys[name], "active": active, "published": published})
         vars(fake).update(how)
         with fake.installed():
-            return pdns.tell(ZONE, Namespace(source=None))
+            told = pdns.tell(ZONE, Namespace(source=None))
+            expect_private(told)
+            return told
 
     return tell
+
+
+def _of_api(*flags, **how):
+    def tell(keys):
+        fake = stores.PdnsApi()
+        for name, (active, published) in zip(("K1", "Z1", "K2"), flags):
+            fake.keys.append({"key": keys[name], "active": active, "published": published})
+        vars(fake).update(how)
+        with fake.installed():
+            told = pdns.tell_by_api(ZONE, Namespace(source="http://pdns", store="secret"))
+            expect_private(told)
+            return told
+
+    return tell
+
+
+def expect_private(told):
+    """Each key's private half comes out, and is its own."""
+    texts = {it.private() for it in told.keys}
+    if len(texts) != len(told.keys) or not all("PrivateKey: " in it for it in texts):
+        raise Failure(f"private halves: {texts}")
 
 
 def _of_knot(**times):
@@ -179,6 +202,13 @@ ROWS = (
     ("PowerDNS, an old key", _of_pdns((True, True), (True, True), (False, False)), KZ, ""),
     ("PowerDNS without keys", _of_pdns(), None, "has no keys"),
     ("another pdnsutil", _of_pdns((True, True), version="9"), None, "isn't known"),
+    ("PowerDNS by its API", _of_api((True, True), (True, True)), KZ, ""),
+    ("PowerDNS by its API, in a roll", _of_api((True, True), (True, True), (False, True)),
+     "K1:k K2: Z1:z", "published and not active"),
+    ("PowerDNS by its API, another version", _of_api((True, True), lacks=("dnskey",)), None,
+     "isn't known"),
+    ("PowerDNS by its API, no private half", _of_api((True, True), export_zone_key=lambda _: 0),
+     None, "the private half of"),
     ("Knot", _of_knot(), KZ, ""),
     ("Knot, a key that leaves", _of_knot(retire=9), KZ, "on its way out"),
     ("Knot, retired at its end", _of_knot(retire_active=9), KZ, "on its way out"),

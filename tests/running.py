@@ -1,11 +1,12 @@
 #!/usr/bin/env python3
 """Signers that run, by the real ones: PowerDNS, Knot DNS and named. The gate doesn't need them.
 
-    tests/running.py [NAME..]    pdns, pdns-pgsql, pdns-api (also on PostgreSQL), knot, bind-inline:
-                                 takes each through a course of rolls, with a crash before each
+    tests/running.py [NAME..]    takes each through a course of rolls, with a crash before each
                                  command. After each step it asks the server itself, and compares
                                  what that gives with what is due
-"""
+
+The names are pdns, pdns-pgsql and pdns-api (also on PostgreSQL), knot, knot-pkcs11 (by SoftHSM) and
+bind-inline."""
 
 from __future__ import annotations
 
@@ -32,7 +33,7 @@ from vaqsider import keyfiles
 from vaqsider.errors import Failure
 from vaqsider.signers import Key, Sets, daemon
 from vaqsider.signers.inline import Inline
-from vaqsider.signers.knot import Knot
+from vaqsider.signers.knot import FAR, Knot
 from vaqsider.signers.pdns import Pdnsutil
 from vaqsider.signers.pdns_api import Api
 
@@ -54,19 +55,23 @@ KEYS = {"K1": ("13", True), "K2": ("13", True), "Z1": ("13", False), "Z2": ("13"
         "C3": ("13", True), "K4": ("8", True), "Z4": ("8", False)}
 TWO = ("K1,Z1,K4,Z4 K1,K4 Z1,Z4 -", "K1,Z1,K4,Z4 K1,K4 Z1,Z4 K4", "K4,Z4 K4 Z4 -")
 OF_PDNS = (*adaptors.COURSE[1:], *TWO, "K4,Z4 K4 Z4 0", "- - - -")
+OF_KNOT = (*adaptors.COURSE[1:], *adaptors.OF_CSK, *TWO)
 COURSES = {
     "pdns": OF_PDNS,
     "pdns-pgsql": OF_PDNS[:5],
     "pdns-api": OF_PDNS,
-    "knot": (*adaptors.COURSE[1:], *adaptors.OF_CSK, *TWO),
+    "knot": OF_KNOT,
+    "knot-pkcs11": OF_KNOT,
     "bind-inline": (*adaptors.COURSE[1:], *TWO),
 }
+SOFTHSM = "/usr/lib/softhsm/libsofthsm2.so"
 SCHEMA = Path("/usr/share/doc/pdns-backend-sqlite3/schema.sqlite3.sql")
 OF_PDNS_TOOLS = ("pdnsutil", "pdns_server", "pdns_control")
 TOOLS = {"pdns": OF_PDNS_TOOLS, "pdns-pgsql": OF_PDNS_TOOLS, "pdns-api": OF_PDNS_TOOLS, "knot": ("knotd", "keymgr", "knotc"),
+         "knot-pkcs11": ("knotd", "keymgr", "knotc", "softhsm2-util"),
          "bind-inline": ("named", "rndc", "dnssec-settime", "dnssec-keygen")}
 PACKAGES = ("pdns-server pdns-backend-sqlite3 pdns-backend-pgsql postgresql knot bind9 "
-            "bind9-utils")
+            "bind9-utils softhsm2")
 SECRET = "key k { algorithm hmac-sha256; secret \"%s=\"; };" % ("A" * 43)
 
 
@@ -76,18 +81,15 @@ def free_port() -> int:
         return probe.getsockname()[1]
 
 
-def make_keys() -> dict[str, Key]:
-    made = {}
-    for name, (algorithm, is_sep) in KEYS.items():
-        size = ["-b", "2048"] * (algorithm == "8")
-        words = ["dnssec-keygen", "-q", "-a", algorithm, *size, *["-f", "KSK"] * is_sep, ORIGIN]
-        path = subprocess.check_output(words, text=True).strip()
-        for option in ("-P", "-A"):
-            subprocess.run(["dnssec-settime", option, "none", path], stdout=subprocess.DEVNULL,
-                           check=True)
-        file = keyfiles.read(path)
-        made[name] = Key.of(file.data, name, file)
-    return made
+def key_file(name: str, algorithm: str, is_sep: bool) -> Key:
+    size = ["-b", "2048"] * (algorithm == "8")
+    words = ["dnssec-keygen", "-q", "-a", algorithm, *size, *["-f", "KSK"] * is_sep, ORIGIN]
+    path = subprocess.check_output(words, text=True).strip()
+    for option in ("-P", "-A"):
+        subprocess.run(["dnssec-settime", option, "none", path], stdout=subprocess.DEVNULL,
+                       check=True)
+    file = keyfiles.read(path)
+    return Key.of(file.data, name, file)
 
 
 class Server:
@@ -97,8 +99,13 @@ class Server:
         self.port, self.here = free_port(), Path.cwd()
         Path("zone").write_text(ZONE)
         self.prepare()
+        self.keys = self.make_keys()
         self.process = self.begin()
         self.wait()
+
+    def make_keys(self) -> dict[str, Key]:
+        """The keys of the course, as files."""
+        return {name: key_file(name, *how) for name, how in KEYS.items()}
 
     def start(self, *words: str) -> subprocess.Popen:
         with open("log", "ab") as log:
@@ -201,8 +208,9 @@ control:
   listen: "{here}/run/knot.sock"
 database:
   storage: "{here}/db"
-policy:
+{keystore}policy:
   - id: m
+    keystore: {store}
     manual: on
     cds-cdnskey-publish: rollover
 template:
@@ -220,9 +228,12 @@ zone:
 
 
 class OfKnot(Server):
+    keystore, kept_in = "", "default"
+
     def conf(self, signing: str) -> None:
         Path("knot.conf").write_text(KNOT.format(
-            here=self.here, at=HERE, port=self.port, signing=signing, zone=ORIGIN))
+            here=self.here, at=HERE, port=self.port, signing=signing, zone=ORIGIN,
+            keystore=self.keystore, store=self.kept_in))
 
     def prepare(self) -> None:
         Path("run").mkdir()
@@ -237,6 +248,43 @@ class OfKnot(Server):
         subprocess.run(["knotc", "-c", "knot.conf", "reload"], stdout=subprocess.DEVNULL)
         time.sleep(1)
         return made
+
+
+KEYSTORE = f"""keystore:
+  - id: hsm
+    backend: pkcs11
+    config: "pkcs11:token=knot;pin-value=1234 {SOFTHSM}"
+"""
+
+
+class OfKnotByPkcs11(OfKnot):
+    """Its keys are in SoftHSM, and their public halves in files."""
+
+    keystore, kept_in = KEYSTORE, "hsm"
+
+    def prepare(self) -> None:
+        Path("tokens").mkdir()
+        Path("softhsm2.conf").write_text(f"directories.tokendir = {self.here}/tokens\n")
+        os.environ["SOFTHSM2_CONF"] = f"{self.here}/softhsm2.conf"
+        subprocess.run(["softhsm2-util", "--init-token", "--free", "--label", "knot", "--pin",
+                        "1234", "--so-pin", "1234"], check=True, stdout=subprocess.DEVNULL)
+        super().prepare()
+
+    def make_keys(self) -> dict[str, Key]:
+        return {name: self._generated(name, *how) for name, how in KEYS.items()}
+
+    def _generated(self, name: str, algorithm: str, is_sep: bool) -> Key:
+        """A key that is made there, with times that never come."""
+        flags = ["ksk=yes", "zsk=no"] if is_sep else ["ksk=no", "zsk=yes"]
+        far = [f"{it}={FAR}" for it in ("publish", "active")]
+        told = self.keymgr("generate", f"algorithm={algorithm}", *flags, *far)
+        data = self.keymgr("dnskey", told.split()[-1]).partition(" DNSKEY ")[2].strip()
+        path = Path(f"K{ORIGIN}+{int(algorithm):03}+{Key.of(data).tag:05}.key")
+        path.write_text(f"{ORIGIN} IN DNSKEY {data}\n")
+        return Key.of(data, name, keyfiles.read(path))
+
+    def keymgr(self, *words: str) -> str:
+        return subprocess.check_output(["keymgr", "-c", "knot.conf", ORIGIN, *words], text=True)
 
 
 NAMED = """options {{ directory "{here}"; pid-file "{here}/pid";
@@ -270,14 +318,16 @@ class OfBind(Server):
         return made
 
 
-SERVERS = {"pdns": OfPdns, "pdns-pgsql": OfPdnsOnPostgres, "pdns-api": OfPdnsByApi, "knot": OfKnot, "bind-inline": OfBind}
+SERVERS = {"pdns": OfPdns, "pdns-pgsql": OfPdnsOnPostgres, "pdns-api": OfPdnsByApi, "knot": OfKnot,
+           "knot-pkcs11": OfKnotByPkcs11, "bind-inline": OfBind}
 
 
 def course(name: str):
     """The course of a signer. Each step crashes once before each of its commands."""
     with folder():
-        keys = make_keys()
-        known, server = list(keys.values()), SERVERS[name]()
+        server = SERVERS[name]()
+        keys = server.keys
+        known = list(keys.values())
         try:
             for text in COURSES[name]:
                 wanted = adaptors.sets(keys, text)

@@ -116,7 +116,7 @@ class Pdns(Fake):
     def deactivate_zone_key(self, number): self._set(number, "active", False)
 
     def export_zone_key(self, number) -> str:
-        return "Private-key-format: v1.2\nAlgorithm: 13\nPrivateKey: AAAA\n"
+        return f"Private-key-format: v1.2\nAlgorithm: 13\nPrivateKey: {number}AAA\n"
 
     def replace_rrset(self, name, kind, ttl, *data): self.records[kind] = list(data)
     def delete_rrset(self, name, kind): self.records[kind] = []
@@ -170,7 +170,9 @@ class PdnsApi(Pdns):
         rest = path.removeprefix(f"/zones/{self.zone}.").strip("/").split("/")
         return getattr(self, f"_{method.lower()}")(*rest, told=told)
 
-    def _get(self, what: str, told):
+    def _get(self, what: str, number: str = "", told=None):
+        if number:
+            return {"privatekey": self.export_zone_key(number)}
         if what == "cryptokeys":
             return [self._told(number, it) for number, it in enumerate(self.keys, start=1)]
         rows = [("SOA", 300, [f"ns. h. {self.serial} 3600 600 86400 60"]), ("NS", 7200, ["ns."])]

@@ -210,7 +210,7 @@ READ_AS = {
     "--port": {"type": arguments.port},
     "SECONDS": {"type": arguments.span},
     "NUMBER": {"type": arguments.number},
-    "SYSTEM": {"choices": ("bind", "knot", "pdns", "opendnssec", "dnst")},
+    "SYSTEM": {"choices": ("bind", "knot", "pdns", "pdns-api", "opendnssec", "dnst")},
     "2|4..": {"type": int, "choices": (2, 4)},
     "DS DNSKEY ZONE": {
         "type": arguments.number, "nargs": 3, "metavar": ("DS", "DNSKEY", "ZONE"),

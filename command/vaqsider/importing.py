@@ -24,8 +24,8 @@ from .looking import Look
 from .signers import Key
 from .sources import Asked, Found, Told, bind, dnst, knot, opendnssec, pdns
 
-SOURCES = {"bind": bind.tell, "knot": knot.tell, "pdns": pdns.tell, "opendnssec": opendnssec.tell,
-           "dnst": dnst.tell}
+SOURCES = {"bind": bind.tell, "knot": knot.tell, "pdns": pdns.tell, "pdns-api": pdns.tell_by_api,
+           "opendnssec": opendnssec.tell, "dnst": dnst.tell}
 SUFFIX = ".import"
 
 

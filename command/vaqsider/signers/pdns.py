@@ -70,6 +70,10 @@ class PowerDns:
         """The records of the zone."""
         raise NotImplementedError
 
+    def private(self, held: Held) -> str:
+        """The private half of a key, as BIND has it."""
+        raise NotImplementedError
+
     def top(self, kind: str) -> list[Record]:
         name = self.zone.lower()
         return [it for it in self.records()
@@ -228,6 +232,9 @@ class Pdnsutil(PowerDns):
     def records(self) -> list[Record]:
         found = map(LISTED.fullmatch, said(self.words("list-zone", self.zone)).splitlines())
         return [Record(it["owner"], int(it["ttl"]), it["kind"], it["data"]) for it in found if it]
+
+    def private(self, held: Held) -> str:
+        return said(self.words("export-zone-key", self.zone, held.id))
 
     def imported(self, key: Key) -> Step:
         kind, private = "ksk" if key.is_sep else "zsk", str(key.at_hand().private.resolve())

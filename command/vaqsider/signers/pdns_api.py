@@ -55,10 +55,10 @@ class Api(PowerDns):
     def __init__(self, origin: str, url: str, secret: str | None, nsec3: str | None = None) -> None:
         super().__init__(origin, nsec3)
         if not url.startswith(("http://", "https://")):
-            raise Failure("--signer 'pdns-api URL': the URL begins with http:// or https://", USAGE)
+            raise Failure(f"{url}: the URL of an API begins with http:// or https://", USAGE)
         if secret is None:
-            raise Failure("--signer pdns-api: --signer-config names the file with the API's key",
-                          USAGE)
+            raise Failure("name the file with the key of PowerDNS's API: --signer-config of an act "
+                          "or a plan, --store of an import", USAGE)
         self.url = url.rstrip("/")
         self.secret = Path(secret).read_text(encoding="ascii").strip()
         self._id: str | None = None
@@ -138,6 +138,12 @@ class Api(PowerDns):
                     if not it["disabled"]]
         except (KeyError, TypeError, ValueError):
             raise self._odd("records") from None
+
+    def private(self, held: Held) -> str:
+        told = self.ask("GET", self.at(f"/zones/ZONE/cryptokeys/{held.id}"))
+        if not isinstance(told, dict) or not isinstance(told.get("privatekey"), str):
+            raise self._odd(f"the private half of {held.key}")
+        return told["privatekey"]
 
     def has_direct(self) -> bool:
         try:

@@ -1,12 +1,13 @@
-"""PowerDNS's keys, by `pdnsutil show-zone`. Their private halves come by `export-zone-key`."""
+"""PowerDNS's keys, by `pdnsutil show-zone` or its API. Their private halves come out there too."""
 
 from __future__ import annotations
 
 from functools import partial
 
+from ..errors import USAGE, Failure
 from ..signers import by_flags
-from ..signers.daemon import said
-from ..signers.pdns import Pdnsutil
+from ..signers.pdns import Pdnsutil, PowerDns
+from ..signers.pdns_api import Api
 from . import Asked, Found, Told, expect
 
 STOPS = (
@@ -19,9 +20,19 @@ STOPS = (
 
 
 def tell(zone: str, asked: Asked) -> Told:
-    """What PowerDNS has. Its users roll by hand: a key of which only one of both flags is set is in
-    mid-roll."""
-    store = Pdnsutil(zone.rstrip(".") + ".", asked.source)
+    """What PowerDNS has, by its tool."""
+    return _told(zone, Pdnsutil(zone.rstrip(".") + ".", asked.source))
+
+
+def tell_by_api(zone: str, asked: Asked) -> Told:
+    """What PowerDNS has, by its API."""
+    if asked.source is None:
+        raise Failure("--source: say the URL of PowerDNS's API", USAGE)
+    return _told(zone, Api(zone.rstrip(".") + ".", asked.source, asked.store))
+
+
+def _told(zone: str, store: PowerDns) -> Told:
+    """Its users roll by hand: a key of which only one of both flags is set is in mid-roll."""
     held = store.held()
     expect(bool(held), f"PowerDNS has no keys for {zone}")
     signers, signs = by_flags(it.key for it in held if it.is_active)
@@ -34,6 +45,6 @@ def tell(zone: str, asked: Asked) -> Told:
         if it.is_active and not it.is_published:
             moving.append(f"key {tag} is active and not published: deactivate-zone-key first")
         if it.is_active or it.is_published:
-            words = store.words("export-zone-key", store.zone, it.id)
-            keys.append(Found(it.key, it.key in signers, it.key in signs, partial(said, words)))
+            private = partial(store.private, it)
+            keys.append(Found(it.key, it.key in signers, it.key in signs, private))
     return Told(keys, moving, [it.format(zone=zone) for it in STOPS])
