@@ -1,5 +1,6 @@
-"""Scenes of signers that run: PowerDNS, Knot and named sign the zone, and the operator types only
-the command. In each act one command of the signer fails, or two do, and the act is typed again."""
+"""Scenes of each signer: the tools of BIND and ldns, PowerDNS, Knot and named sign the zone, and
+the operator types only the command. Before each act that ends well another one is broken off: a
+command of the signer fails, or the act is killed."""
 
 import asyncio
 import json
@@ -106,6 +107,10 @@ class Signer:
         self.operator.serial = serial
         text = f"$TTL {TTL}\n" + "\n".join(self.operator.records()) + "\n"
         (self.folder / "zone").write_text(text)
+
+    def files(self):
+        """The options of an act that a plan hasn't got."""
+        return []
 
     def end(self):
         """What is left to end after a scene, beside its processes."""
@@ -222,8 +227,36 @@ class Named(Signer):
         await self.is_up()
 
     def options(self):
-        return ["--signer", "bind-inline", "--signer-config", self.folder / "rndc.conf",
-                "--zone-file", self.folder / "zone"]
+        return ["--signer", "bind-inline", "--signer-config", self.folder / "rndc.conf"]
+
+    def files(self):
+        return ["--zone-file", self.folder / "zone"]
+
+
+class OfFiles(Signer):
+    """The tools of BIND or ldns, which sign a file. An act by them may be killed at any moment."""
+
+    async def start(self, serial):
+        self.write(serial)
+
+    async def given(self):
+        made = self.folder / "zone.signed"
+        return dns.zone.from_file(str(made), self.zone.name, relativize=False) \
+            if made.exists() else None
+
+    def options(self):
+        return ["--signer", self.name]
+
+    def files(self):
+        return ["--zone-file", self.folder / "zone"]
+
+
+class OfBind(OfFiles):
+    name = "bind"
+
+
+class OfLdns(OfFiles):
+    name = "ldns"
 
 
 # An old key of named signs beside the new one until it leaves: a watch says so of the NS set, and
@@ -252,7 +285,8 @@ class Running(Operator):
     def words_of_act(self):
         if self.signer is None:
             return super().words_of_act()
-        return ["act", self.script, *self.signer.options(), *self.parents(), "--json"]
+        options = [*self.signer.options(), *self.signer.files()]
+        return ["act", self.script, *options, *self.parents(), "--json"]
 
     async def act(self, *how):
         """Acts, after an act that failed between two commands of the signer."""
@@ -405,11 +439,10 @@ async def csk(operator, ksk, zsk):
     """A CSK comes in by a roll, if the signer can do that. Else the plan says that it can't."""
     new = await operator.key(*KSK, algorithm=OTHER)
     await operator.call(f"add-csk {new}")
-    ends = (0,) if operator.signer.name == "knot" else (1,)
-    options = operator.signer.options()[:4]
-    await operator.type("plan", operator.script, "csk-roll", f"{ksk},{zsk}", new, *options,
-                        ends=ends)
-    if operator.signer.name == "knot":
+    is_able = operator.signer.name in ("knot", "bind")
+    await operator.type("plan", operator.script, "csk-roll", f"{ksk},{zsk}", new,
+                        *operator.signer.options(), ends=(0,) if is_able else (1,))
+    if is_able:
         await operator.roll("csk-roll", f"{ksk},{zsk}", new)
 
 
@@ -532,6 +565,8 @@ async def replace_one(operator, roll):
 
 
 HONEST = {
+    "signer-bind": rolls(OfBind),
+    "signer-ldns": rolls(OfLdns),
     "signer-pdns": rolls(Pdns),
     "signer-pdns-api": rolls(PdnsByApi),
     "signer-knot": rolls(Knot),

@@ -79,7 +79,8 @@ def of(name: str):
     return Inline(ZONE, args, lambda: stores.NOW), stores.Bind(Path())
 
 
-COURSES = {"pdns": COURSE + UNSIGNED, "pdns-api": COURSE + UNSIGNED, "knot": COURSE[1:] + OF_CSK, "bind-inline": COURSE[1:]}
+COURSES = {"pdns": COURSE + UNSIGNED, "pdns-api": COURSE + UNSIGNED, "knot": COURSE[1:] + OF_CSK,
+           "bind-inline": COURSE[1:]}
 
 
 def steps(store, known, wanted):
@@ -102,33 +103,37 @@ def courses():
 
 
 def _change(name: str, before: str, after: str):
-    crash = 0
-    while True:
+    """From some sets to others and back, with a crash before each command."""
+    crash, commands = 0, 0
+    while crash <= commands:
         with folder():
             keys = make()
             known, (store, fake) = list(keys.values()), of(name)
+            first, wanted = sets(keys, before), sets(keys, after)
             with fake.installed():
-                for step in steps(store, known, sets(keys, before)):
-                    step.run()
-                wanted, start = sets(keys, after), len(fake.served)
-                todo = steps(store, known, wanted)
-                for step in todo[:crash]:
-                    step.run()
-                for step in steps(store, known, wanted):
-                    step.run()
-                left = list(store.now(known).differences(wanted))
+                left = _reached(store, known, first)
+                start, todo = len(fake.served), steps(store, known, wanted)
+                _run(todo[:crash])
+                left += _reached(store, known, wanted)
                 served = [it for it in fake.served[start:] if it]
-                for step in steps(store, known, sets(keys, before)):
-                    step.run()
-                left += store.now(known).differences(sets(keys, before))
+                left += _reached(store, known, first)
             where = f"{name}: {before} to {after}, crash at {crash}"
             if left:
                 yield f"{where}: {left}"
             both = [_three(keys, it) for it in (before, after)]
             yield from (f"{where}: it gave {it}" for it in served if not _is_between(it, *both))
-        crash += 1
-        if crash > len(todo):
-            return
+        crash, commands = crash + 1, len(todo)
+
+
+def _run(todo) -> None:
+    for step in todo:
+        step.run()
+
+
+def _reached(store, known, wanted: Sets) -> list[str]:
+    """What is otherwise than wanted, after all steps."""
+    _run(steps(store, known, wanted))
+    return list(store.now(known).differences(wanted))
 
 
 def _is_between(given, one, other) -> bool:
@@ -333,7 +338,8 @@ WIRES = (
     ("no HTTP\r\n\r\n", ": no HTTP"), ("HTTP/1.1 302 x\r\nLocation: http://127.0.0.2/\r\n"
      "Content-Length: 0\r\n\r\n", "302: refused"),
     ("HTTP/1.1 401 Unauthorized\r\nContent-Length: 2\r\n\r\n{}", "401: refused"),
-    ("HTTP/1.1 422 x\r\nContent-Length: 15\r\n\r\n{\"error\": \"no\"}", "422: no"), (None, "timed out"),
+    ("HTTP/1.1 422 x\r\nContent-Length: 15\r\n\r\n{\"error\": \"no\"}", "422: no"),
+    (None, "timed out"),
 )
 
 
@@ -351,7 +357,8 @@ def wires():
             answers.join()
         if says not in said:
             yield f"an API that answers {text!r}: {said}"
-    if "refused" not in _said(lambda: pdns_api.exchange("GET", f"http://127.0.0.1:{port}", "", None)):
+    url = f"http://127.0.0.1:{port}"
+    if "refused" not in _said(lambda: pdns_api.exchange("GET", url, "", None)):
         yield "an API that isn't there"
 
 

@@ -67,7 +67,8 @@ COURSES = {
 SOFTHSM = "/usr/lib/softhsm/libsofthsm2.so"
 SCHEMA = Path("/usr/share/doc/pdns-backend-sqlite3/schema.sqlite3.sql")
 OF_PDNS_TOOLS = ("pdnsutil", "pdns_server", "pdns_control")
-TOOLS = {"pdns": OF_PDNS_TOOLS, "pdns-pgsql": OF_PDNS_TOOLS, "pdns-api": OF_PDNS_TOOLS, "knot": ("knotd", "keymgr", "knotc"),
+TOOLS = {"pdns": OF_PDNS_TOOLS, "pdns-pgsql": OF_PDNS_TOOLS, "pdns-api": OF_PDNS_TOOLS,
+         "knot": ("knotd", "keymgr", "knotc"),
          "knot-pkcs11": ("knotd", "keymgr", "knotc", "softhsm2-util"),
          "bind-inline": ("named", "rndc", "dnssec-settime", "dnssec-keygen")}
 PACKAGES = ("pdns-server pdns-backend-sqlite3 pdns-backend-pgsql postgresql knot bind9 "

@@ -1,7 +1,7 @@
 """PowerDNS signs while it answers, by keys in its database. Each is published or not, and active or
-not: `pdnsutil` says so, and so does [its API](pdns_api.py). A key of an algorithm with the SEP flag
-signs the DNSKEY set, and another the zone; if active keys of an algorithm are of one kind only, each
-signs all.
+not: `pdnsutil` says so, and so does its API (pdns_api.py). A key of an algorithm with the SEP flag
+signs the DNSKEY set, and another the zone; if active keys of an algorithm are of one kind only,
+each signs all.
 
 CDS and CDNSKEY are records of the database, which PowerDNS gives if it has `direct-dnskey=yes`. It
 has no other way to give them for just the keys that are due."""

@@ -75,30 +75,43 @@ def from_pem(data: bytes, key: Key, where: str) -> str:
     except (ValueError, TypeError) as error:
         raise Failure(f"{where}: {error}", UNAVAILABLE) from None
     if isinstance(private, ec.EllipticCurvePrivateKey):
-        of_curve = private.private_numbers()
-        length, point = (private.curve.key_size + 7) // 8, of_curve.public_numbers
-        fields = {"PrivateKey": _bytes(of_curve.private_value, length)}
-        public = point.x.to_bytes(length, "big") + point.y.to_bytes(length, "big")
+        public, fields = _of_curve(private)
     elif isinstance(private, (ed25519.Ed25519PrivateKey, ed448.Ed448PrivateKey)):
-        raw = serialization.Encoding.Raw
-        fields = {"PrivateKey": base64.b64encode(private.private_bytes(
-            raw, serialization.PrivateFormat.Raw, serialization.NoEncryption())).decode()}
-        public = private.public_key().public_bytes(raw, serialization.PublicFormat.Raw)
+        public, fields = _of_edwards(private)
     elif isinstance(private, rsa.RSAPrivateKey):
-        numbers = private.private_numbers()
-        of = numbers.public_numbers
-        values = (of.n, of.e, numbers.d, numbers.p, numbers.q, numbers.dmp1, numbers.dmq1,
-                  numbers.iqmp)
-        fields = dict(zip(OF_RSA, map(_bytes, values)))
-        exponent, modulus = (base64.b64decode(_bytes(it)) for it in (of.e, of.n))
-        head = bytes([len(exponent)]) if len(exponent) < 256 else b"\0" + len(
-            exponent).to_bytes(2, "big")
-        public = head + exponent + modulus
+        public, fields = _of_rsa(private)
     else:
         raise Failure(f"{where}: a kind of key that DNSSEC hasn't got", UNAVAILABLE)
     if base64.b64decode(key.data.split()[3]) != public:
         raise Failure(f"{where}: it isn't the private half of {key.tag}", UNAVAILABLE)
     return in_private(key.algorithm, fields)
+
+
+# Each gives a key's public half as its DNSKEY record has it, and the fields of its private one.
+def _of_curve(private) -> tuple[bytes, dict[str, str]]:
+    numbers, length = private.private_numbers(), (private.curve.key_size + 7) // 8
+    point = numbers.public_numbers
+    public = point.x.to_bytes(length, "big") + point.y.to_bytes(length, "big")
+    return public, {"PrivateKey": _bytes(numbers.private_value, length)}
+
+
+def _of_edwards(private) -> tuple[bytes, dict[str, str]]:
+    from cryptography.hazmat.primitives import serialization as of
+
+    secret = private.private_bytes(of.Encoding.Raw, of.PrivateFormat.Raw, of.NoEncryption())
+    public = private.public_key().public_bytes(of.Encoding.Raw, of.PublicFormat.Raw)
+    return public, {"PrivateKey": base64.b64encode(secret).decode()}
+
+
+def _of_rsa(private) -> tuple[bytes, dict[str, str]]:
+    numbers = private.private_numbers()
+    of = numbers.public_numbers
+    values = (of.n, of.e, numbers.d, numbers.p, numbers.q, numbers.dmp1, numbers.dmq1,
+              numbers.iqmp)
+    exponent, modulus = (base64.b64decode(_bytes(it)) for it in (of.e, of.n))
+    length = len(exponent)
+    head = bytes([length]) if length < 256 else b"\0" + length.to_bytes(2, "big")
+    return head + exponent + modulus, dict(zip(OF_RSA, map(_bytes, values)))
 
 
 def _bytes(number: int, size: int = 0) -> str:

@@ -30,27 +30,15 @@ STOPS = (
 
 def tell(zone: str, asked: Asked) -> Told:
     """What the enforcer says. The records of its keys are taken from the servers."""
-    debug, verbose = (_list(how) for how in ("--debug", "--verbose"))
-    name = zone.rstrip(".").lower()
-    found = filter(None, map(DEBUG.fullmatch, debug))
-    rows = [it for it in found if it["zone"].rstrip(".").lower() == name]
-    tags = {it["id"].lower(): (int(it["tag"]), int(it["algorithm"]))
-            for it in filter(None, map(VERBOSE.fullmatch, verbose))}
-    if not rows:
-        raise Failure(f"ods-enforcer key list: no keys of {zone} that are known", UNAVAILABLE)
+    rows, tags = _rows(zone), _tags()
     records = {(it.tag, it.algorithm): it for it in asked.records()}
     keys, moving, ids = [], [], []
     for row in rows:
-        states = [row[it] for it in ("ds", "dnskey", "keys", "rest")]
-        expect(set(states) <= STATES, f"ods-enforcer key list: a state that isn't known: {row[0]}")
-        counts = [it for it in states if it != NONE]
-        if set(counts) == {OUT}:
+        counts = _states(row)
+        if counts == [OUT] * len(counts):
             continue
         at = tags.get(row["id"].lower())
-        if set(counts) != {THERE}:
-            waits = "'ods-enforcer key ds-seen', once the parent has it" if row["ds"] not in (
-                THERE, NONE) else "wait until 'ods-enforcer key list --debug' says omnipresent"
-            moving.append(f"key {at[0] if at else row['id']} is {', '.join(counts)}: {waits}")
+        moving += _moving(row, counts, at)
         if at not in records:
             raise Failure(f"the servers give no DNSKEY record of the key {at or row['id']}",
                           UNAVAILABLE)
@@ -58,6 +46,37 @@ def tell(zone: str, asked: Asked) -> Told:
         role = row["role"].upper()
         keys.append(Found(records[at], role != "ZSK", role != "KSK"))
     return Told(keys, moving, [it.format(ids=" ".join(ids)) for it in STOPS])
+
+
+def _rows(zone: str) -> list[re.Match]:
+    """The rows of the zone's keys."""
+    found = filter(None, map(DEBUG.fullmatch, _list("--debug")))
+    name = zone.rstrip(".").lower()
+    rows = [it for it in found if it["zone"].rstrip(".").lower() == name]
+    expect(bool(rows), f"ods-enforcer key list: no keys of {zone} that are known")
+    return rows
+
+
+def _tags() -> dict[str, tuple[int, int]]:
+    """The tag and the algorithm of each key, by its number in the store."""
+    found = filter(None, map(VERBOSE.fullmatch, _list("--verbose")))
+    return {it["id"].lower(): (int(it["tag"]), int(it["algorithm"])) for it in found}
+
+
+def _states(row: re.Match) -> list[str]:
+    """The states of a key's records that count."""
+    states = [row[it] for it in ("ds", "dnskey", "keys", "rest")]
+    expect(set(states) <= STATES, f"ods-enforcer key list: a state that isn't known: {row[0]}")
+    return [it for it in states if it != NONE]
+
+
+def _moving(row: re.Match, counts: list[str], at: tuple[int, int] | None) -> list[str]:
+    """What is in progress with a key."""
+    if set(counts) == {THERE}:
+        return []
+    waits = "'ods-enforcer key ds-seen', once the parent has it" if row["ds"] not in (
+        THERE, NONE) else "wait until 'ods-enforcer key list --debug' says omnipresent"
+    return [f"key {at[0] if at else row['id']} is {', '.join(counts)}: {waits}"]
 
 
 def _list(how: str) -> list[str]:

@@ -15,7 +15,8 @@ STOPS = (
     "CDS: 'pdnsutil unset-publish-cds {zone}' and 'pdnsutil unset-publish-cdnskey {zone}'; from"
     " then on 'vaqsider act --signer pdns' gives them, with direct-dnskey=yes",
     "if PowerDNS is to sign no more: let it have the signed file of 'vaqsider act' ('pdnsutil"
-    " load-zone', then 'pdnsutil set-presigned {zone}'), under a higher serial, before any key goes",
+    " load-zone', then 'pdnsutil set-presigned {zone}'), under a higher serial, before any key"
+    " goes",
 )
 
 
