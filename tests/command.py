@@ -2,8 +2,8 @@
 """Runs the command of an operator on stored transcripts, without a server.
 
     tests/command.py            compares what each line prints, asks facts.py, acts.py, adaptors.py,
-                                imports.py and liars.py, lets the command crash after each change
-                                of its files, and counts the lines of its code that ran
+                                imports.py, ceremonies.py and liars.py, lets the command crash after
+                                each change of its files, and counts the lines of its code that ran
     tests/command.py --write    writes the transcripts again
     tests/command.py --left     shows which lines of its code did not run
     tests/command.py --only NAME..
@@ -35,6 +35,7 @@ sys.path.insert(0, str(TOP / "replay"))
 import acts  # noqa: E402
 import adaptors  # noqa: E402
 import answering  # noqa: E402
+import ceremonies  # noqa: E402
 import drawn  # noqa: E402, F401
 import facts  # noqa: E402
 import imports  # noqa: E402
@@ -335,11 +336,12 @@ def main():
         acted = pool.submit(traced, acts.faults)
         adapted = pool.submit(traced, adaptors.faults)
         imported = pool.submit(traced, imports.faults)
+        held = pool.submit(traced, ceremonies.faults)
         compared = pool.submit(traced, compare, write)
         lied_to = pool.submit(traced, liars.faults)
         crashed = [*pool.map(crash, range(len(CRASHES)))]
     (faults, lines), results = compared.result()
-    for part in (looked_up, acted, adapted, imported, lied_to):
+    for part in (looked_up, acted, adapted, imported, held, lied_to):
         more, others = part.result()
         results.update(others)
         faults += more
@@ -349,7 +351,8 @@ def main():
     print(*faults, sep="\n", end="\n" if faults else "")
     answers = len(liars.ROWS) + len(liars.FOUND)
     print(f"command: {lines} lines played, {crashes} crashes, {answers} answers of servers, "
-          f"{acts.COUNT} acts, {adaptors.COUNT} changes of signers, {imports.COUNT} imports; "
+          f"{acts.COUNT} acts, {adaptors.COUNT} changes of signers, {imports.COUNT} imports, "
+          f"{ceremonies.COUNT} ceremonies; "
           f"{ran} of {total} lines of code ran, by std's trace")
     if "--left" in sys.argv[1:]:
         print(*(f"{Path(name).name}:{line}" for name, line in unrun), sep="\n")

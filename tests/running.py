@@ -281,7 +281,7 @@ class OfKnotByPkcs11(OfKnot):
         told = self.keymgr("generate", f"algorithm={algorithm}", *flags, *far)
         data = self.keymgr("dnskey", told.split()[-1]).partition(" DNSKEY ")[2].strip()
         path = Path(f"K{ORIGIN}+{int(algorithm):03}+{Key.of(data).tag:05}.key")
-        path.write_text(f"{ORIGIN} IN DNSKEY {data}\n")
+        path.write_text(f"{ORIGIN} DNSKEY {data}\n")
         return Key.of(data, name, keyfiles.read(path))
 
     def keymgr(self, *words: str) -> str:

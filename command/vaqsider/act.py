@@ -19,7 +19,7 @@ from keyset import Damaged, Lines, Notes
 from keyset.file import Writer
 from keyset.notes import Seen
 
-from . import place, signers, status, words
+from . import ceremony, place, signers, status, words
 from .errors import UNAVAILABLE, Failure
 from .history import Call, History
 from .keysets import KeySets
@@ -38,7 +38,8 @@ class Act:
         self.args, self.now = args, now
         self.lines, self.told = status.read(args.SCRIPT, now)
         told = self.told
-        self.keys = KeySets(told, args.keys or [Path(args.SCRIPT).parent])
+        taken = ceremony.signatures(args.SCRIPT)
+        self.keys = KeySets(told, args.keys or [Path(args.SCRIPT).parent], taken)
         self.digests = args.digest or [2]
         self.changes_ds = status.is_asked(told, "UpdateDsRrset")
         # The call that asks for CDS, if it is due.

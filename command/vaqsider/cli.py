@@ -151,6 +151,22 @@ def on_act(args):
     return OK, *acted.done(args, *act.perform(args, clock))
 
 
+def on_ceremony(args):
+    from . import ceremony
+
+    if args.take:
+        new = ceremony.take(args, int(clock()))
+        text = [f"{ceremony.path_of(args.SCRIPT)}: {len(new)} new signatures"]
+        return OK, text, {"signatures": [row.data for row in new]}
+    made = ceremony.written(ceremony.asked(args, int(clock())))
+    text = _json(made)
+    if args.out:
+        arguments.expect_other(args.out, args.SCRIPT)
+        Path(args.out).write_text(f"{text}\n", encoding="utf-8")
+        return OK, [f"{args.out}: {len(made['signatures'])} signatures are asked for"], made
+    return OK, [text], made
+
+
 def on_watch(args):
     if args.state:
         return _state(args)
@@ -219,7 +235,7 @@ READ_AS = {
     "SCRIPT..": {"nargs": "+"},
 }
 DEFAULTS = {
-    "port": 53, "every": 10, "lifetime": 30 * 86400, "reload_within": 60,
+    "port": 53, "every": 10, "lifetime": 30 * 86400, "reload_within": 60, "span": 90 * 86400,
 }
 
 
