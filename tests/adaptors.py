@@ -5,8 +5,11 @@ from __future__ import annotations
 
 import contextlib
 import itertools
+import os
 import re
 import socket
+import subprocess
+import sys
 import threading
 import time
 from argparse import Namespace
@@ -15,7 +18,7 @@ from unittest import mock
 
 import stores
 import testkeys
-from typed import folder, typed
+from typed import TOP, folder, typed
 from vaqsider import keyfiles
 from vaqsider.errors import Failure
 from vaqsider.signers import DELETION, Key, Sets, pdns_api
@@ -518,7 +521,20 @@ def typed_wrongly():
                 yield f"{' '.join(words)}: {status}: {said}"
 
 
-CHECKS = (courses, lacks, wrong, private, hooks, wires, names, typed_acts, nsec3, deaf,
+def without_dnspython():
+    """Each word says that dnspython is missing, in whichever of its files that is seen."""
+    with folder():
+        Path("without").mkdir()
+        Path("without/dns.py").write_text('raise ImportError(name="dns")\n')
+        env = {**os.environ, "PYTHONPATH": f"without:{TOP / 'command'}", "VAQSIDER_NOW": "205"}
+        for words in (ACT, ["act", "start.script"], ["ceremony", "start.script"], TYPED[-1][1]):
+            made = [sys.executable, "-m", "vaqsider", *words]
+            done = subprocess.run(made, env=env, capture_output=True, text=True)
+            if done.returncode != 69 or "python3-dnspython is missing" not in done.stderr:
+                yield f"{words} without dnspython: {done.returncode}: {done.stderr}"
+
+
+CHECKS = (without_dnspython, courses, lacks, wrong, private, hooks, wires, names, typed_acts, nsec3, deaf,
           typed_wrongly)
 COUNT = sum(2 * len(it) - 2 for it in COURSES.values()) + len(LACKS) + len(WRONG) + len(HOOKS) \
     + len(WIRES) + len(TYPED)
