@@ -102,8 +102,8 @@ def _roll(words: str) -> list[str]:
 
 
 def windows(one: While, lifetime: int) -> Iterator[tuple[int, int]]:
-    """The validities of signatures that follow one another: two at any time. They go on for a
-    lifetime after the planned end, for a step may come later."""
+    """The validities of signatures that follow one another: the next begins at half of the time of
+    one. They go on for a lifetime after the planned end, for a step may come later."""
     half = lifetime // 2
     for begin in range(max(0, one.begin - BEFORE), one.end + half, half):
         yield begin, begin + lifetime
