@@ -108,8 +108,9 @@ wrong: python ## tries the wrong bodies that the gate leaves out: make wrong CRA
 mutants: modules build ## changes a line of the command at a time: a test has to see it
 	@$(PYTHON) tests/mutants.py
 
-signers: modules build ## signs by the real tools of BIND and ldns, and verifies each zone
+signers: modules build ## signs by real tools, of files and of PowerDNS, Knot and named
 	@$(PYTHON) tests/signers.py
+	@$(PYTHON) tests/running.py
 
 # It needs the packages that live/README.md names.
 live: ## rolls keys on real name servers, within an hour; LIVE=--short within ten minutes

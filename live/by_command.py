@@ -20,7 +20,7 @@ COMMAND, LOOKING_UP = HERE.parent / "command", HERE / "looking_up"
 TTL, DS_TTL = 3, 2
 # How the command ends: done, something is due, something can't be true, a resolver may find no
 # chain of trust, or another program writes the same script.
-OK, DUE, WARNING, BROKEN, LOCKED = 0, 1, 2, 3, 75
+OK, DUE, WARNING, BROKEN, UNAVAILABLE, LOCKED = 0, 1, 2, 3, 69, 75
 KSK, ZSK = ("-f", "KSK"), ()
 
 

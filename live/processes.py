@@ -20,7 +20,12 @@ PACKAGES = {
     "dnssec-keygen": "bind9-utils",
     "dnssec-signzone": "bind9-utils",
     "dnssec-verify": "bind9-utils",
+    "dnssec-settime": "bind9-utils",
+    "rndc": "bind9-utils",
+    "keymgr": "knot",
     "pdns_recursor": "pdns-recursor",
+    "pdns_server": "pdns-server",
+    "pdnsutil": "pdns-server",
     "setpriv": "util-linux",
 }
 PATHS = os.pathsep.join((os.environ.get("PATH", ""), "/usr/sbin", "/sbin"))

@@ -9,6 +9,7 @@ import emergencies
 import from_bind
 import lost
 import one_signer
+import running
 import two_emergencies
 import two_signers
 from lies import LYING, LYING_TWO
@@ -42,6 +43,7 @@ SCENES = [
     Scene("by-command", by_command.tour, "A", False),
     *(Scene(name, play, "A", False) for name, play in commanded.HONEST.items()),
     *(Scene(name, play, "A", False) for name, play in from_bind.HONEST.items()),
+    *(Scene(name, play, "A", False) for name, play in running.HONEST.items()),
     Scene("server-without-address", commanded.without_address, "AB", False),
     Scene("secondary-comes-back-old", commanded.comes_back_old, "A", True),
 ]
@@ -76,6 +78,7 @@ ONLY_WHOLE = {
     "from-bind-ksk-zsk",
     "from-bind-csk",
     "from-bind-serial-by-date",
+    *running.HONEST,
     "server-without-address",
     "secondary-comes-back-old",
 }
@@ -106,15 +109,20 @@ def is_short(name):
     return name not in ONLY_WHOLE and (not ALIKE.search(name) or name in OF_THEM)
 
 
+def is_played(name, short):
+    """Whether a run plays a scene that nobody has named."""
+    return name not in running.BY_NAME and (is_short(name) or not short)
+
+
 def chosen(names, short, rounds):
-    """The scenes with these names, or all, or those of the short form. A scene with a lie is played
-    once."""
+    """The scenes with these names, or all that are played unnamed, or those of the short form. A
+    scene with a lie is played once."""
     unknown = set(names) - {scene.name for scene in SCENES}
     if unknown:
         raise SystemExit(f"no scene: {' '.join(sorted(unknown))}")
     return [
         scene._replace(round=number)
         for number in range(1, rounds + 1) for scene in SCENES
-        if scene.name in names or not names and (is_short(scene.name) or not short)
+        if scene.name in names or not names and is_played(scene.name, short)
         if number == 1 or not scene.is_lie
     ]

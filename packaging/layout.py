@@ -96,8 +96,9 @@ class Layout:
     def _command(self, made):
         yield File(Path("bin/vaqsider"), made / "vaqsider", 0o755)
         for package in PACKAGES:
-            for source in filter(Path.is_file, sorted(package.iterdir())):
-                yield File(SHARE / package.name / source.name, source)
+            for source in filter(Path.is_file, sorted(package.rglob("*"))):
+                if "__pycache__" not in source.parts:
+                    yield File(SHARE / package.name / source.relative_to(package), source)
         yield from self._pages(made, "command")
 
     def _pages(self, made, part):

@@ -1,9 +1,9 @@
 #!/usr/bin/env python3
 """Runs the command of an operator on stored transcripts, without a server.
 
-    tests/command.py            compares what each line prints, asks facts.py, acts.py and liars.py,
-                                lets the command crash after each change of its files, and counts
-                                the lines of its code that ran
+    tests/command.py            compares what each line prints, asks facts.py, acts.py, adaptors.py,
+                                imports.py, ceremonies.py and liars.py, lets the command crash after
+                                each change of its files, and counts the lines of its code that ran
     tests/command.py --write    writes the transcripts again
     tests/command.py --left     shows which lines of its code did not run
     tests/command.py --only NAME..
@@ -33,9 +33,12 @@ TOP = Path(__file__).resolve().parent.parent
 sys.path.insert(0, str(TOP / "replay"))
 
 import acts  # noqa: E402
+import adaptors  # noqa: E402
 import answering  # noqa: E402
+import ceremonies  # noqa: E402
 import drawn  # noqa: E402, F401
 import facts  # noqa: E402
+import imports  # noqa: E402
 import liars  # noqa: E402
 import pieces  # noqa: E402, F401
 import printed  # noqa: E402, F401
@@ -46,7 +49,7 @@ PACKAGE = TOP / "command" / "vaqsider"
 # The files with the code that decides what is on disk, and when.
 WRITERS = (
     "file.py", "calling.py", "act.py", "place.py", "zonefile.py", "signing.py", "watching.py",
-    "notes.py", "looks.py", "parents.py",
+    "notes.py", "looks.py", "parents.py", "files.py", "bind.py",
 )
 
 LINE = re.compile(r"\$ (?:NOW=(?P<now>\S+) )?(?P<words>.*)")
@@ -299,7 +302,7 @@ def coverage(results):
     ran = {(name, line) for name, line in results.counts if name.startswith(str(PACKAGE))}
     lines = {
         (str(path), line)
-        for path in PACKAGE.glob("*.py")
+        for path in PACKAGE.rglob("*.py")
         for line in trace._find_executable_linenos(str(path))
     }
     return len(ran & lines), len(lines), sorted(lines - ran)
@@ -331,11 +334,15 @@ def main():
     with ProcessPoolExecutor() as pool:
         looked_up = pool.submit(traced, facts.faults)
         acted = pool.submit(traced, acts.faults)
+        adapted = pool.submit(traced, adaptors.faults)
+        imported = pool.submit(traced, imports.faults)
+        held = pool.submit(traced, ceremonies.faults)
         compared = pool.submit(traced, compare, write)
         lied_to = pool.submit(traced, liars.faults)
         crashed = [*pool.map(crash, range(len(CRASHES)))]
     (faults, lines), results = compared.result()
-    for more, others in (looked_up.result(), acted.result(), lied_to.result()):
+    for part in (looked_up, acted, adapted, imported, held, lied_to):
+        more, others = part.result()
         results.update(others)
         faults += more
     faults += [fault for found, _ in crashed for fault in found]
@@ -344,7 +351,9 @@ def main():
     print(*faults, sep="\n", end="\n" if faults else "")
     answers = len(liars.ROWS) + len(liars.FOUND)
     print(f"command: {lines} lines played, {crashes} crashes, {answers} answers of servers, "
-          f"{acts.COUNT} acts; {ran} of {total} lines of code ran, by std's trace")
+          f"{acts.COUNT} acts, {adaptors.COUNT} changes of signers, {imports.COUNT} imports, "
+          f"{ceremonies.COUNT} ceremonies; "
+          f"{ran} of {total} lines of code ran, by std's trace")
     if "--left" in sys.argv[1:]:
         print(*(f"{Path(name).name}:{line}" for name, line in unrun), sep="\n")
     return 1 if faults else 0

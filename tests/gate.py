@@ -4,8 +4,8 @@
 `tests/memory.py`, `tests/sets.py`, `tests/notes.py`, `tests/command.py` and `tests/library.py`,
 for which `tests/archive.py` builds the library. Then `tests/told.py` compares the numbers of
 docs/TESTS.md with what all of them have printed. Before the last line of `rt ci` it prints from
-which files each proof was made, as a release wants it, and when each step was done, in minutes and
-seconds since the start, so that a rise is seen."""
+which files each proof was made, as a release wants it, when each step was done, in minutes and
+seconds since the start, so that a rise is seen, and which tests it leaves out."""
 
 import contextlib
 import os
@@ -35,6 +35,9 @@ MEMORY = 3_500_000_000
 FREE = ("runbooks", "networks", "examples")
 # The priority of edits, as that of `nice`.
 LOW = 10
+# What it leaves out, for that needs servers, root or hours.
+LEFT_OUT = ("signers", "live", "mutants", "wrong", "fuzz", "asan", "valgrind", "types",
+            "try-dist", "test-arm", "test-go")
 
 
 def say(text):
@@ -229,6 +232,7 @@ def prove_and_test(free, folder):
     if status == 0:
         built.take(folder, before)
     print("Done after, in minutes and seconds:", *steps(), sep="\n")
+    print("Left out:", ", ".join(f"make {it}" for it in LEFT_OUT))
     print(last, end="", flush=True)
     return status
 

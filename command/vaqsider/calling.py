@@ -94,15 +94,15 @@ def reach(moment, clock):
     time.sleep(max(0, moment - clock()))
 
 
-def first_lines(zone, files, moment, is_csk):
-    """The first lines of a zone's script, with the keys of these files. If the zone is signed
-    already, the keys come in at this moment."""
-    for file in files:
+def first_lines(zone, added, moment):
+    """The first lines of a zone's script, with the keys of files, each with the line that adds it.
+    If the zone is signed already, the keys come in at this moment."""
+    for file, _ in added:
         if file.owner.lower() != zone.lower():
             raise Failure(f"{file.path}: a key of {file.owner}, not of {zone}")
-    lines = [f"zone {zone}", *(file.line(is_csk and file.is_sep) for file in files)]
+    lines = [f"zone {zone}", *(line for _, line in added)]
     if moment is not None:
-        keys = ",".join(file.path.name for file in files)
+        keys = ",".join(file.path.name for file, _ in added)
         lines += [line.format(keys=keys, moment=moment) for line in SIGNED_ALREADY]
     try:
         *replies, _, _ = keyset.run(lines)

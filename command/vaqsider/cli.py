@@ -37,7 +37,8 @@ def on_init(args):
     path = Path(args.script or f"{arguments.file_name(args.ZONE)}.script")
     Notes(path)
     moment = int(clock()) if args.signed else None
-    lines = calling.first_lines(zone, files, moment, args.csk)
+    added = [(file, file.line(args.csk and file.is_sep)) for file in files]
+    lines = calling.first_lines(zone, added, moment)
     seen = _agreed(path, lines, files, args) if args.signed else None
     calling.begin(path, lines, args.before)
     if seen:
@@ -63,6 +64,13 @@ def _agreed(path, lines, files, args):
             raise
         _said(failure)
         return None
+
+
+def on_import(args):
+    from . import importing
+
+    came = importing.come(args, clock)
+    return came.status, came.text(), came.as_json()
 
 
 def on_call(args):
@@ -100,11 +108,12 @@ def on_check(args):
 def on_plan(args):
     from keyset import Notes
 
-    from . import draw, plan, status, timeline
+    from . import draw, plan, signers, status, timeline
 
     lines, told = status.read(args.SCRIPT, clock())
     begin = int(clock() if args.start is None else args.start)
-    made = plan.Plan(lines, begin, *plan.assumed(args.SCRIPT, args.ttls, args.delays, begin))
+    assumed = plan.assumed(args.SCRIPT, args.ttls, args.delays, begin)
+    made = plan.Plan(lines, begin, *assumed, signers.planned(args, told["zone"]))
     for line in args.first or ():
         made.call(line)
     made.roll(args.ROLL, args.OLD, args.NEW)
@@ -140,6 +149,22 @@ def on_act(args):
     if args.dry_run:
         return OK, *acted.planned(args, *act.dry_run(args, clock()))
     return OK, *acted.done(args, *act.perform(args, clock))
+
+
+def on_ceremony(args):
+    from . import ceremony
+
+    if args.take:
+        new = ceremony.take(args, int(clock()))
+        text = [f"{ceremony.path_of(args.SCRIPT)}: {len(new)} new signatures"]
+        return OK, text, {"signatures": [row.data for row in new]}
+    made = ceremony.written(ceremony.asked(args, int(clock())))
+    text = _json(made)
+    if args.out:
+        arguments.expect_other(args.out, args.SCRIPT)
+        Path(args.out).write_text(f"{text}\n", encoding="utf-8")
+        return OK, [f"{args.out}: {len(made['signatures'])} signatures are asked for"], made
+    return OK, [text], made
 
 
 def on_watch(args):
@@ -201,15 +226,17 @@ READ_AS = {
     "--port": {"type": arguments.port},
     "SECONDS": {"type": arguments.span},
     "NUMBER": {"type": arguments.number},
+    "SYSTEM": {"choices": ("bind", "knot", "pdns", "pdns-api", "opendnssec", "dnst")},
     "2|4..": {"type": int, "choices": (2, 4)},
-    "bind|ldns": {"choices": ("bind", "ldns"), "default": "bind"},
     "DS DNSKEY ZONE": {
         "type": arguments.number, "nargs": 3, "metavar": ("DS", "DNSKEY", "ZONE"),
     },
     "[KEYFILE..]": {"nargs": "*"},
     "SCRIPT..": {"nargs": "+"},
 }
-DEFAULTS = {"port": 53, "every": 10, "lifetime": 30 * 86400, "reload_within": 60}
+DEFAULTS = {
+    "port": 53, "every": 10, "lifetime": 30 * 86400, "reload_within": 60, "span": 90 * 86400,
+}
 
 
 class Version(argparse.Action):

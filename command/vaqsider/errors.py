@@ -1,5 +1,7 @@
 """Exit statuses, and which errors end the command with them."""
 
+import sys
+
 OK, DUE, WARNING, BROKEN = 0, 1, 2, 3
 USAGE, UNAVAILABLE, FAULTY, UNPRINTED, LOCKED, INTERRUPTED = 64, 69, 70, 74, 75, 130
 
@@ -29,11 +31,19 @@ class Failure(Exception):
         self.status = status
 
 
+# Debian's packages of the modules that only some words need.
+MODULES = {"dns": "python3-dnspython", "cryptography": "python3-cryptography"}
+
+
 def failure_of(error):
     """The failure for an error. The nearest of its classes says which."""
     if isinstance(error, Failure):
         return error
     text = str(error)
+    module = (error.name or "").partition(".")[0] if isinstance(error, ImportError) else ""
+    if module in MODULES:
+        text = f"{MODULES[module]} is missing for {sys.executable}: install it"
+        return Failure(text, UNAVAILABLE)
     if isinstance(error, OSError) and error.filename is not None:
         text = f"{error.filename}: {error.strerror}"
     if isinstance(error, MemoryError):

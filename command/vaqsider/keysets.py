@@ -3,36 +3,50 @@ of the parent; and which keys sign which set."""
 
 from __future__ import annotations
 
+import contextlib
 from pathlib import Path
-from typing import Iterable
+from typing import Iterable, Iterator
 
 import dns.dnssec
 import dns.name
+import dns.rrset
 
 from . import keyfiles
 from .errors import UNAVAILABLE, Failure
+from .signers import DELETION, Key, Sets
 from .zonefile import By, Row, Zone, parsed
 
 # The types of a DS record's digest, by their numbers there.
 DIGESTS = {2: "SHA256", 4: "SHA384"}
 # CDS and CDNSKEY that ask the parent to remove the DS set (RFC 8078, section 4).
-DELETE = {"CDS": ["0 0 0 00"], "CDNSKEY": ["0 3 0 AA=="]}
+DELETE = {"CDS": ["0 0 0 00"], "CDNSKEY": [DELETION]}
 
 
 class KeySets:
     """The key files of all sets of a status."""
 
-    def __init__(self, told: dict, folders: list[str | Path]) -> None:
+    def __init__(self, told: dict, folders: list[str | Path], taken: Iterable[Row] = ()) -> None:
         self.published = told["published"]
         self.origin = told["zone"].rstrip(".") + "."
         names = {name for names in self.published.values() for name in names}
         keys = [key for key in told["keys"] if key["reference"] in names]
         self.files = {key["reference"]: keyfiles.find(key, folders) for key in keys}
         self.known = {By(key["algorithm"], key["tag"]) for key in told["keys"]}
+        self._told, self._folders = told["keys"], folders
+        # The signatures of the DNSKEY set that ceremonies have made.
+        self.taken = list(taken)
         self.has_ds = {key["reference"] for key in keys if key["ds_visible"] is not None}
 
     def of(self, kind: str) -> list[keyfiles.KeyFile]:
         return [self.files[name] for name in self.published[kind]]
+
+    def every(self) -> dict[str, keyfiles.KeyFile]:
+        """The files of all keys of the script, also of those that have left, if they are there."""
+        found = dict(self.files)
+        for key in (key for key in self._told if key["reference"] not in found):
+            with contextlib.suppress(Failure):
+                found[key["reference"]] = keyfiles.find(key, self._folders)
+        return found
 
     def by(self, names: Iterable[str]) -> frozenset[By]:
         """These keys as signatures name them."""
@@ -58,6 +72,14 @@ class KeySets:
         data = {"CDS": self.ds(digests), "CDNSKEY": [file.data for file in self.of("ds")]}
         of = data if self.published["ds"] else DELETE
         return {kind: self._rows(kind, ttl, texts) for kind, texts in of.items()}
+
+    def sets(self, has_cds: bool) -> Sets:
+        """What is due, for a signer."""
+        keys = {name: Key.of(file.data, name, file) for name, file in self.files.items()}
+        of = {kind: frozenset(keys[name] for name in names)
+              for kind, names in self.published.items()}
+        cds = (of["ds"] or frozenset([Key(DELETION)])) if has_cds else frozenset()
+        return Sets(of["dnskey"], of["signers"], of["zone"], cds)
 
     def _rows(self, kind: str, ttl: int, data: list[str]) -> list[Row]:
         return [Row(self.origin, ttl, kind, text) for text in data]
@@ -96,13 +118,31 @@ class KeySets:
         return {name: self._last_by(name, last, now) for name in away}
 
     def _last_by(self, name: str, last: Zone | None, now: float) -> Row:
+        """The signature that is valid for the longest, of those of ceremonies too."""
         reason = f"{self.files[name].private} isn't here"
+        valid = list(self._of_ceremonies(name, now))
         due = {parsed("DNSKEY", file.data) for file in self.of("dnskey")}
-        if last is None or last.data("DNSKEY") != due:
+        has_signed = last is not None and last.data("DNSKEY") == due
+        if not valid and not has_signed:
             raise Failure(f"{reason}, and {name} has not signed this DNSKEY set", UNAVAILABLE)
         by = self.by([name])
-        for row in last.signatures("DNSKEY"):
+        for row in last.signatures("DNSKEY") if last is not None and has_signed else ():
             data = parsed("RRSIG", row.data)
             if By(data.algorithm, data.key_tag) in by and now < data.expiration:
-                return row
-        raise Failure(f"{reason}, and no signature of {name} is valid any more", UNAVAILABLE)
+                valid.append(row)
+        if not valid:
+            raise Failure(f"{reason}, and no signature of {name} is valid any more", UNAVAILABLE)
+        return max(valid, key=lambda row: parsed("RRSIG", row.data).expiration)
+
+    def _of_ceremonies(self, name: str, now: float) -> Iterator[Row]:
+        """The signatures of the DNSKEY set that is due, by a key that is away, which are valid."""
+        if not self.taken:
+            return
+        from . import ceremony
+
+        for row in self.taken:
+            due = dns.rrset.from_rdata_list(
+                dns.name.from_text(self.origin), row.ttl,
+                [parsed("DNSKEY", file.data) for file in self.of("dnskey")])
+            if ceremony.fits(row, due, self.files[name], now):
+                yield row

@@ -2,12 +2,16 @@
 
 The key set answers the calls. How long servers and the parent take is assumed here."""
 
-from keyset import KeySet, Malformed, Notes, Published, Refused, RollType
+import base64
+
+from keyset import Action, KeySet, Malformed, Notes, Published, Refused, RollType
 from keyset.lines import Line
 from keyset.notes import KINDS, Seen, lasts, to_report
 
-from . import calling, words
+from . import calling, keyfiles, words
 from .errors import DUE, USAGE, Failure
+from .keyfiles import SEP, ZONE_KEY
+from .signers import DELETION, Key, Sets
 
 # Seconds, of DS sets, DNSKEY sets and the rest of the zone, if neither notes nor options say them.
 TTLS, DELAYS = (86400, 3600, 3600), (86400, 600, 600)
@@ -17,29 +21,54 @@ class Plan:
     """The calls of a roll on a copy of a script, each at the moment that the plan has reached, with
     its answer. TTLs, and delays until all servers have a version, are by kind of set."""
 
-    def __init__(self, lines, moment, ttls, delays):
+    def __init__(self, lines, moment, ttls, delays, signer=None):
         # (A line that was refused has no part in what comes.)
         script = "".join(f"{line}\n" for line in lines)
         self.keys = KeySet.resume(script, allow_refused=True)
         self.moment, self.ttls, self.delays, self.steps = moment, ttls, delays, []
+        self.signer = signer
 
     def call(self, text):
         """Makes a call, and gives the kinds of sets that it asks to watch."""
         line = calling.completed(text, lambda: self.moment)
         try:
-            actions = [action.value for action in self.keys.call(line)]
+            accepted = self.keys.call(line)
+            actions = [action.value for action in accepted]
         except Refused as error:
             reason = f"refused: {error}; {words.refusal(str(error))}"
             raise Failure(f"{line}: {reason}", DUE) from None
         except Malformed as error:
             raise Failure(f"{line}: {error.reason}", USAGE) from None
         published = vars(self.keys.published)
+        if self.signer is not None:
+            self._expect(line, accepted, published)
         asks, verdict = list(words.asks(actions, published)), f"chain {self.keys.chain}"
         self.steps.append({
             "moment": self.moment, "line": line, "actions": actions, "asks": asks,
             "published": published, "verdict": verdict,
         })
         return words.kinds_of(actions)
+
+    def _expect(self, line, actions, published):
+        """The signer can do what a call asks for."""
+        keys = {told.reference: self._key(told) for told in self.keys.keys().values()}
+        of = {kind: frozenset(keys[name] for name in names) for kind, names in published.items()}
+        cds = of["ds"] or frozenset([Key(DELETION)])
+        cds = cds if Action.CREATE_CDS_RRSET in actions else frozenset()
+        lacks = list(self.signer.lacks(Sets(of["dnskey"], of["signers"], of["zone"], cds)))
+        if lacks:
+            raise Failure(f"{line}: {'; '.join(lacks)}", DUE)
+
+    def _key(self, told):
+        """A key for a signer: by its file, or else by what the script says of it."""
+        try:
+            named = {"reference": told.reference, "tag": told.tag, "algorithm": told.algorithm}
+            file = keyfiles.find(named, self.signer.folders)
+            return Key.of(file.data, told.reference, file)
+        except Failure:
+            flags = ZONE_KEY | (SEP if told.kind in ("ksk", "csk") else 0)
+            key = base64.b64encode(told.reference.encode()).decode()
+            return Key(f"{flags} 3 {told.algorithm} {key}", told.reference)
 
     def spread(self, kinds):
         """Goes on until all servers have what was asked, and CDS is out after a DS set."""

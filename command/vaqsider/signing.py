@@ -1,6 +1,4 @@
-"""The tools of a signer, each as a list of arguments. No text goes through a shell.
-
-A signer makes more signatures than are due: with every key, of every set."""
+"""What a signer of files is asked to do, and how its tools run. No text goes through a shell."""
 
 from __future__ import annotations
 
@@ -16,8 +14,6 @@ from .errors import UNAVAILABLE, Failure
 
 # Signatures begin an hour before, for servers whose clocks are slow.
 BEFORE = 3600
-# How a zone file begins that isn't text: BIND keeps the zones so that it signs itself.
-RAW = b"\0\0\0\2"
 
 
 @dataclass(frozen=True)
@@ -57,51 +53,15 @@ class Task:
         return replace(self, keys=tuple(key.resolve() for key in self.keys))
 
 
-def _by_bind(task: Task) -> list[str]:
-    how = ["-e", f"now+{task.lifetime}"]
-    how += [] if task.jitter is None else ["-j", str(task.jitter)]
-    if task.nsec3:
-        how += ["-3", task.nsec3.salt, "-H", str(task.nsec3.iterations)]
-        how += ["-A"] if task.nsec3.flags & 1 else []
-    keys = map(str, task.keys)
-    return ["dnssec-signzone", "-q", "-z", "-P", "-O", "full", "-o", task.origin, *how,
-            "-f", "draft", "whole", *keys]
-
-
-def _by_ldns(task: Task) -> list[str]:
-    if task.jitter is not None:
-        raise Failure("ldns-signzone has no jitter: use --signer bind")
-    how = ["-i", str(max(0, task.now - BEFORE)), "-e", str(task.now + task.lifetime)]
-    if task.nsec3:
-        salt = [] if task.nsec3.salt == "-" else ["-s", task.nsec3.salt]
-        how += ["-n", "-a", str(task.nsec3.algorithm), "-t", str(task.nsec3.iterations), *salt]
-        how += ["-p"] if task.nsec3.flags & 1 else []
-    keys = (str(key.with_suffix("")) for key in task.keys)
-    return ["ldns-signzone", "-A", "-o", task.origin, *how, "-f", "draft", "whole", *keys]
-
-
 @dataclass(frozen=True)
-class Signer:
-    """A signer: what prints a zone file with each record in full, and what signs `whole`, which is
-    such a file, as `draft`. Some readers know the origin only from the file."""
+class Tools:
+    """A signer's tools: what prints a zone file with each record in full, and what signs `whole`,
+    which is such a file, as `draft`. It makes more signatures than are due: with every key, of
+    every set. Some readers know the origin only from the file."""
 
     reads: Callable[[str, Path], list[str]]
     signs: Callable[[Task], list[str]]
     knows_origin: bool
-
-
-def _full_by_bind(origin: str, file: Path) -> list[str]:
-    with open(file, "rb") as begin:
-        form = ["-f", "raw"] if begin.read(len(RAW)) == RAW else []
-    return ["named-compilezone", "-i", "none", *LAX, *form, "-s", "full", "-o", "-", origin,
-            str(file)]
-
-
-LAX = [word for check in "kmnrMST" for word in (f"-{check}", "ignore")]
-SIGNERS = {
-    "bind": Signer(_full_by_bind, _by_bind, True),
-    "ldns": Signer(lambda origin, file: ["ldns-read-zone", str(file)], _by_ldns, False),
-}
 
 
 def verifying(origin: str, has_opt_out: bool) -> list[str]:

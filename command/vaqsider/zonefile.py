@@ -13,7 +13,7 @@ from pathlib import Path
 from typing import Iterable, Iterator, NamedTuple
 
 from .errors import BROKEN, UNAVAILABLE, Failure
-from .signing import Nsec3, Signer, run
+from .signing import Nsec3, Tools, run
 
 try:
     import dns.exception
@@ -67,15 +67,15 @@ def rows(path: Path) -> Iterator[Row]:
                 raise NotFull(f"{path}: {line.strip()[:60]}")
 
 
-def in_full(path: Path, origin: str, signer: Signer, folder: Path) -> Path:
+def in_full(path: Path, origin: str, tools: Tools, folder: Path) -> Path:
     """A copy of a zone file in which each record is in full, written by the signer's tool."""
     given, made = path, folder / f"{path.name[:200]}.full"
     text = path.read_bytes()
-    if not signer.knows_origin:
+    if not tools.knows_origin:
         given = folder / f"{path.name[:200]}.given"
         given.write_bytes(b"$ORIGIN %s\n%s\n" % (origin.encode(), text))
     with open(made, "xb") as file:
-        run(signer.reads(origin, given), stdout=file)
+        run(tools.reads(origin, given), stdout=file)
     return made
 
 

@@ -1,0 +1,171 @@
+"""`import`: the keys of a zone that another system has signed come in. It asks that system, then
+the servers; and it wants that all was the same for longer than every TTL. So it looks twice, unless
+the operator says that it was. Only then it makes the script, by the lines for a zone that is signed
+already."""
+
+from __future__ import annotations
+
+import hashlib
+import json
+import math
+import os
+from argparse import Namespace
+from dataclasses import dataclass
+from pathlib import Path
+from typing import Callable
+
+from keyset import Notes
+from keyset.notes import lasts
+
+from . import asking, calling, keyfiles, looking, place, state, words
+from .arguments import file_name
+from .errors import DUE, USAGE, WARNING, Failure
+from .looking import Look
+from .signers import Key
+from .sources import Asked, Found, Told, bind, dnst, knot, opendnssec, pdns
+
+SOURCES = {"bind": bind.tell, "knot": knot.tell, "pdns": pdns.tell, "pdns-api": pdns.tell_by_api,
+           "opendnssec": opendnssec.tell, "dnst": dnst.tell}
+SUFFIX = ".import"
+
+
+@dataclass(frozen=True)
+class Came:
+    """What an import has done: the script with its lines, or from when on to look again."""
+
+    script: Path
+    lines: list[str]
+    told: Told
+    again: int | None = None
+
+    @property
+    def status(self) -> int:
+        return DUE if self.again else 0
+
+    def text(self):
+        if self.again:
+            yield "all servers agree with these keys. Nothing older may be in a cache: look again"
+            yield f"next: the same import, from {words.moment(self.again)} on"
+            return
+        yield f"{self.script}: {len(self.lines)} lines"
+        yield "what the other system has to do now, in this order:"
+        yield from (f"{number}. {text}" for number, text in enumerate(self.told.stops, start=1))
+
+    def as_json(self) -> dict:
+        return {"script": str(self.script), "lines": self.lines, "again": self.again,
+                "stops": self.told.stops}
+
+
+def come(args: Namespace, clock: Callable[[], float]) -> Came:
+    """Brings the keys of a zone in."""
+    zone = args.ZONE.rstrip(".") or "."
+    script = Path(args.script or f"{file_name(zone)}.script")
+    Notes(script)
+    if script.exists():
+        raise Failure(f"{script}: File exists", USAGE)
+    if args.before is None:
+        raise Failure("--before: say the highest TTLs that servers gave", USAGE)
+    asked = Asked(args.source, args.store, lambda: _records(zone, args))
+    told = SOURCES[args.SYSTEM](zone, asked)
+    if told.moving:
+        text = "it is rolling keys, so they don't come in yet"
+        raise Failure("\n".join([*told.moving, text]), WARNING)
+    if not (any(it.signs_keys for it in told.keys) and any(it.signs_zone for it in told.keys)):
+        raise Failure(f"{args.SYSTEM} has no keys that sign {zone}", WARNING)
+    folder = Path((args.keys or [script.parent])[0])
+    files = [(_file(it, zone, folder), it.is_csk) for it in told.keys]
+    return _looked(args, script, zone, files, told, clock)
+
+
+def _looked(args, script, zone, files, told, clock) -> Came:
+    """The script, if all has been the same for long enough; else the look is kept."""
+    moment = int(clock())
+    lines = _lines(zone, files, moment)
+    seen = state.agreed(lines, {file.path.parent for file, _ in files}, args, clock())
+    look, kept = _digest(seen.look, lines), script.with_suffix(SUFFIX)
+    before = _read(kept)
+    since = before["since"] if before and before["look"] == look else moment
+    again = since + lasts(max(args.before)) + 1
+    if not args.unchanged and moment < again:
+        _write(kept, {"look": look, "since": since})
+        return Came(script, [], told, again)
+    calling.begin(script, lines, args.before)
+    seen.keep(script, lines, Notes(script))
+    kept.unlink(missing_ok=True)
+    return Came(script, lines, told)
+
+
+def _lines(zone: str, files, moment: int) -> list[str]:
+    """The first lines of a script, by which these keys come in at a moment."""
+    added = [(file, file.line(is_csk)) for file, is_csk in files]
+    return calling.first_lines(zone, added, moment)
+
+
+def _digest(look: Look, lines: list[str]) -> str:
+    """What was seen, and of which keys: the sets and who signed them, not when. Signatures are
+    renewed, and serials rise."""
+    seen = sorted(
+        (kind, type_, str(server), sorted(map(str, answer.records)) if type_ != "SOA" else [],
+         sorted({(it.key_tag, it.algorithm) for it in answer.signatures}))
+        for (kind, type_, server), answer in look.answers.items()
+    )
+    keys = sorted(line for line in lines if line.startswith("add-"))
+    return hashlib.sha256(json.dumps([seen, keys]).encode()).hexdigest()
+
+
+def _read(path: Path) -> dict | None:
+    """The look that was kept. A file that isn't one counts as none."""
+    try:
+        told = json.loads(path.read_text(encoding="utf-8"))
+        return told if type(told["since"]) is int and isinstance(told["look"], str) else None
+    except (FileNotFoundError, ValueError, TypeError, KeyError):
+        return None
+
+
+def _write(path: Path, told: dict) -> None:
+    draft = path.with_name(f".{path.name}.{os.getpid()}.draft")
+    with open(draft, "x", encoding="ascii") as file:
+        file.write(json.dumps(told) + "\n")
+        file.flush()
+        os.fsync(file.fileno())
+    place.put(draft, path)
+
+
+def _file(found: Found, zone: str, folder: Path) -> keyfiles.KeyFile:
+    """The key file of a key. If its system has none, it is written, with its private half if that
+    can come out."""
+    if found.path is not None:
+        return keyfiles.read(found.path)
+    key = found.key
+    path = folder / f"K{file_name(zone)}.+{key.algorithm:03}+{key.tag:05}.key"
+    if path.exists():
+        file = keyfiles.read(path)
+        if Key.of(file.data) != key:
+            raise Failure(f"{path} is another key: move it away", USAGE)
+    if found.private is not None and not path.with_suffix(".private").exists():
+        _new(path.with_suffix(".private"), found.private(), 0o600)
+    if not path.exists():
+        owner = "." if zone == "." else f"{zone}."
+        _new(path, f"{owner} IN DNSKEY {key.data}\n", 0o644)
+    return keyfiles.read(path)
+
+
+def _new(path: Path, text: str, mode: int) -> None:
+    """A new file, whole or not at all."""
+    draft = path.with_name(f".{path.name}.{os.getpid()}.draft")
+    with open(os.open(draft, os.O_WRONLY | os.O_CREAT | os.O_EXCL | os.O_NOFOLLOW, mode), "w",
+              encoding="ascii") as file:
+        file.write(text)
+        file.flush()
+        os.fsync(file.fileno())
+    place.put(draft, path)
+
+
+def _records(zone: str, args: Namespace) -> list[Key]:
+    """The DNSKEY records that the zone's servers give."""
+    places = looking.Places.of(zone, args)
+    servers = places.of_kind("dnskey", zone)
+    answers = asking.side_by_side(
+        lambda server: asking.ask(server, places.port, zone, "DNSKEY"), servers)
+    return sorted({Key.of(it.to_text()) for answer in answers for it in answer.records},
+                  key=lambda it: it.data)

@@ -1,0 +1,272 @@
+"""PowerDNS signs while it answers, by keys in its database. Each is published or not, and active or
+not: `pdnsutil` says so, and so does its API (pdns_api.py). A key of an algorithm with the SEP flag
+signs the DNSKEY set, and another the zone; if active keys of an algorithm are of one kind only,
+each signs all.
+
+CDS and CDNSKEY are records of the database, which PowerDNS gives if it has `direct-dnskey=yes`. It
+has no other way to give them for just the keys that are due."""
+
+from __future__ import annotations
+
+import re
+from dataclasses import dataclass
+from pathlib import Path
+from typing import Iterator
+
+import dns.dnssec
+import dns.name
+
+from ..errors import UNAVAILABLE, Failure
+from ..signing import Nsec3
+from ..zonefile import parsed
+from . import DELETION, Key, Sets, by_flags, lacks_by_flags
+from .daemon import Step, is_here, said
+
+# A key as `pdnsutil show-zone` has it, and the record of the line after it.
+ID = re.compile(r"ID = (?P<id>\d+) \((KSK|ZSK|CSK)\), flags = (?P<flags>\d+), tag = \d+, "
+                r"algo = (?P<algorithm>\d+), bits = \d+\s+(?P<active>Active|Inactive)\s+"
+                r"(?P<published>Published|Unpublished)\s+\(.*\)\s*")
+RECORD = re.compile(r"(?:KSK|ZSK|CSK) DNSKEY = \S+ IN DNSKEY (?P<data>\d+ 3 \d+ [^;]+?)\s*;.*")
+# A record as `pdnsutil list-zone` has it.
+LISTED = re.compile(r"(?P<owner>\S+)\t(?P<ttl>\d+)\tIN\t(?P<kind>\S+)\t(?P<data>.*)")
+PRESIGNED = "Zone is presigned"
+
+
+@dataclass(frozen=True)
+class Held:
+    """A key that PowerDNS has."""
+
+    id: str
+    key: Key
+    is_active: bool
+    is_published: bool
+
+
+@dataclass(frozen=True)
+class Record:
+    """A record of its database."""
+
+    owner: str
+    ttl: int
+    kind: str
+    data: str
+
+
+class PowerDns:
+    """PowerDNS, however it is asked: by its flags the same keys sign."""
+
+    name, options = "pdns", ("nsec3",)
+
+    def __init__(self, origin: str, nsec3: str | None = None) -> None:
+        self.zone, self.nsec3 = origin.rstrip(".") or ".", nsec3
+
+    # What is there
+
+    def held(self) -> list[Held]:
+        """The keys of the database."""
+        raise NotImplementedError
+
+    def records(self) -> list[Record]:
+        """The records of the zone."""
+        raise NotImplementedError
+
+    def private(self, held: Held) -> str:
+        """The private half of a key, as BIND has it."""
+        raise NotImplementedError
+
+    def top(self, kind: str) -> list[Record]:
+        name = self.zone.lower()
+        return [it for it in self.records()
+                if it.kind == kind and (it.owner.lower().rstrip(".") or ".") == name]
+
+    def soa(self) -> Record:
+        found = self.top("SOA")
+        if len(found) != 1:
+            raise Failure(f"PowerDNS has no SOA record of {self.zone}", UNAVAILABLE)
+        return found[0]
+
+    def now(self, known: list[Key]) -> Sets:
+        held = self.held()
+        names = {key: key for key in known}
+        of = [(it, names.get(it.key, it.key)) for it in held]
+        signers, zone = by_flags(key for it, key in of if it.is_active)
+        dnskey = frozenset(key for it, key in of if it.is_published)
+        return Sets(dnskey, signers, zone, self._cds([*known, *(key for _, key in of)]))
+
+    def _cds(self, keys: list[Key]) -> frozenset[Key]:
+        """For which keys CDS and CDNSKEY are in. What is of no key stays what it is."""
+        of = {it.data: it for it in reversed(keys)}
+        found = set()
+        for row in self.top("CDNSKEY"):
+            key = Key.of(row.data)
+            found.add(of.get(key.data, key))
+        for row in self.top("CDS"):
+            found.add(self._of_cds(row.data, keys))
+        return frozenset(found)
+
+    def _of_cds(self, data: str, keys: list[Key]) -> Key:
+        record = parsed("CDS", data)
+        if record.algorithm == 0:
+            return Key(DELETION)
+        name = dns.name.from_text(self.zone)
+        for key in (it for it in keys if it.tag == record.key_tag):
+            made = dns.dnssec.make_ds(name, parsed("DNSKEY", key.data), record.digest_type)
+            if made.digest == record.digest:
+                return key
+        return Key(f"0 3 {record.algorithm} AA==", f"CDS {data}")
+
+    def fits(self, key: Key) -> bool:
+        return is_here(key.file) or any(it.key == key for it in self.held())
+
+    def lacks(self, wanted: Sets) -> Iterator[str]:
+        yield from lacks_by_flags("PowerDNS", wanted)
+
+    def ttls(self) -> dict[str, int]:
+        """PowerDNS gives the DNSKEY set, and answers that there is none, with the SOA record's
+        minimum."""
+        minimum = int(self.soa().data.split()[-1])
+        highest = max(it.ttl for it in self.records())
+        return {"dnskey": minimum, "zone": max(minimum, highest)}
+
+    # What has to be done
+
+    def publish(self, now: Sets, wanted: Sets, _: Path) -> Iterator[Step]:
+        ids = {it.key: it for it in self.held()}
+        active = now.signers | now.zone
+        due = wanted.signers | wanted.zone
+        yield from map(self.imported, _sorted(wanted.keys - ids.keys()))
+        yield from (self._changed("publish", it) for it in _sorted(wanted.dnskey - now.dnskey))
+        yield from (self._changed("activate", it) for it in _sorted(due - active))
+        yield from (self._changed("deactivate", it) for it in _sorted(active - due))
+        yield from (self._changed("unpublish", it) for it in _sorted(now.dnskey - wanted.dnskey))
+        if now.cds != wanted.cds:
+            yield from self._cds_steps(wanted.cds)
+
+    def imported(self, key: Key) -> Step:
+        """A key comes in, neither published nor active."""
+        raise NotImplementedError
+
+    def flagged(self, verb: str, held: Held) -> Step:
+        """A key of the database is activated, deactivated, published or unpublished."""
+        raise NotImplementedError
+
+    def _changed(self, verb: str, key: Key) -> Step:
+        def late() -> Step:
+            found = next((it for it in self.held() if it.key == key), None)
+            if found is None:
+                raise Failure(f"PowerDNS has lost {key}", UNAVAILABLE)
+            return self.flagged(verb, found)
+
+        return Step(self.flagged(verb, Held(f"ID of {key}", key, False, False)).words, late)
+
+    def _cds_steps(self, keys: frozenset[Key]) -> Iterator[Step]:
+        """CDNSKEY and CDS for these keys, with the digest that CDS has to have (RFC 8624)."""
+        if not keys:
+            yield from self.placed({"CDS": [], "CDNSKEY": []}, 0)
+            return
+        if not self.has_direct():
+            raise Failure("PowerDNS gives CDS to secondaries only with direct-dnskey=yes in "
+                          "pdns.conf: add it, and restart PowerDNS", UNAVAILABLE)
+        name = dns.name.from_text(self.zone)
+        data = {"CDNSKEY": [it.data for it in _sorted(keys)], "CDS": [
+            "0 0 0 00" if it.data == DELETION else
+            dns.dnssec.make_ds(name, parsed("DNSKEY", it.data), "SHA256").to_text()
+            for it in _sorted(keys)
+        ]}
+        yield from self.placed(data, int(self.soa().data.split()[-1]))
+
+    def placed(self, data: dict[str, list[str]], ttl: int) -> Iterator[Step]:
+        """The sets of the zone's name have these records, or go."""
+        raise NotImplementedError
+
+    def has_direct(self) -> bool:
+        """Whether PowerDNS gives CDS of its database."""
+        raise NotImplementedError
+
+    def params(self) -> str | None:
+        """The parameters of NSEC3 that an act is to give, if it is to give any; '' for NSEC."""
+        if self.nsec3 in (None, "no"):
+            return None if self.nsec3 is None else ""
+        how = Nsec3.of(self.nsec3)
+        return f"{how.algorithm} {how.flags} {how.iterations} {how.salt}"
+
+    def renew(self) -> Iterator[Step]:
+        """A higher serial, for PowerDNS signs anew each week under the same; and the server learns
+        that its caches are old, and tells secondaries."""
+        raise NotImplementedError
+
+
+class Pdnsutil(PowerDns):
+    """PowerDNS by `pdnsutil`, with the settings in a folder."""
+
+    def __init__(self, origin: str, config: str | None, nsec3: str | None = None) -> None:
+        super().__init__(origin, nsec3)
+        if self.zone.startswith("-"):
+            raise Failure(f"pdnsutil takes {self.zone} for an option")
+        self.config = [f"--config-dir={config}"] if config else []
+
+    def words(self, *words: str) -> tuple[str, ...]:
+        return ("pdnsutil", *self.config, *words)
+
+    def step(self, *words: str) -> Step:
+        return Step(self.words(*words))
+
+    def held(self) -> list[Held]:
+        text = said(self.words("show-zone", self.zone))
+        if PRESIGNED in text:
+            raise presigned(self.zone)
+        lines, held = iter(text.splitlines()), []
+        for line in lines:
+            if not line.startswith("ID = "):
+                continue
+            record = RECORD.fullmatch(next(lines, ""))
+            found = ID.fullmatch(line)
+            if not (found and record):
+                raise Failure(f"pdnsutil show-zone: a line that isn't known: {line}", UNAVAILABLE)
+            held.append(Held(found["id"], Key.of(record["data"]), found["active"] == "Active",
+                             found["published"] == "Published"))
+        if "keys:" not in text and "Zone is not actively secured" not in text:
+            raise Failure("pdnsutil show-zone: it says nothing of keys", UNAVAILABLE)
+        return held
+
+    def records(self) -> list[Record]:
+        found = map(LISTED.fullmatch, said(self.words("list-zone", self.zone)).splitlines())
+        return [Record(it["owner"], int(it["ttl"]), it["kind"], it["data"]) for it in found if it]
+
+    def private(self, held: Held) -> str:
+        return said(self.words("export-zone-key", self.zone, held.id))
+
+    def imported(self, key: Key) -> Step:
+        kind, private = "ksk" if key.is_sep else "zsk", str(key.at_hand().private.resolve())
+        return self.step("import-zone-key", self.zone, private, "inactive", kind, "unpublished")
+
+    def flagged(self, verb: str, held: Held) -> Step:
+        return self.step(f"{verb}-zone-key", self.zone, held.id)
+
+    def placed(self, data: dict[str, list[str]], ttl: int) -> Iterator[Step]:
+        for kind, rows in data.items():
+            yield self.step("replace-rrset", self.zone, "@", kind, str(ttl), *rows) if rows else \
+                self.step("delete-rrset", self.zone, "@", kind)
+
+    def has_direct(self) -> bool:
+        text = said(("pdns_control", *self.config, "current-config"))
+        return re.search(r"^direct-dnskey=yes$", text, re.MULTILINE) is not None
+
+    def renew(self) -> Iterator[Step]:
+        params = self.params()
+        if params is not None:
+            yield self.step("set-nsec3", self.zone, params) if params else \
+                self.step("unset-nsec3", self.zone)
+        yield self.step("increase-serial", self.zone)
+        yield self.step("rectify-zone", self.zone)
+        yield Step(("pdns_control", *self.config, "purge", f"{self.zone}$"))
+        yield Step(("pdns_control", *self.config, "notify", self.zone))
+
+
+def presigned(zone: str) -> Failure:
+    return Failure(f"PowerDNS has {zone} with signatures of another signer (presigned): 'pdnsutil "
+                   "unset-presigned' first", UNAVAILABLE)
+
+
+def _sorted(keys) -> list[Key]:
+    return sorted(keys, key=str)

@@ -1,0 +1,205 @@
+"""PowerDNS by its HTTP API, from any host that reaches it: `webserver=yes`, `api=yes` and `api-key`
+in `pdns.conf`. The key of the API is in a file of its own, so that no list of processes has it."""
+
+from __future__ import annotations
+
+import http.client
+import json
+import urllib.error
+import urllib.parse
+import urllib.request
+from pathlib import Path
+from typing import Any, Iterator
+
+from ..errors import UNAVAILABLE, USAGE, Failure
+from . import Key
+from .daemon import SECONDS, Step
+from .pdns import Held, PowerDns, Record, presigned
+
+FLAGS = {"activate": {"active": True}, "deactivate": {"active": False},
+         "publish": {"published": True}, "unpublish": {"published": False}}
+PATHS = "/api/v1/servers/localhost"
+
+
+class Stays(urllib.request.HTTPRedirectHandler):
+    """The key of the API goes to no other place."""
+
+    def redirect_request(self, *_) -> None:
+        return None
+
+
+OPENER = urllib.request.build_opener(Stays, urllib.request.ProxyHandler({}))
+
+
+def exchange(method: str, url: str, secret: str, body: bytes | None) -> tuple[int, bytes]:
+    """What the API answers: its status, and a text."""
+    asked = urllib.request.Request(url, body, method=method, headers={
+        "X-API-Key": secret, "Content-Type": "application/json"})
+    try:
+        try:
+            answer = OPENER.open(asked, timeout=SECONDS)
+        except urllib.error.HTTPError as error:
+            answer = error
+        with answer:
+            return answer.status, answer.read()
+    except (OSError, http.client.HTTPException, ValueError) as error:
+        why = getattr(error, "reason", "") or error
+        raise Failure(f"{method} {url}: {why}", UNAVAILABLE) from None
+
+
+class Api(PowerDns):
+    """PowerDNS at a URL, as http://127.0.0.1:8081, with a file that has the key of its API."""
+
+    name = "pdns-api"
+
+    def __init__(self, origin: str, url: str, secret: str | None, nsec3: str | None = None) -> None:
+        super().__init__(origin, nsec3)
+        if not url.startswith(("http://", "https://")):
+            raise Failure(f"{url}: the URL of an API begins with http:// or https://", USAGE)
+        if secret is None:
+            raise Failure("name the file with the key of PowerDNS's API: --signer-config of an act "
+                          "or a plan, --store of an import", USAGE)
+        self.url = url.rstrip("/")
+        self.secret = Path(secret).read_text(encoding="ascii").strip()
+        self._id: str | None = None
+
+    # How it is asked
+
+    def ask(self, method: str, path: str, body: Any = None) -> Any:
+        """The value that the API answers."""
+        made = None if body is None else json.dumps(body).encode()
+        status, text = exchange(method, f"{self.url}{PATHS}{path}", self.secret, made)
+        where = f"{method} {self.url}{PATHS}{path}: {status}"
+        try:
+            told = json.loads(text) if text.strip() else None
+        except ValueError:
+            raise Failure(f"{where}: what it says is no JSON", UNAVAILABLE) from None
+        if not 200 <= status < 300:
+            why = told.get("error") if isinstance(told, dict) else None
+            raise Failure(f"{where}: {why or 'refused'}", UNAVAILABLE)
+        return told
+
+    def step(self, method: str, path: str, body: Any = None, shown: Any = None) -> Step:
+        """A request. What is secret of it is shown otherwise."""
+        text = "" if body is None else json.dumps(shown or body)
+
+        def late() -> tuple[str, ...]:
+            self.ask(method, self.at(path), body)
+            return ()
+
+        return Step(tuple(filter(None, (method, f"{self.url}{PATHS}{path}", text))), late)
+
+    def at(self, path: str) -> str:
+        """A path, with what the API calls the zone."""
+        return path.replace("ZONE", self.id())
+
+    def id(self) -> str:
+        if self._id is None:
+            origin = "." if self.zone == "." else f"{self.zone}."
+            found = self.ask("GET", f"/zones?zone={urllib.parse.quote(origin)}")
+            try:
+                self._id = next((str(it["id"]) for it in found), None)
+            except (TypeError, KeyError):
+                raise self._odd("zones") from None
+            if self._id is None:
+                raise Failure(f"PowerDNS has no zone {self.zone}", UNAVAILABLE)
+        return self._id
+
+    def _odd(self, what: str) -> Failure:
+        return Failure(f"{self.url}: what it says of {what} isn't known", UNAVAILABLE)
+
+    # What is there
+
+    def zone_told(self) -> dict:
+        told = self.ask("GET", self.at("/zones/ZONE"))
+        if not isinstance(told, dict) or not isinstance(told.get("rrsets"), list):
+            raise self._odd("the zone")
+        if told.get("presigned"):
+            raise presigned(self.zone)
+        return told
+
+    def held(self) -> list[Held]:
+        self.zone_told()
+        try:
+            return [self._held(it) for it in self.ask("GET", self.at("/zones/ZONE/cryptokeys"))]
+        except (KeyError, TypeError, ValueError):
+            raise self._odd("keys") from None
+
+    @staticmethod
+    def _held(told: dict) -> Held:
+        if not isinstance(told["active"], bool) or not isinstance(told["published"], bool):
+            raise ValueError("flags")
+        return Held(str(told["id"]), Key.of(told["dnskey"]), told["active"], told["published"])
+
+    def records(self) -> list[Record]:
+        try:
+            return [Record(of["name"], int(of["ttl"]), of["type"], it["content"])
+                    for of in self.zone_told()["rrsets"] for it in of["records"]
+                    if not it["disabled"]]
+        except (KeyError, TypeError, ValueError):
+            raise self._odd("records") from None
+
+    def private(self, held: Held) -> str:
+        told = self.ask("GET", self.at(f"/zones/ZONE/cryptokeys/{held.id}"))
+        if not isinstance(told, dict) or not isinstance(told.get("privatekey"), str):
+            raise self._odd(f"the private half of {held.key}")
+        return told["privatekey"]
+
+    def has_direct(self) -> bool:
+        try:
+            told = {it["name"]: it["value"] for it in self.ask("GET", "/config")}
+        except (KeyError, TypeError):
+            raise self._odd("its settings") from None
+        return told.get("direct-dnskey") == "yes"
+
+    # What has to be done
+
+    def imported(self, key: Key) -> Step:
+        kind = "ksk" if key.is_sep else "zsk"
+        body = {"keytype": kind, "active": False, "published": False}
+        private = key.at_hand().private.read_text(encoding="ascii")
+        return self.step("POST", "/zones/ZONE/cryptokeys", {**body, "privatekey": private},
+                         {**body, "privatekey": f"that of {key}"})
+
+    def flagged(self, verb: str, held: Held) -> Step:
+        """The API wants both flags: what isn't said of `published` is true."""
+        body = {"active": held.is_active, "published": held.is_published, **FLAGS[verb]}
+        path = f"/zones/ZONE/cryptokeys/{held.id}"
+        return self.step("PUT", path, body, FLAGS[verb])
+
+    def placed(self, data: dict[str, list[str]], ttl: int) -> Iterator[Step]:
+        """All sets by one request."""
+        yield self.step("PATCH", "/zones/ZONE", {"rrsets": [
+            self._set(kind, ttl, rows) for kind, rows in data.items()]})
+
+    def _set(self, kind: str, ttl: int, rows: list[str]) -> dict:
+        name = "." if self.zone == "." else f"{self.zone}."
+        if not rows:
+            return {"name": name, "type": kind, "changetype": "DELETE"}
+        records = [{"content": it, "disabled": False} for it in rows]
+        return {"name": name, "type": kind, "ttl": ttl, "changetype": "REPLACE",
+                "records": records}
+
+    def renew(self) -> Iterator[Step]:
+        """A changed SOA record has PowerDNS forget what it has in its caches."""
+        params = self.params()
+        if params is not None:
+            yield self.step("PUT", "/zones/ZONE", {"nsec3param": params})
+        path = "/zones/ZONE"
+        yield Step(("PATCH", f"{self.url}{PATHS}{path}", "the SOA record with a higher serial"),
+                   self._raised)
+        yield Step(("PUT", f"{self.url}{PATHS}{path}/rectify"), self._rectified)
+        yield self.step("PUT", "/zones/ZONE/notify")
+
+    def _raised(self) -> Step:
+        soa = self.soa()
+        mname, rname, serial, *rest = soa.data.split()
+        higher = str((int(serial) + 1) % 2**32 or 1)
+        made = self._set("SOA", soa.ttl, [" ".join([mname, rname, higher, *rest])])
+        return self.step("PATCH", "/zones/ZONE", {"rrsets": [made]})
+
+    def _rectified(self) -> Step | tuple[str, ...]:
+        """The API rectifies only what is signed."""
+        if not any(it.is_active for it in self.held()):
+            return ()
+        return self.step("PUT", "/zones/ZONE/rectify")

@@ -1,0 +1,78 @@
+"""Where the keys of a zone come from that another system has signed: each source says which keys it
+has, what each is for, and whether a roll of its own is in progress."""
+
+from __future__ import annotations
+
+import re
+from dataclasses import dataclass
+from pathlib import Path
+from typing import Callable, Protocol
+
+from ..errors import UNAVAILABLE, Failure
+from ..signers import Key
+
+
+@dataclass(frozen=True)
+class Found:
+    """A key that a system uses for a zone: what it signs; what gives its private half, if that may
+    come out; and its file, if it has one."""
+
+    key: Key
+    signs_keys: bool
+    signs_zone: bool
+    private: Callable[[], str] | None = None
+    path: Path | None = None
+
+    @property
+    def is_csk(self) -> bool:
+        return self.signs_keys and self.signs_zone
+
+
+@dataclass(frozen=True)
+class Told:
+    """What a source says of a zone: its keys that are in use; what is in progress, each in words
+    with what to wait for; and what its system has to stop doing, in order."""
+
+    keys: list[Found]
+    moving: list[str]
+    stops: list[str]
+
+
+@dataclass(frozen=True)
+class Asked:
+    """What a source may need: where its settings are, where its private halves, and the DNSKEY
+    records that the zone's servers give."""
+
+    source: str | None
+    store: str | None
+    records: Callable[[], list[Key]]
+
+
+class Source(Protocol):
+    def __call__(self, zone: str, asked: Asked) -> Told:
+        """What the system says now."""
+
+
+def in_private(algorithm: int, fields: dict[str, str]) -> str:
+    """A private half as BIND's file has it."""
+    rows = "".join(f"{name}: {value}\n" for name, value in fields.items())
+    return f"Private-key-format: v1.3\nAlgorithm: {algorithm}\n{rows}"
+
+
+def expect(is_so: bool, text: str) -> None:
+    if not is_so:
+        raise Failure(text, UNAVAILABLE)
+
+
+def read_text(path: Path) -> str:
+    """A text file of another system."""
+    return path.read_text(encoding="utf-8", errors="replace")
+
+
+NAMED = re.compile(r"(?P<name>\w+): ?(?P<value>.*)")
+
+
+def fields_of(text: str) -> dict[str, str]:
+    """The lines `Name: value` of a file."""
+    found = filter(None, (NAMED.fullmatch(it) for it in text.splitlines()))
+    return {it["name"]: it["value"].strip() for it in found}

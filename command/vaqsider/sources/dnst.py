@@ -1,0 +1,78 @@
+"""The keys of `dnst keyset`: the JSON of its state, which has the key set of the crate `domain`."""
+
+from __future__ import annotations
+
+import json
+from pathlib import Path
+from urllib.parse import unquote, urlparse
+
+from ..errors import UNAVAILABLE, Failure
+from ..keyfiles import read
+from ..signers import Key
+from . import Asked, Found, Told, expect, read_text
+
+FLAGS = ("old", "signer", "present", "at_parent")
+STOPS = (
+    "take 'dnst keyset .. cron' out of the crontab first: it starts and ends rolls by itself",
+    "'vaqsider act' signs by the same key files; keep the state file, and change nothing by dnst",
+    "what has loaded the signed zone of dnst loads that of 'vaqsider act' from then on",
+)
+
+
+def tell(zone: str, asked: Asked) -> Told:
+    """What a state file says."""
+    path = Path(asked.source or f"{zone.rstrip('.')}-keyset.json")
+    try:
+        state = json.loads(read_text(path))
+        told = state.get("keyset", state)
+        name, keys, rolls = told["name"], told["keys"], told["rollstates"]
+        found = [_found(ref, key, path.parent) for ref, key in sorted(keys.items())]
+    except (ValueError, KeyError, TypeError, AttributeError) as error:
+        raise Failure(f"{path}: no state of dnst keyset: {error!r}", UNAVAILABLE) from None
+    expect(str(name).rstrip(".").lower() == zone.rstrip(".").lower(),
+           f"{path}: the keys of {name}, not of {zone}")
+    moving = [f"{roll} is in progress ({_phase(phase)}): let it end by 'dnst keyset', or end it "
+              "there" for roll, phase in sorted(rolls.items())]
+    moving += [text for _, text in found if text]
+    return Told([it for it, _ in found if it], moving, list(STOPS))
+
+
+def _phase(phase) -> str:
+    return next(iter(phase)) if isinstance(phase, dict) else str(phase)
+
+
+def _found(reference: str, told: dict, folder: Path) -> tuple[Found | None, str]:
+    """A key, or None if it is not in use; and what is in progress with it."""
+    (kind, roles), = told["keytype"].items()
+    roles = roles if kind == "Csk" else [roles]
+    flags = [{name: bool(role[name]) for name in FLAGS} for role in roles]
+    used = [it["signer"] or it["present"] or it["at_parent"] for it in flags]
+    if kind == "Include":
+        text = f"{reference} is of another signer: bring it in by 'add-public', by hand"
+        return None, text if any(used) else ""
+    if not any(used):
+        return None, ""
+    whole = all(it["signer"] and it["present"] and not it["old"] for it in flags)
+    at_parent = kind == "Zsk" or flags[0]["at_parent"]
+    text = "" if whole and at_parent else f"{reference} is neither in use wholly nor out"
+    file = read(_path(reference, folder))
+    if (file.tag, file.algorithm) != (told["key_tag"], _algorithm(told["algorithm"])):
+        raise Failure(f"{file.path}: its tag or algorithm isn't that of the state", UNAVAILABLE)
+    key = Key.of(file.data, file.path.name, file)
+    return Found(key, kind != "Zsk", kind != "Ksk", None, file.path), text
+
+
+NUMBERS = {"RSASHA256": 8, "RSASHA512": 10, "ECDSAP256SHA256": 13, "ECDSAP384SHA384": 14,
+           "ED25519": 15, "ED448": 16}
+
+
+def _algorithm(told) -> int:
+    return NUMBERS.get(str(told).upper()) or int(told)
+
+
+def _path(reference: str, folder: Path) -> Path:
+    """The file that a reference names, which may be a URL."""
+    parts = urlparse(reference)
+    if parts.scheme not in ("", "file"):
+        raise Failure(f"{reference}: its public half isn't in a file", UNAVAILABLE)
+    return folder / (unquote(parts.path) if parts.scheme else reference)

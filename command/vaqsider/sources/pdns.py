@@ -1,0 +1,51 @@
+"""PowerDNS's keys, by `pdnsutil show-zone` or its API. Their private halves come out there too."""
+
+from __future__ import annotations
+
+from functools import partial
+
+from ..errors import USAGE, Failure
+from ..signers import by_flags
+from ..signers.pdns import Pdnsutil, PowerDns
+from ..signers.pdns_api import Api
+from . import Asked, Found, Told, expect
+
+STOPS = (
+    "nobody may roll by pdnsutil any more: the script says which keys are published and active",
+    "CDS: 'pdnsutil unset-publish-cds {zone}' and 'pdnsutil unset-publish-cdnskey {zone}'; from"
+    " then on 'vaqsider act --signer pdns' gives them, with direct-dnskey=yes",
+    "if PowerDNS is to sign no more: let it have the signed file of 'vaqsider act' ('pdnsutil"
+    " load-zone', then 'pdnsutil set-presigned {zone}'), under a higher serial, before any key"
+    " goes",
+)
+
+
+def tell(zone: str, asked: Asked) -> Told:
+    """What PowerDNS has, by its tool."""
+    return _told(zone, Pdnsutil(zone.rstrip(".") + ".", asked.source))
+
+
+def tell_by_api(zone: str, asked: Asked) -> Told:
+    """What PowerDNS has, by its API."""
+    if asked.source is None:
+        raise Failure("--source: say the URL of PowerDNS's API", USAGE)
+    return _told(zone, Api(zone.rstrip(".") + ".", asked.source, asked.store))
+
+
+def _told(zone: str, store: PowerDns) -> Told:
+    """Its users roll by hand: a key of which only one of both flags is set is in mid-roll."""
+    held = store.held()
+    expect(bool(held), f"PowerDNS has no keys for {zone}")
+    signers, signs = by_flags(it.key for it in held if it.is_active)
+    keys, moving = [], []
+    for it in held:
+        tag = it.key.tag
+        if it.is_published and not it.is_active:
+            moving.append(f"key {tag} is published and not active: finish or take back that roll, "
+                          "by activate-zone-key or unpublish-zone-key")
+        if it.is_active and not it.is_published:
+            moving.append(f"key {tag} is active and not published: deactivate-zone-key first")
+        if it.is_active or it.is_published:
+            private = partial(store.private, it)
+            keys.append(Found(it.key, it.key in signers, it.key in signs, private))
+    return Told(keys, moving, [it.format(zone=zone) for it in STOPS])
