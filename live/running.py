@@ -228,7 +228,7 @@ class Running(Operator):
         await self.broken_off(*how)
         done = json.loads(await self.type(*self.words_of_act(), *how))
         self.signer.serves = True
-        await self.compare()
+        await self.compare(done["cds"])
         return [record.partition(" DS ")[2].lower() for record in done["ds"]]
 
     async def typed(self, *words):
@@ -268,8 +268,9 @@ class Running(Operator):
         self.publish(made.to_text(relativize=False))
         return made
 
-    async def compare(self):
-        """Compares what the signer has in its database, and what it gives, with the status."""
+    async def compare(self, has_cds):
+        """Compares what the signer has in its database, and what it gives, with the status, and CDS
+        with what the act said of it. (named takes CDS out a moment after it has signed.)"""
         said = await self.type(*self.words_of_act()[:-1], "--dry-run")
         told = {word: [line.partition(": ")[2] for line in said.splitlines()
                        if line.startswith(f"{word}: ")] for word in ("now", "then")}
@@ -278,6 +279,7 @@ class Running(Operator):
         (status,) = json.loads(await self.type("status", self.script, "--json"))
         wanted = {kind: {tag_of(it) for it in names}
                   for kind, names in status["published"].items() if kind != "ds"}
+        wanted["cds"] = has_cds
         until = time.monotonic() + PATIENCE
         while (given := tags_given(await self.give())) != wanted:
             if time.monotonic() > until:
@@ -290,14 +292,15 @@ def tag_of(name):
 
 
 def tags_given(made):
-    """The keys of the DNSKEY set, those that sign it, and those that sign the SOA record."""
+    """The keys of the DNSKEY set, those that sign it, and those that sign the SOA record; whether
+    there is CDS."""
     def by(kind):
         found = made.get_rdataset(made.origin, "RRSIG", kind)
         return {it.key_tag for it in found or ()}
 
     keys = made.get_rdataset(made.origin, "DNSKEY") or ()
     return {"dnskey": {dns.dnssec.key_id(it) for it in keys}, "signers": by("DNSKEY"),
-            "zone": by("SOA")}
+            "zone": by("SOA"), "cds": made.get_rdataset(made.origin, "CDS") is not None}
 
 
 def rolls(maker):
