@@ -49,9 +49,22 @@ extern "C" {
 }
 
 const EIO: c_int = 5;
-const SYNC_DATA: c_long = 75;
-const SYNC: c_long = 74;
-const SET_LENGTH: c_long = 77;
+
+/// The numbers of the system's calls.
+#[cfg(target_arch = "x86_64")]
+mod number {
+    use super::c_long;
+    pub const SYNC: c_long = 74;
+    pub const SYNC_DATA: c_long = 75;
+    pub const SET_LENGTH: c_long = 77;
+}
+#[cfg(target_arch = "aarch64")]
+mod number {
+    use super::c_long;
+    pub const SYNC: c_long = 82;
+    pub const SYNC_DATA: c_long = 83;
+    pub const SET_LENGTH: c_long = 46;
+}
 
 fn fault() -> c_int {
     // SAFETY: the C library gives the place of this thread's error.
@@ -59,7 +72,7 @@ fn fault() -> c_int {
     -1
 }
 
-fn synced(number: c_long, file: c_int) -> c_int {
+fn synced(call: c_long, file: c_int) -> c_int {
     let fails = disk(|disk| {
         disk.syncs += 1;
         left(&mut disk.failing)
@@ -67,18 +80,18 @@ fn synced(number: c_long, file: c_int) -> c_int {
     match fails {
         true => fault(),
         // SAFETY: it takes a file, and reads no memory.
-        false => unsafe { syscall(number, file) as c_int },
+        false => unsafe { syscall(call, file) as c_int },
     }
 }
 
 #[no_mangle]
 extern "C" fn fdatasync(file: c_int) -> c_int {
-    synced(SYNC_DATA, file)
+    synced(number::SYNC_DATA, file)
 }
 
 #[no_mangle]
 extern "C" fn fsync(file: c_int) -> c_int {
-    synced(SYNC, file)
+    synced(number::SYNC, file)
 }
 
 #[no_mangle]
@@ -87,7 +100,7 @@ extern "C" fn ftruncate64(file: c_int, length: i64) -> c_int {
     match fails {
         true => fault(),
         // SAFETY: as above.
-        false => unsafe { syscall(SET_LENGTH, file, length) as c_int },
+        false => unsafe { syscall(number::SET_LENGTH, file, length) as c_int },
     }
 }
 
