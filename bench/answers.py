@@ -223,7 +223,7 @@ def accepted(bench, text):
     script = text.partition("\n\n")[0].rstrip("\n")
     given = bench.script("script", f"{script}\n")
     bench.run(str(PROGRAM), given)
-    return sum(line.startswith("ok") for line in Path(bench.answers).read_text().splitlines())
+    return bench.outcome()[0]
 
 
 def linked(bench, word):

@@ -91,6 +91,13 @@ class Bench:
             return None
         return min(one[0] for one in taken), max(one[1] for one in taken)
 
+    def outcome(self):
+        """How many calls the last run accepted, and what it says of the chain."""
+        with open(self.answers) as file:
+            told = file.read().splitlines()
+        accepted = sum(line == "ok" or line.startswith("ok ") for line in told)
+        return accepted, told[-1].split()[1] if told else ""
+
     @staticmethod
     def instructions(program, given):
         """The instructions that the program runs, as valgrind counts them."""

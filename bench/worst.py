@@ -3,11 +3,12 @@
     python3 bench/worst.py crates/keyset/out/keyset [--original FOLDER] [--only WORD] [--long]
 
 Each row has a script in which one length that a user controls is long. A row prints the script's
-lines, the least processor seconds of some runs, their growth from half the lines (1 if twice the
-lines take twice as long; only if there is enough to measure), the greatest memory in MB, and the
-memory's growth. It prints the same of the original, which keeps no record and judges none; then the
-row's bound, as README says it. The original has no cells for a script with `abort`, which it lacks.
-`--long` adds the rows that take a minute or more. `FOLDER` is that of `bench/scripts.py`.
+lines, how many of them are accepted, the verdict, the least processor seconds of some runs, their
+growth from half the lines (1 if twice the lines take twice as long; only if there is enough to
+measure), the greatest memory in MB, and the memory's growth. It prints the same of the original,
+which keeps no record and judges none; then the row's bound, as README says it. The original has no
+cells for a script with `abort`, which it lacks. `--long` adds the rows that take a minute or more.
+`FOLDER` is that of `bench/scripts.py`.
 """
 
 import argparse
@@ -15,7 +16,7 @@ import math
 
 from programs import Bench
 from scripts import crowded_rolls, put_in_use, rolled_in
-from successive_rolls import FIRST
+from successive_rolls import FIRST, script
 
 RUNS = 3
 # Less than this is mostly the program's start, and shows no growth.
@@ -120,28 +121,119 @@ def long_reference_beside(count, size=1_000_000):
     return lines(keys, (f"set-present P {'no' if i % 2 else 'yes'} 160" for i in range(count)))
 
 
-def never_due(count):
-    """Reports with the greatest TTL, each in a roll that is then ended early."""
-    keys = ["add-zsk Z1 - 13 2 150 yes"]
-    turns = [
-        line for i in range(count // 3)
-        for line in (f"start zsk-roll Z0 Z1 {200 + i}", f"report1 zsk-roll {TTL} {200 + i}",
-                     "abort zsk-roll")
-    ]
-    return lines(keys, turns)
+def never_over(count):
+    """Reports that are never over, each with a later end and a higher base. The stamps are set by
+    hand, so that no wait is refused."""
+    turns, now = [], 2 * TTL
+    for i in range(count // 10):
+        old, new, now = f"Z{i}", f"Z{i + 1}", now + 1
+        turns += [
+            f"add-zsk {new} - 13 {i % 60000 + 2} 150 yes", f"start zsk-roll {old} {new} {now}",
+            f"report1 zsk-roll {TTL} {now}", f"set-visible {new} 0", f"wait1 zsk-roll {now}",
+            f"report2 zsk-roll {TTL} {now}", f"set-rrsig-visible {new} 0",
+            f"wait2 zsk-roll {now}", "done zsk-roll", f"delete {old}",
+        ]
+    return lines(turns)
 
 
-def due_one_by_one(count):
-    """Reports whose TTLs all run at first; then one is over with each call."""
-    keys = ["add-zsk Z1 - 13 2 150 yes", "add-ksk K1 - 13 3 150 yes"]
-    half = count // 4
+def anchors(count):
+    """Each DS set holds by one of two keys in turn, which come last in the order of the keys. Then
+    come new DNSKEY sets."""
+    third = count // 7
+    names = [f"a{i:05}" for i in range(third)]
+    keys = [f"add-ksk {name} - 13 {i + 2} 150 yes" for i, name in enumerate([*names, "zA", "zB"])]
+    use = [line for name in ("zA", "zB") for line in (
+        f"set-present {name} yes 160", f"set-signer {name} yes", f"set-at-parent {name} yes",
+    )]
+    parent = [line for i, name in enumerate(names) for line in (
+        f"set-at-parent {name} yes", f"set-at-parent {'zA' if i % 2 else 'zB'} no",
+        f"set-at-parent {'zA' if i % 2 else 'zB'} yes",
+    )]
+    public = [line for i in range(third) for line in (
+        f"add-public p{i} 13 {i + 10000} 150 yes", f"set-present p{i} yes 160",
+    )]
+    return lines(keys, use, parent, public)
+
+
+def equal_sums(count, shared=None, size=0):
+    """DNSKEY sets of shared keys and of two more, whose positions add up to one number. One key may
+    have a reference of this size."""
+    half = count // 8
+    common = [f"a{i:05}" for i in range(half if shared is None else shared)]
+    common += ["L" * size] if size else []
+    one, other = ([f"{letter}{i:05}" for i in range(half)] for letter in "pq")
+    names = [*common, *one, *other]
+    keys = [f"add-public {name} 13 {i + 10} 150 yes" for i, name in enumerate(names)]
     turns = [
-        line for i in range(half)
-        for line in (f"start zsk-roll Z0 Z1 {200 + i}", f"report1 zsk-roll {count} {200 + i}",
-                     "abort zsk-roll")
+        f"set-present {name} {value} 160" for pair in zip(one, reversed(other))
+        for value in ("yes", "no") for name in pair
     ]
-    refused = [f"start ksk-roll - - {200 + count + i}" for i in range(half)]
-    return lines(keys, turns, refused)
+    return lines(keys, (f"set-present {name} yes 160" for name in common), turns)
+
+
+def two_sets(count):
+    """Two sets of each kind in turn, and the chain is broken by the last calls."""
+    keys = ["add-ksk K1 - 13 2 150 yes", "add-zsk Z1 - 13 3 150 yes", "add-public P 13 4 150 yes"]
+    turn = [
+        f"{line} {value}{moment}" for value in ("yes", "no") for line, moment in (
+            ("set-present P", " 160"), ("set-signer Z1", ""), ("set-at-parent K1", ""),
+        )
+    ]
+    end = ["set-at-parent K0 no", "set-at-parent K1 yes"]
+    return lines(keys, turn * (count // 6), end)
+
+
+def gray(names, line):
+    """Lines that show the sets of these names in turn, no two of them the same."""
+    on = set()
+    for number in range(1, 1 << len(names)):
+        i = (number & -number).bit_length() - 1
+        on ^= {i}
+        yield line.format(names[i], "yes" if i in on else "no")
+
+
+def retired(count):
+    """DNSKEY sets, no two the same, which a report retires; then rolls."""
+    names = [f"P{i}" for i in range((count // 2).bit_length() - 1)]
+    keys = [f"add-public {name} 13 {i + 2} 150 yes" for i, name in enumerate(names)]
+    return lines(keys, gray(names, "set-present {} {} 160")) + script(count // 2)[len(FIRST):]
+
+
+def first_ds_last(count):
+    """Before the first DS of a zone, DNSKEY sets and zone signers, no two the same, all of which
+    hold."""
+    names = [(f"P{i}", f"Z{i}") for i in range((count // 2).bit_length() - 1)]
+    keys = ["add-ksk K0 - 13 2 150 yes", "add-zsk A - 13 3 150 yes"]
+    keys += [line for i, (public, zsk) in enumerate(names) for line in (
+        f"add-public {public} 13 {2 * i + 10} 150 yes", f"add-zsk {zsk} - 13 {2 * i + 11} 150 yes",
+    )]
+    begun = ["start algorithm-roll - K0,A 160", "report1 algorithm-roll 60 160",
+             f"set-present {names[0][0]} no 300"]
+    public = gray([one for one, _ in names], "set-present {} {} 300")
+    zsks = gray([other for _, other in names], "set-signer {} {}")
+    turns = (line for pair in zip(public, zsks) for line in pair)
+    first = "zone example.com\n"
+    return first + lines(keys, begun, turns, ["wait1 algorithm-roll 300"])[len(FIRST):]
+
+
+def two_rolls_waits(count):
+    """A KSK and a ZSK roll at once on many keys, and their waits, made too early, in turn."""
+    zsks = [f"A{i}" for i in range(count // 6)]
+    keys = [f"add-zsk {name} - 13 {i + 10} 150 yes" for i, name in enumerate(zsks)]
+    begun = ["add-ksk K1 - 13 2 150 yes", f"start zsk-roll Z0 {','.join(zsks)} 200",
+             "start ksk-roll K0 K1 200", "report1 zsk-roll 3600 210", "report1 ksk-roll 3600 210"]
+    waits = (f"wait1 {'ksk' if i % 2 else 'zsk'}-roll 300" for i in range(5 * count // 6))
+    return lines(keys, begun, waits)
+
+
+def waits_after_stamps(count):
+    """A wait of many keys, made too early, after each a stamp that is set by hand."""
+    zsks = [f"A{i}" for i in range(count // 6)]
+    keys = [f"add-zsk {name} - 13 {i + 10} 150 yes" for i, name in enumerate(zsks)]
+    begun = [f"start zsk-roll Z0 {','.join(zsks)} 200", "report1 zsk-roll 3600 210"]
+    turns = (line for i in range(5 * count // 12)
+             for line in (f"set-visible A0 {210 + i % 2}", "wait1 zsk-roll 300"))
+    return lines(keys, begun, turns)
 
 
 def broken_first(count):
@@ -224,13 +316,22 @@ ROWS = [
     Row("three setters toggled", 8192, toggles, "lines"),
     Row("a key more in each set a round", 1024, growing_sets, "lines²; lines · keys"),
     Row("no two sets the same", 8192, subsets, "lines²; lines · keys in use"),
-    Row("2,000 keys in use, one toggled", 2048, in_use, "lines², by the first 4,000; lines · keys"),
+    Row("2,000 keys in use, one toggled", 2048, in_use,
+        "lines², by the first 4,000; lines · keys"),
     Row("public keys published one by one", 4096, published, "lines²; lines · keys"),
-    Row("the same beside a reference of 1 MB", 512, long_reference, "lines², and the reference"),
+    Row("a reference of 1 MB, others published", 512, long_reference, "lines², and the reference"),
     Row("a reference of 1 MB, another toggled", 1024, long_reference_beside,
         "lines, and the reference"),
-    Row("reports that never come due", 8192, never_due, "lines²; lines"),
-    Row("reports that come due one by one", 8192, due_one_by_one, "lines²; lines"),
+    Row("reports that are never over", 8192, never_over, "lines · reports; lines"),
+    Row("DS sets that hold by two keys in turn", 3500, anchors, "lines² · keys"),
+    Row("equal sums of positions", 8000, equal_sums, "lines² · keys"),
+    Row("the same beside a reference of 1 MB", 1500,
+        lambda count: equal_sums(count, 0, 1_000_000), "lines² · bytes of the reference"),
+    Row("two sets of each kind in turn, then broken", 16384, two_sets, "lines²"),
+    Row("sets that were retired, then rolls", 32768, retired, "lines · sets retired"),
+    Row("sets before the first DS", 8192, first_ds_last, "lines³"),
+    Row("waits of two rolls in turn", 24000, two_rolls_waits, "lines · keys"),
+    Row("a stamp by hand, then a refused wait", 24000, waits_after_stamps, "lines · keys"),
     Row("broken at once, then keys published", 4096, broken_first, "lines²; lines"),
     Row("no two sets the same, broken at last", 8192, broken_last, "lines²"),
     Row("65,536 keys", 65534, adds, "lines"),
@@ -258,7 +359,7 @@ def main():
     parser.add_argument("--only")
     parser.add_argument("--long", action="store_true")
     given = parser.parse_args()
-    heads = ["Script", "Lines", "Seconds", "Growth", "MB", "Growth"]
+    heads = ["Script", "Lines", "Accepted", "Chain", "Seconds", "Growth", "MB", "Growth"]
     heads += ["Original: seconds", "MB"] if given.original else []
     heads += ["Bound: time; memory"]
     print(f"| {' | '.join(heads)} |\n|{'---|' * len(heads)}", flush=True)
@@ -271,10 +372,11 @@ def main():
             whole = bench.script("whole", text)
             half = bench.script("half", row.make(row.count // 2))
             seconds, memory = bench.least(ours, whole, RUNS, row.status)
+            accepted, chain = bench.outcome()
             before = bench.least(ours, half, RUNS, row.status)
             count = text.count(b"\n" if isinstance(text, bytes) else "\n")
             cells = [
-                row.name, f"{count:,}", f"{seconds:.3f}",
+                row.name, f"{count:,}", f"{accepted:,}", chain, f"{seconds:.3f}",
                 growth(seconds, before[0], LEAST_SECONDS), f"{memory:.1f}",
                 growth(memory, before[1], LEAST_MEMORY),
             ]
