@@ -2,7 +2,7 @@
 
    There are two ways to use it. `keyset_answer` takes a script and writes its answers; it keeps
    nothing, and the script is the whole state. A session keeps a zone between two calls: a line goes
-   in, and its answer comes out. docs/CALLERS.md is the page for callers, and docs/SCRIPTS.md has
+   in, and its answer comes out. docs/CALLERS.md is the page for callers, and docs/REFERENCE.md has
    the form of scripts and of answers.
 
    Who owns what: all buffers are the caller's. The library reads and writes them while it is
@@ -156,7 +156,7 @@ size_t keyset_calls(const struct keyset_session *session);
                    of memory
    keyset_closing  the last two lines of the answers to all lines so far: the published sets, and
                    the verdict on the record
-   keyset_status   the status of the zone: one line of JSON, in the form that docs/STATUS.md has */
+   keyset_status   the status of the zone: one line of JSON, by docs/status.schema.json */
 struct keyset_answered keyset_told(const struct keyset_session *session, uint8_t *out,
                                    size_t out_length);
 struct keyset_answered keyset_closing(const struct keyset_session *session, uint8_t *out,
@@ -165,7 +165,7 @@ struct keyset_answered keyset_status(const struct keyset_session *session, uint8
                                      size_t out_length);
 
 /* Takes the next line of the zone's notes, after the calls that the session has made so far: what
-   is published, with which TTL, and when all servers gave it. docs/NOTES.md has the form of the
+   is published, with which TTL, and when all servers gave it. docs/REFERENCE.md has the form of the
    lines. Notes stay when the session makes more calls (notes_outlast_calls).
 
    answered       the line is taken (noted)
@@ -180,7 +180,7 @@ struct keyset_answered keyset_status(const struct keyset_session *session, uint8
 uint32_t keyset_note(struct keyset_session *session, const uint8_t *line, size_t line_length);
 
 /* Writes the reports that the rolls wait for, as they would be made at this second since 1970: a
-   line for each, in the form that docs/NOTES.md has. They are those that `keyset notes` answers
+   line for each, in the form that docs/REFERENCE.md has. They are those that `keyset notes` answers
    for the lines of the session and of its notes (told). It is malformed if and only if the
    session has no notes (no_notes). Else it is as the three functions above. */
 struct keyset_answered keyset_due(const struct keyset_session *session, uint64_t seconds,

@@ -20,22 +20,23 @@ from pathlib import Path
 sys.dont_write_bytecode = True
 TOP = Path(__file__).resolve().parent.parent
 
-# Each page: what the program does, how it is called, and the documents of the page.
+# Each page: what the program does, how it is called, and the documents of the page. Of a document
+# with sections after `#` it has only these.
 PAGES = {
     "keyset": (
         "answer a script of a DNSSEC key set",
         "keyset [WORD] < SCRIPT",
-        ["crates/keyset/README.md", "docs/SCRIPTS.md"],
+        ["crates/keyset/README.md", "docs/REFERENCE.md#Scripts#Lines#Answers#Keys"],
     ),
     "keyset_status": (
         "show where the keys and rolls of a DNSSEC zone are, as JSON",
         "keyset status < SCRIPT",
-        ["docs/STATUS.md"],
+        ["docs/REFERENCE.md#The status"],
     ),
     "keyset_notes": (
         "work out the reports that are due, by a script and notes",
         '{ cat SCRIPT; echo; cat NOTES; echo "due $(date +%s)"; } | keyset notes',
-        ["docs/NOTES.md"],
+        ["docs/REFERENCE.md#Notes"],
     ),
     "vaqsider": (
         "steer the keys and rolls of DNSSEC zones",
@@ -165,15 +166,20 @@ def blocks(text):
         yield block
 
 
-def body(path, is_first):
-    """A document. The title of the first one is that of the page."""
-    is_left_out = False
+def body(document, is_first):
+    """A document, or sections of it. The title of the first one is that of the page."""
+    path, *sections = document.split("#")
+    is_left_out = bool(sections)
     for block in blocks((TOP / path).read_text(encoding="utf-8")):
         first = block[0]
         if first.startswith("#"):
             marks, _, title = first.partition(" ")
-            is_left_out = title in LEFT_OUT
-            if not is_left_out and (marks != "#" or not is_first):
+            if sections and len(marks) < 3:
+                is_left_out = title not in sections
+            elif not sections:
+                is_left_out = title in LEFT_OUT
+            is_title = is_first and (marks == "#" or sections[:1] == [title])
+            if not is_left_out and not is_title:
                 big = len(marks) < 3
                 yield f".{'SH' if big else 'SS'} {inline(title.upper() if big else title)}"
         elif is_left_out:

@@ -10,16 +10,21 @@ A fenced block that shows a script, answers or a source names its file after the
 
 This block has the lines from 10 on, each call with its answer after it, and at the end the lines of
 the published sets and of the chain. Without `answered` a block has only the lines, and without a
-range all of them. A block of `json` has the value of its file, on other lines.
+range all of them. A block of `json` has the value of its file, on other lines. A block of
+docs/courses.json has the commands of the roll whose name follows, and one of a transcript of
+tests/command the lines of some ranges, without the moment of a command.
+
+A line `<!--course:NAME-->` has the table of that course below it, up to an empty line.
 
 What is compared:
 
-- each block with its file; a block that names none may show neither calls nor answers;
+- each block and each table with its file; a block that names none may show neither calls nor answers;
 - each answer that a text quotes, as `chain safe`: it has to be an answer of an example; after a
   script that is shown without answers it has to be an answer of that script;
 - each `NAME.answers` with what `replay/tables.py` answers to `NAME.script`, and both with the
   script of this name in `replay/scripts.txt`: so the gate compares them with the program;
-- each link with the file and the heading that it leads to.
+- each link with the file and the heading that it leads to;
+- the pictures of `tests/pictures.py`.
 """
 
 import json
@@ -35,10 +40,15 @@ sys.path.insert(0, str(TOP / "replay"))
 from make_sample import examples  # noqa: E402
 from tables import answers  # noqa: E402
 
+import pictures  # noqa: E402
+from game.page import command_lines, table  # noqa: E402
+
 STORED = TOP / "replay" / "scripts.txt"
 
 FENCE = re.compile(r"```(?P<language>\w*) ?(?P<path>\S*)(?P<how>.*)")
+COURSE = re.compile(r"<!--course:(.*)-->")
 RANGE = re.compile(r"(?P<first>\d+)-(?P<last>\d*)")
+MOMENT = re.compile(r"^\$ NOW=\S+ ")
 # A line of a script or of its answers.
 SAID = re.compile(
     r"(zone|add-\w+|set-[\w-]+|delete|start|report[12]|wait[12]|done|abort) \S"
@@ -72,7 +82,12 @@ def in_range(lines, how):
 
 def rendered(path, how):
     """The lines of a block that shows a file."""
+    if path == "docs/courses.json":
+        return [*command_lines(" ".join(how))]
     lines = (TOP / path).read_text().splitlines()
+    if path.startswith("tests/command/"):
+        parts = (in_range(lines, [word])[0] for word in how)
+        return [MOMENT.sub("$ ", line) for part in parts for line in part]
     if "answered" not in how:
         return in_range(lines, how)[0]
     told = (TOP / path).with_suffix(".answers").read_text().splitlines()
@@ -111,6 +126,10 @@ class Document:
                 made += self.block(number, line, self.lines[number + 1 : end])
                 made.append("```")
                 number = end
+            elif match := COURSE.fullmatch(line):
+                end = self.lines.index("", number)
+                made += self.course(number, match[1], self.lines[number + 1 : end])
+                number = end - 1
             elif line:
                 paragraph.append(line.strip())
             number += 1
@@ -136,6 +155,14 @@ class Document:
         self.shown = None
         if path.endswith(".script") and "answered" not in how:
             self.shown = (TOP / path).with_suffix(".answers").read_text().splitlines()
+        return wanted
+
+    def course(self, number, name, body):
+        """The lines of a table that shows a course."""
+        self.blocks += 1
+        wanted = table(name)
+        if body != wanted:
+            self.fault(number, f"the table differs from that of the course {name!r}")
         return wanted
 
     def value(self, number, path, body):
@@ -218,6 +245,7 @@ def write(scripts):
     STORED.write_text(stored_text(scripts))
     for path in documents():
         path.write_text("\n".join(Document(path, set(), []).walk()) + "\n")
+    pictures.write()
 
 
 def main():
@@ -235,6 +263,7 @@ def main():
         document.walk()
         blocks, quoted = blocks + document.blocks, quoted + document.quoted
         links += check_links(path, wrong)
+    wrong += pictures.differing()
     if wrong:
         print(*wrong, f"docs: {len(wrong)} differences", sep="\n")
         return 1

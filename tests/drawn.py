@@ -65,14 +65,16 @@ def bars_of(lines):
 
 
 def pictures():
-    """Each bar of a picture begins and ends where the record says, on the page too; and README
-    shows what is drawn. (A script with a refused line may have lost one, and isn't drawn.)"""
+    """Each bar of a picture begins and ends where the record says, on the page too; and the pages
+    show what is drawn. (A script with a refused line may have lost one, and isn't drawn.)"""
     for path, lines in examples():
         if any(it.startswith("refused") and "wait for" not in it for it in answers(lines)[0]):
             continue
         text = typed(["draw", path])[0]
-        if path.name == "zsk-roll.script" and text != (TOP / "command/zsk-roll.svg").read_text():
-            yield "command/zsk-roll.svg isn't what is drawn"
+        for folder in ("command", "docs/pictures"):
+            shown = TOP / folder / f"{path.stem}.svg"
+            if path.parent.name == "examples" and shown.is_file() and text != shown.read_text():
+                yield f"{shown.relative_to(TOP)} isn't what is drawn"
         yield from last_rolls(xml.dom.minidom.parseString(text), lines, path.name)
         page = xml.dom.minidom.parseString(typed(["draw", path, "--since", "0"])[0])
         wanted = set()

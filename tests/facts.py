@@ -212,31 +212,19 @@ class Operator:
 
 
 def runbooks():
-    """The commands of each roll, in the block below its table, and those that its rows ask for: the
-    call, then what publishes; if CDS comes in, a watch and what takes it out again; then what
-    watches and makes the next call."""
-    text = (TOP / "docs" / "RUNBOOKS.md").read_text()
-    for name, _, section in (it.partition("\n") for it in text.split("\n## ")):
-        roll, wanted = name.replace("The first keys", "algorithm-roll"), []
-        lines = re.findall(r"^vaqsider (.*)$", section, re.MULTILINE)
-        commands = [it.replace(" S", "", 1) for line in lines for it in line.split("; vaqsider ")]
-        for call, row in re.findall(r"^\| `((?:start|wait[12])[^`]*)`(.*)$", section, re.MULTILINE):
-            line = f"{call} now" if call.startswith("start") else f"{call} {roll} now"
-            wanted += [f"call '{line}'", *([] if "| nothing |" in row else ["act"])]
-            wanted += ["watch", "act --no-cds"] if " CDS for " in row else []
-            wanted.append("watch --call")
-            wanted += [f"call '{it}'" for it in re.findall(r"`(delete \w+)`", row)]
-        if roll in ROLLS and wanted:
-            yield name, commands, wanted
+    """The commands of each roll and of the first keys, as docs/RUNBOOKS.md has them typed."""
+    from game.page import commands, courses
+
+    for name in courses()["rolls"]:
+        yield name, [command for time in commands(name) for command in time]
 
 
 def by_the_command():
     """The runbooks by the command, word by word, bring each roll to its end."""
-    (_, first, _), *others = books = list(runbooks())
-    yield from (f"{name} has {of}, not {wanted}" for name, of, wanted in books if of != wanted)
-    if [roll for roll, _, _ in others] != list(ROLLS):
-        yield f"the runbooks have {[roll for roll, _, _ in others]}"
-    for roll, commands, _ in others:
+    (_, first), *others = runbooks()
+    if [roll for roll, _ in others] != list(ROLLS):
+        yield f"the runbooks have {[roll for roll, _ in others]}"
+    for roll, commands in others:
         operator = Operator()
         for command in (*first, *commands):
             yield from operator.type(command)
@@ -260,7 +248,7 @@ def emergencies():
     on; and to go unsigned, with the wait that the key set doesn't know."""
     text = (TOP / "docs" / "EMERGENCY.md").read_text()
     lost, unsigned = re.findall(r"^```text\n(vaqsider .*?)^```", text, re.MULTILINE | re.DOTALL)
-    books = {name: commands for name, commands, _ in runbooks()}
+    books = dict(runbooks())
     for name, block in (("lost", lost), ("unsigned", unsigned)):
         operator = Operator()
         block = re.sub(r" --for \d+", "", block).replace("TAG", "1")

@@ -3,7 +3,7 @@
 `tests/runbooks.py`, `tests/networks.py` and `tests/examples.py`, and beside its edits run
 `tests/memory.py`, `tests/sets.py`, `tests/notes.py`, `tests/command.py` and `tests/library.py`,
 for which `tests/archive.py` builds the library. Then `tests/told.py` compares the numbers of
-docs/TESTS.md with what all of them have printed. Before the last line of `rt ci` it prints from
+docs/tests.txt with what all of them have printed. Before the last line of `rt ci` it prints from
 which files each proof was made, as a release wants it, when each step was done, in minutes and
 seconds since the start, so that a rise is seen, and which tests it leaves out."""
 
@@ -228,7 +228,7 @@ def prove_and_test(free, folder):
         note("told")
     if wrong:
         print(*wrong, sep="\n")
-        status, last = 1, f"docs/TESTS.md has {len(wrong)} numbers that this gate hasn't printed\n"
+        status, last = 1, f"docs/tests.txt has {len(wrong)} numbers that this gate hasn't printed\n"
     if status == 0:
         built.take(folder, before)
     print("Done after, in minutes and seconds:", *steps(), sep="\n")

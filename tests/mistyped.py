@@ -1,6 +1,6 @@
 """Notes of operators in which a digit is lost, and questions about moments before a roll's step.
 
-The causes of docs/NOTES.md are written here again: the program `keyset notes` has to refuse the
+The causes of docs/REFERENCE.md are written here again: the program `keyset notes` has to refuse the
 first line that has one, and to take all others. It hands out no report before its step."""
 
 from typing import Iterator, NamedTuple, Optional

@@ -1,4 +1,4 @@
-/* Tests notes beside a session at the library's border, over the example of docs/NOTES.md:
+/* Tests notes beside a session at the library's border, over the example of docs/REFERENCE.md:
 
        noted INPUT ANSWERS [STEP]
 

@@ -1,4 +1,4 @@
-/* reader.h: a second reader of scripts, written only from docs/SCRIPTS.md. */
+/* reader.h: a second reader of scripts, written only from docs/REFERENCE.md. */
 #ifndef READER_H
 #define READER_H
 

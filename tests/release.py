@@ -8,7 +8,8 @@
 - The newest release of `CHANGELOG.md` is this one.
 - `tests/frozen/N/` has the scripts of release N with their answers, and they are answered the same
   today: here by the tables of `replay/`, and by the program and the library in `tests/library.py`.
-- Each word of these scripts has its version in `docs/SCRIPTS.md`, and that is N or earlier.
+- Each word of these scripts has its version in `tests/frozen/words.txt`, and that is N or earlier;
+  and `docs/REFERENCE.md` has each word.
 - What `rt ci` prints is taken for a proof only if it says so of the crate, and only for the files
   that it was made from.
 """
@@ -44,9 +45,6 @@ NAMED = (
     ("crates/keyset_c/wrong/release_of_another.edit", r'old: const RELEASE: &str = "(.*)";'),
 )
 CHANGES = re.compile(r"^## \[?(?P<version>[\w.]+)", re.MULTILINE)
-# A row of the tables of SCRIPTS with words of scripts, and the version that brought them.
-ROW = re.compile(r"^\| (?P<lines>`[^|]*)\|[^|]*\| (?P<since>\d+\.\d+\.\d+) \|$", re.MULTILINE)
-WORD = re.compile(r"`([\w-]+)")
 
 
 def release():
@@ -99,15 +97,16 @@ def other_answers(version):
 
 
 def undated_words(version):
-    rows = ROW.findall((TOP / "docs" / "SCRIPTS.md").read_text())
-    since = {word: brought for lines, brought in rows for word in WORD.findall(lines)}
+    since = dict(line.split() for line in (FROZEN / "words.txt").read_text().splitlines())
+    page = (TOP / "docs" / "REFERENCE.md").read_text()
+    yield from (f"docs/REFERENCE.md has no {word}" for word in since if f"`{word}" not in page)
     lines = (line for _, script, _ in frozen_scripts(version) for line in script.splitlines())
     for word in sorted({line.split(" ")[0] for line in lines}):
         brought = since.get(word)
         if brought is None:
-            yield f"docs/SCRIPTS.md doesn't say which version brought {word}"
+            yield f"tests/frozen/words.txt doesn't say which version brought {word}"
         elif order(brought) > order(version):
-            yield f"docs/SCRIPTS.md says that {brought} brought {word}, which {version} has"
+            yield f"tests/frozen/words.txt says that {brought} brought {word}, which {version} has"
 
 
 def source(name, lines):

@@ -1,6 +1,6 @@
 #!/usr/bin/env python3
-"""Plays operators who follow the tables of `docs/RUNBOOKS.md` to the letter, and looks at whatever
-caches may hold. There is no network, and the only clock is the game's. The key set is that of
+"""Plays operators who follow `docs/courses.json` to the letter, from which the tables of
+`docs/RUNBOOKS.md` are made, and looks at whatever caches may hold. There is no network, and the only clock is the game's. The key set is that of
 `replay/tables.py`.
 
 The game has a zone and its parent, whose servers get each version one by one. The parent's DS set
@@ -123,7 +123,7 @@ def main():
     try:
         book, unsaid = runbooks(), left_out(POINTS + PAIRS)
         for point in unsaid:
-            wrong.append(f"runbooks: the guides don't say: {point.words}")
+            wrong.append(f"runbooks: the guides don't say {point.rule}")
         told = [
             "one signer: " + follow(book, orders, unsaid, wrong),
             leave_out(book, POINTS, lambda n: random.Random(n).sample([*ROLLS], len(ROLLS)), wrong),

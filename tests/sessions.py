@@ -209,7 +209,7 @@ def expect_roll(library, handle, roll, counts):
 
 
 def state_of(role):
-    """The word for a role: docs/SCRIPTS.md has its table. At work a KSK role has a DS, too."""
+    """The word for a role: docs/REFERENCE.md has its table. At work a KSK role has a DS, too."""
     has_ds = role["at_parent"] or role["role"] != "ksk"
     if not any(role[flag] for flag in ("signer", "present", "at_parent")):
         return "stale" if role["old"] else "future"

@@ -1,14 +1,14 @@
 #!/usr/bin/env python3
-"""Compares the numbers of docs/TESTS.md with what the parts of the gate print. The gate does so at
+"""Compares the numbers of docs/tests.txt with what the parts of the gate print. The gate does so at
 its end, with its own output.
 
     tests/told.py LOG            compares them with the output of a gate, or of some of its parts
     tests/told.py LOG --write    writes the numbers of that output in their place
 
-A row of the table names its tests in the last column. Each number of the row, with the word after
-it, has to be in a line that one of the row's tests has printed. Such a line begins with the name of
-the test, as `sets: `. If a word has more than one number, they have to come in the same order. A
-row without a test of the gate has to have the date of its numbers.
+A line names its tests before a colon; indented lines say what they try. Each number of the line, with
+the word after it, has to be in a line that one of these tests has printed. Such a line begins with
+the name of the test, as `sets: `. If a word has more than one number, they have to come in the same
+order. A line without a test of the gate has to have the date of its numbers.
 """
 
 import re
@@ -16,7 +16,7 @@ import sys
 from pathlib import Path
 
 TOP = Path(__file__).resolve().parent.parent
-PAGE = TOP / "docs" / "TESTS.md"
+FIGURES = TOP / "docs" / "tests.txt"
 
 # The tests that print what they have done.
 PARTS = {
@@ -24,8 +24,7 @@ PARTS = {
     *("memory", "networks", "notes", "runbooks", "sessions", "sets"),
 }
 
-ROW = re.compile(r"\| (?P<what>.+) \| (?P<much>.+) \| (?P<where>.+) \|")
-NAMED = re.compile(r"`(?:tests/)?(\w+)(?:\.\w+)?`")
+ROW = re.compile(r"(?P<where>\S[^:]*): (?P<much>.+)")
 # A number, with commas or without, and the word that follows it, if one does.
 NUMBER = r"(?<![\w.,-])(?P<number>\d+(?:,\d{3})*)(?![\w-]|[.,]\d)"
 COUNT = re.compile(NUMBER + r"(?= (?P<word>[a-z][\w-]*))")
@@ -59,8 +58,8 @@ def is_found(wanted, told):
 
 def compared(row, log, number, wrong):
     """The row as it should be. What differs from the output is added to `wrong`."""
-    parts = [name for name in NAMED.findall(row["where"]) if name in PARTS]
-    place = f"{PAGE.name}:{number}"
+    parts = [name for name in row["where"].split(", ") if name in PARTS]
+    place = f"{FIGURES.name}:{number}"
     if not parts:
         if COUNT.search(row["much"]) and not DATE.search(row["much"]):
             wrong.append(f"{place}: no part of the gate prints these numbers; they have no date")
@@ -82,24 +81,24 @@ def compared(row, log, number, wrong):
         return f"{next(fresh[match['word']]):,}" if match["word"] in fresh else match["number"]
 
     much = COUNT.sub(renewed, row["much"])
-    return f"| {row['what']} | {much} | {row['where']} |"
+    return f"{row['where']}: {much}"
 
 
 def compare(log, wrong):
-    """Compares the page with the output of a gate. Gives the page as it should be."""
-    lines, told = [], printed(log)
-    for number, line in enumerate(PAGE.read_text().splitlines(), start=1):
+    """Compares the figures with the output of a gate. Gives them as they should be."""
+    head, *rest = FIGURES.read_text().split("\n\n", 1)
+    lines, told = [*head.splitlines(), ""], printed(log)
+    for number, line in enumerate("".join(rest).splitlines(), start=len(lines) + 1):
         row = ROW.fullmatch(line)
-        is_row = row and number > 1 and not line.startswith(("| What ", "|---"))
-        lines.append(compared(row, told, number, wrong) if is_row else line)
+        lines.append(compared(row, told, number, wrong) if row else line)
     return "\n".join(lines) + "\n"
 
 
 def main():
     wrong = []
-    page = compare(Path(sys.argv[1]).read_text(), wrong)
+    figures = compare(Path(sys.argv[1]).read_text(), wrong)
     if sys.argv[2:] == ["--write"]:
-        PAGE.write_text(page)
+        FIGURES.write_text(figures)
     print(*wrong, f"told: {len(wrong)} differences", sep="\n")
     return 1 if wrong else 0
 

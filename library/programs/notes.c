@@ -1,4 +1,4 @@
-/* The reports that are due, by scripts and their notes. docs/NOTES.md has the form of both. No
+/* The reports that are due, by scripts and their notes. docs/REFERENCE.md has the form of both. No
    answer is written if one of them has a fault. */
 
 #include "session.h"

@@ -268,7 +268,7 @@ class Files(unittest.TestCase):
             os.rmdir(self.path)
 
     def test_notes_are_those_of_the_example(self):
-        # docs/NOTES.md shows them.
+        # docs/REFERENCE.md shows them.
         stored = (Path(__file__).parents[2] / "examples/lowered-ttl.notes").read_text().splitlines()
         wanted = [line for line in stored if line.startswith(("before", "published", "everywhere"))]
         Notes.create(self.path, [3600, 43200, 43200])

@@ -1,29 +1,18 @@
-"""The tables of `docs/RUNBOOKS.md` and `docs/EMERGENCY.md`, as steps that an operator of the game
-takes."""
+"""The runbooks as steps that an operator of the game takes, from `docs/courses.json`; and which
+rules the guides say."""
 
+import json
 import re
 from pathlib import Path
 from typing import NamedTuple
 
 from tables import ROLLS
 
-BOOK = Path(__file__).resolve().parents[2] / "docs" / "RUNBOOKS.md"
-FIRST_KEYS, EARLY_END, TWO = "The first keys", "Ending a roll early", "Two signers"
+DOCS = Path(__file__).resolve().parents[2] / "docs"
+COURSES = DOCS / "courses.json"
+FIRST_KEYS, EARLY_END = "The first keys", "Ending a roll early"
 
-# What the cells of the tables say. If a cell says something else, add it here.
-DOES = {
-    "dnskey": r"\bthe DNSKEY set\b",
-    "zone": r"\bthe zone (signed by|without their signatures)\b",
-    "cds": r"\bCDS (for|without)\b",
-    "ds": r"\bthe DS set becomes\b",
-}
-# The tables of early ends say what to watch for. Otherwise it is what was done, without CDS.
-WATCHES = {
-    "the DNSKEY set": {"dnskey"},
-    "both": {"dnskey", "zone"},
-    "CDS and the DS set": {"ds", "cds"},
-}
-# The actions of the key set in the same words.
+# The actions of the key set as courses name what is published.
 ASKS = {
     "UpdateDnskeyRrset": "dnskey",
     "UpdateRrsig": "zone",
@@ -35,10 +24,9 @@ WATCHED = {
     for word in ("Report", "Wait")
     for record, kind in (("Dnskey", "dnskey"), ("Rrsig", "zone"), ("Ds", "ds"))
 }
-# The TTLs that a report gives. Rule 1 of docs/OPERATORS.md says which sets count.
-TTLS = {"the DNSKEY TTL": "dnskey", "the zone's TTL": "zone", "the DS TTL": "ds"}
-BOTH = "the higher TTL of both"
-SUM = re.compile(r"the \*\*sum\*\* of (.*) and (.*)")
+# A rule of the guides ends with its mark, which has some words before it.
+MARK = re.compile(r"<!--rule:([a-z0-9-]+)-->")
+WORDS = re.compile(r"(?:\w[^<|]*\s){2,}[^<|]*$")
 
 
 class Wrong(Exception):
@@ -46,7 +34,7 @@ class Wrong(Exception):
 
 
 class Step(NamedTuple):
-    """A row of a runbook: what to do, what to watch, which TTL to report, if any, whether the
+    """A row of a runbook: what to publish, what to watch, which TTL to report, if any, whether the
     DNSKEY TTL must not rise meanwhile, and whether CDS has to be taken out before."""
 
     does: set
@@ -56,68 +44,59 @@ class Step(NamedTuple):
     takes_cds_out: bool
 
 
-def known(table, cell):
-    if cell not in table:
-        raise Wrong(f"{BOOK.name}: {cell!r} is not known here")
-    return table[cell]
+def known(kinds):
+    if unknown := set(kinds) - {*ASKS.values()}:
+        raise Wrong(f"{COURSES.name}: {sorted(unknown)} is not known here")
+    return set(kinds)
 
 
-def report_of(words, watches):
-    """Which TTLs make the TTL of a report, and how: as these words say, and no safer."""
-    if words == BOTH:
-        return max, sorted(watches)
-    if match := SUM.fullmatch(words):
-        return sum, [known(TTLS, part) for part in match.groups()]
-    return max, [known(TTLS, words)]
+def report_of(row):
+    """Which TTLs make the TTL of a report, and how: as the row says, and no safer."""
+    if "sum" in row:
+        return sum, [*row["sum"]]
+    return (max, sorted(known(row["report"]))) if "report" in row else None
 
 
-def step_of(does, *watched, then):
-    report = re.search(r"`report[12]`: ([^;]*)", then)
-    done = {part for part, words in DOES.items() if re.search(words, does)}
-    watches = known(WATCHES, *watched) if watched else done - {"cds"}
-    return Step(
-        done,
-        watches,
-        report_of(report[1], watches) if report else None,
-        "don't raise the DNSKEY TTL" in then,
-        "CDS out" in then,
-    )
+def step_of(row):
+    """The step of a row. Without more words what is published is watched, except CDS."""
+    does = known(row["publish"])
+    watches = known(row.get("watch", does - {"cds"}))
+    return Step(does, watches, report_of(row), "sum" in row, "cds" in does)
+
+
+def courses():
+    return json.loads(COURSES.read_text())
 
 
 def runbooks():
-    """The steps of each roll and of the first keys by headings, those of early ends by rolls."""
-    book, heading = {EARLY_END: {}}, None
-    for line in BOOK.read_text().splitlines():
-        cells = [cell.strip() for cell in line.split("|")[1:-1]]
-        if line.startswith("## "):
-            heading = line.removeprefix("## ")
-        elif len(cells) > 2 and cells[0].startswith("`") and heading != TWO:
-            step = step_of(*cells[1:-1], then=cells[-1])
-            if heading == EARLY_END:
-                book[EARLY_END].update({roll: step for roll in re.findall(r"`(\S+)`", cells[0])})
-            else:
-                book.setdefault(heading, []).append(step)
+    """The steps of each roll and of the first keys, those of early ends by rolls."""
+    told = courses()
+    book = {name: [step_of(row) for row in rows] for name, rows in told["rolls"].items()}
+    book[EARLY_END] = {roll: step_of(row) for roll, row in told["ended early"].items()}
     missing = {FIRST_KEYS, *ROLLS} - {name for name, steps in book.items() if len(steps) == 3}
     if missing or set(book[EARLY_END]) != set(ROLLS):
-        raise Wrong(f"{BOOK.name}: rows are missing, of {sorted(missing) or EARLY_END}")
+        raise Wrong(f"{COURSES.name}: rows are missing, of {sorted(missing) or EARLY_END}")
     return book
 
 
-def guides():
-    """The words of the operators' pages, without marks and line ends."""
-    pages = [BOOK.with_name(f"{page}.md") for page in ("OPERATORS", "RUNBOOKS", "EMERGENCY")]
-    text = re.sub(r"\[([^][]*)\]\([^)]*\)", r"\1", "\n".join(page.read_text() for page in pages))
-    return " ".join(re.sub(r"[`*]", "", text).split())
+def rules():
+    """The rules that the operators' pages say, by their marks."""
+    said = set()
+    for page in ("OPERATORS", "RUNBOOKS", "EMERGENCY"):
+        text = (DOCS / f"{page}.md").read_text()
+        for match in MARK.finditer(text):
+            before = MARK.sub(" ", text[: match.start()]).rpartition("\n\n")[2]
+            if not WORDS.search(before):
+                raise Wrong(f"{page}: no words end with {match[0]}")
+            said.add(match[1])
+    return said
 
 
 def left_out(points):
     """The points that the guides don't say."""
-    said = guides()
-    return frozenset(point for point in points if point.words not in said)
+    said = rules()
+    return frozenset(point for point in points if point.rule not in said)
 
 
-# What docs/EMERGENCY.md says after the two waits of going unsigned.
-UNSIGNED = (
-    Step({"cds", "ds"}, {"ds"}, (sum, ["ds", "dnskey"]), True, True),
-    Step({"dnskey", "zone"}, {"dnskey", "zone"}, None, False, False),
-)
+# What follows the two waits of going unsigned.
+UNSIGNED = tuple(step_of(row) for row in courses()["going unsigned"])

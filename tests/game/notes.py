@@ -1,4 +1,4 @@
-"""Notes that an operator of the game keeps, as in docs/NOTES.md, and the TTL that is due by them.
+"""Notes that an operator of the game keeps, as in docs/REFERENCE.md, and the TTL due by them.
 The rule for it is that of the page, written again here."""
 
 from itertools import combinations

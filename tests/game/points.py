@@ -1,5 +1,5 @@
-"""The points in which an operator may not follow the guides, each with the guides' words for it;
-what some points need to break a zone soon; and how they break it."""
+"""The points in which an operator may not follow the guides, each with the mark of the rule in the
+guides that says it; what some points need to break a zone soon; and how they break it."""
 
 from typing import NamedTuple
 
@@ -7,124 +7,121 @@ DOUBLE_DS, CSK, ALGORITHM = "ksk-double-ds-roll", "csk-roll", "algorithm-roll"
 
 
 class Point(NamedTuple):
-    """What an operator does who leaves these words of the guides out."""
+    """What an operator does who leaves this rule of the guides out."""
 
     name: str
-    words: str
+    rule: str
 
 
 # One signer.
 POINTS = (
     LOWERED := Point(
         "reports give the TTL of now, not the highest that caches may hold",
-        "A lowered TTL doesn't count yet",
+        "lowered-ttl",
     ),
     TTL_OF_0 := Point(
         "reports give a TTL of 0",
-        "The highest TTL under which any cache may still hold, from the report's moment on, a set"
-        " of that kind older than what the report speaks of",
+        "highest-ttl",
     ),
     A_SECOND := Point(
         "the second that a cache counts more isn't reported",
-        "add a second to the TTL",
+        "a-second",
     ),
     UNSIGNED_ONLY := Point(
         "the first report counts what the unsigned zone had, and not the keys before",
-        "keys from before the zone went unsigned",
+        "keys-before-unsigned",
     ),
     EARLY_ENDS := Point(
         "what was published by a roll that was ended early isn't counted",
-        "sets of a roll that was ended early",
+        "sets-of-early-ends",
     ),
     SKIPPED := Point(
         "waits are skipped, by a moment ahead of the clock",
-        "No moment may be ahead of the clock",
+        "no-moment-ahead",
     ),
     EARLY := Point(
         "reports are made when the first server has it",
-        "watch until all servers of the zone give the new DNSKEY set",
+        "all-servers",
     ),
     ROUNDED := Point(
         "moments are rounded the other way",
-        "A report's moment is rounded up to the next second",
+        "report-rounded-up",
     ),
     NO_MARGIN := Point(
         "no margin for clocks that differ",
-        "add the greatest difference to the moment of the report",
+        "clocks-differ",
     ),
     BEFORE_START := Point(
         "the moment of a report lies before its start",
-        "no report before its start or wait",
+        "report-after-its-step",
     ),
     NOT_KEPT := Point(
         "TTLs are reported that some caches don't keep",
-        "Caches that don't keep TTLs.",
+        "caches-that-keep-longer",
     ),
     PARENT_FIRST := Point(
         "the parent changes before the first report",
-        "only then do what the call's answer asks",
+        "after-the-answer",
     ),
     SAME_KEY := Point(
         "the key of a double-DS roll that was ended early comes again",
-        "A ksk-double-ds-roll is begun anew with another key",
+        "another-key",
     ),
     CDS_LEFT := Point(
         "nobody watches until CDS is out",
-        "watch until no server gives them any more",
+        "watch-cds-out",
     ),
     CDS_STAYS := Point(
         "CDS is taken out when the old keys leave",
-        "Then take them out",
+        "take-cds-out",
     ),
     CDS_BY_ZONE := Point(
         "CDS is signed by the keys of zone= only",
-        "One key of signers= signs them",
+        "signers-sign-cds",
     ),
     NOT_RENEWED := Point(
         "signatures aren't renewed while a roll waits",
-        "Renew each signature while the old one is still valid for longer than the set's TTL and"
-        " your slowest server together",
+        "renew",
     ),
     KSK_FIRST := Point(
         "a KSK roll before the first algorithm roll",
-        "No roll of KSKs or CSKs before the first algorithm-roll.",
+        "algorithm-roll-first",
     ),
     CSK_FIRST := Point(
         "a CSK roll before the first algorithm roll",
-        "No roll of KSKs or CSKs before the first algorithm-roll.",
+        "algorithm-roll-first",
     ),
     NO_SUM := Point(
         "only the DS TTL, though the sum is due",
-        "Report the sum of the DS TTL and the DNSKEY TTL, that of the present set too, in the"
-        " second report of an algorithm-roll",
+        "the-sum",
     ),
     RAISED := Point(
         "the DNSKEY TTL rises when it must not",
-        "don't raise the DNSKEY TTL before its second wait",
+        "steady-dnskey-ttl",
     ),
     MIXED := Point(
         "a KSK of one algorithm with a ZSK of another",
-        "every algorithm that has a KSK has a ZSK",
+        "whole-sets",
     ),
     ONE_SIDE := Point(
         "an algorithm roll of the KSKs only",
-        "After each start every algorithm that has a KSK has a ZSK",
+        "whole-sets",
     ),
     ALL_AT_ONCE := Point(
         "a zone of two algorithms rolls both at once",
-        "a roll lists at most one old and one new key of each kind",
+        "one-of-each-kind",
     ),
     NOT_IN_USE := Point(
         "a CSK roll brings in an algorithm, by an old key that was never in use",
-        "only an algorithm-roll gives KSKs a new algorithm",
+        "only-algorithm-roll",
     ),
     BACK_AT_ONCE := Point(
         "a DS set is taken back before the parent has it",
-        "Let the parent end the false change first",
+        "parent-ends-first",
     ),
     NOT_HELD_BACK := Point(
         "going unsigned, the second wait is made when it is accepted",
-        "Hold the second wait back yourself until that TTL has passed",
+        "hold-back",
     ),
 )
 
@@ -132,71 +129,71 @@ POINTS = (
 PAIRS = (
     KEYS_UNSEEN := Point(
         "a signer doesn't watch until the other's servers give its new keys",
-        "until the other's give one with all ZSKs and CSKs of yours that are in your set",
+        "others-give-yours",
     ),
     OTHER_TTL := Point(
         "the TTL of the other's DNSKEY sets isn't counted",
-        "Count the TTL of the other's DNSKEY sets as that of your own",
+        "others-ttl",
     ),
     TAKEN_OUT := Point(
         "an old ZSK of the other is taken out before the other's second wait",
-        "It leaves yours only after the other's second wait",
+        "after-others-wait2",
     ),
     DS_ALONE := Point(
         "first keys: each has the DS of its own keys set when its first wait is over",
-        "with one change at the parent for both",
+        "one-change-for-both",
     ),
     DS_OWN := Point(
         "CDS has the keys of one signer only, and so has what is asked of the parent",
-        "The DS set has the keys of both ds=, and so has CDS",
+        "ds-of-both",
     ),
     CDS_ON_ONE := Point(
         "CDS comes and goes on the servers of one signer only",
-        "which both publish",
+        "cds-on-both",
     ),
     CDS_BY_SIGNERS := Point(
         "CDS is signed by a key of signers= only",
-        "and every key of zone=",
+        "every-zone-key-signs-cds",
     ),
     CDS_BY_ALL := Point(
         "CDS is signed by each key of signers=",
-        "More signatures do harm",
+        "no-more-signatures",
     ),
     CDS_UNCOUNTED := Point(
         "the TTL of CDS isn't counted in the zone's TTL",
-        "they count in the zone's TTL",
+        "cds-counts",
     ),
     CDS_UNCHANGED := Point(
         "the signatures of CDS don't change with the keys",
-        "While they are out, each change of these keys signs them anew",
+        "cds-signed-anew",
     ),
     DOUBLE_SIGNATURE := Point(
         "two signers roll ZSKs by a double-signature roll",
-        "ZSKs by zsk-roll",
+        "zsks-by-zsk-roll",
     ),
     AT_ONCE := Point(
         "both ask for a change of the DS set at once, each by what it saw before",
-        "Make one change at a time",
+        "one-change-at-a-time",
     ),
     JOINS_EARLY := Point(
         "the servers of who joins are named before its second wait",
-        "only after B's wait2",
+        "named-after-wait2",
     ),
     LEAVES_EARLY := Point(
         "the DS of who leaves goes first",
-        "only then: CDS of B; the DS set becomes the keys of B's ds=",
+        "ds-after-ns",
     ),
     NS_TTL := Point(
         "when one leaves, nobody waits for the TTL of the NS sets",
-        "the highest TTL of the old NS sets",
+        "ns-ttl",
     ),
     UNSIGNED_ALONE := Point(
         "one signer goes unsigned, and the other doesn't",
-        "if one leaves, it doesn't go unsigned",
+        "not-unsigned-alone",
     ),
     ALGORITHM_ALONE := Point(
         "one signer changes its algorithm, and the other doesn't",
-        "The same algorithms on both sides",
+        "same-algorithms",
     ),
 )
 

@@ -4,7 +4,7 @@ from collections import Counter
 
 from tables import SETS, KeySet
 
-from game.book import ASKS, BOOK, WATCHED, Wrong
+from game.book import ASKS, COURSES, WATCHED, Wrong
 from game.points import (
     A_SECOND, AT_ONCE, BEFORE_START, CDS_BY_ALL, CDS_BY_SIGNERS, CDS_BY_ZONE, CDS_LEFT, CDS_ON_ONE, CDS_STAYS,
     CDS_UNCHANGED, CDS_UNCOUNTED, DS_OWN, EARLY, EARLY_ENDS, KEYS_UNSEEN, LOWERED, NOT_KEPT,
@@ -335,9 +335,9 @@ class Operator:
         asked = {ASKS[action] for action in actions if action in ASKS}
         watched = {WATCHED[action] for action in actions if action in WATCHED}
         if step.does - asked or asked - step.does - as_is:
-            raise Wrong(f"{BOOK.name}: {step.does} is done, and {asked} is asked for")
+            raise Wrong(f"{COURSES.name}: {step.does} is done, and {asked} is asked for")
         if step.watches - watched - {"cds"} or watched - step.watches - as_is:
-            raise Wrong(f"{BOOK.name}: {step.watches} is watched, and {watched} is asked for")
+            raise Wrong(f"{COURSES.name}: {step.watches} is watched, and {watched} is asked for")
 
     def watch(self, step, since):
         """Watches until all servers have what the step says."""

@@ -1,4 +1,4 @@
-"""The status of a zone, as its JSON is read: docs/STATUS.md says what its members mean."""
+"""The status of a zone, as its JSON is read: docs/status.schema.json says what its members mean."""
 
 from __future__ import annotations
 

@@ -1,0 +1,124 @@
+"""What docs/RUNBOOKS.md shows of `docs/courses.json`: the table of a roll, with the sets that the
+tables of `replay/` say; the commands of a roll; and the table of early ends."""
+
+from tables import answers
+
+from game.book import FIRST_KEYS, courses
+
+ADDS = ("add-ksk K1", "add-ksk K2", "add-zsk Z1", "add-zsk Z2", "add-csk C1")
+TTLS = {"dnskey": "the DNSKEY TTL", "zone": "the zone's TTL", "ds": "the DS TTL"}
+# What an early end takes back.
+WITHOUT = {
+    "dnskey": "the DNSKEY set without the new keys",
+    "zone": "the zone without their signatures",
+    "cds": "CDS without the new key",
+    "ds": "the DS set becomes the old one",
+}
+HEAD = ["| Call | Publish | Then |", "|---|---|---|"]
+HEAD_OF_EARLY_ENDS = ["| Ended early | Publish, and watch |", "|---|---|"]
+
+
+def calls_of(rows):
+    """The lines of a course, all at one moment and with TTLs of 0, and for each row the number of
+    lines up to its call."""
+    lines, lengths = [], []
+    for number, row in enumerate(rows, start=1):
+        lines.append(f"{row['call']} 0")
+        lengths.append(len(lines))
+        if number < 3:
+            lines.append(f"report{number} {row['call'].split()[1]} 0 0")
+    return [*lines, *rows[-1]["then"]], lengths
+
+
+def sets_of(rolls, name):
+    """The sets that are published after the call of each row."""
+    adds = (f"{add} - 13 {tag} 0 yes" for tag, add in enumerate(ADDS))
+    before = ["zone example.com", *adds]
+    if name != FIRST_KEYS:
+        before += calls_of(rolls[FIRST_KEYS])[0]
+    lines, lengths = calls_of(rolls[name])
+    for length in lengths:
+        *replies, sets, verdict = answers([*before, *lines[:length]])
+        assert verdict == "chain safe" and not any(it.startswith("refused") for it in replies)
+        yield {kind: keys.split(",") for kind, keys in (it.split("=") for it in sets.split(" "))}
+
+
+def listed(names):
+    *others, last = names
+    return f"{', '.join(others)} and {last}" if others else last
+
+
+def published(kinds, sets):
+    """What a row has published."""
+    words = {
+        "dnskey": f"the DNSKEY set of {listed(sets['dnskey'])}, signed by {listed(sets['signers'])}",
+        "zone": f"the zone, signed by {listed(sets['zone'])}",
+        "cds": f"CDS for {listed(sets['ds'])}",
+        "ds": f"the DS set becomes {listed(sets['ds'])}",
+    }
+    return "; ".join(words[kind] for kind in kinds) or "nothing"
+
+
+def ttl_of(row):
+    if "sum" in row:
+        return f"the **sum** of {listed([TTLS[kind] for kind in row['sum']])}"
+    ttls = [TTLS[kind] for kind in row["report"]]
+    return f"the higher of {listed(ttls)}" if len(ttls) > 1 else ttls[0]
+
+
+def then_of(row, number):
+    """What a row has done once all servers have it."""
+    if "cds" in row["publish"]:
+        yield "CDS out"
+    if "then" in row:
+        yield ", ".join(f"`{it.split()[0] if it.startswith('done') else it}`" for it in row["then"])
+    else:
+        yield f"`report{number}`: {ttl_of(row)}"
+    if "sum" in row:
+        yield "don't raise the DNSKEY TTL before `wait2`"
+
+
+def table(name):
+    """The table of a roll, of the first keys, or of early ends."""
+    told = courses()
+    if name == "ended early":
+        return [*HEAD_OF_EARLY_ENDS, *early_ends(told[name])]
+    made = [*HEAD]
+    rows = zip(told["rolls"][name], sets_of(told["rolls"], name))
+    for number, (row, sets) in enumerate(rows, start=1):
+        call = row["call"] if number == 1 else row["call"].split()[0]
+        then = "; ".join(then_of(row, number))
+        made.append(f"| `{call}` | {published(row['publish'], sets)} | {then} |")
+    return made
+
+
+def early_ends(rows):
+    """The rolls that take the same back share a row."""
+    shared = {}
+    for roll, row in rows.items():
+        shared.setdefault((*row["publish"],), []).append(f"`{roll}`")
+    for kinds, rolls in shared.items():
+        yield f"| {', '.join(rolls)} | {'; '.join(WITHOUT[kind] for kind in kinds)} |"
+
+
+def commands(name):
+    """The words of each command of a roll, by the times that somebody comes back: the call, then
+    what publishes; if CDS comes in, a watch, and later what takes it out again; then what watches
+    and makes the next call; at last the deletions."""
+    for row in courses()["rolls"][name]:
+        times = [[f"call '{row['call']} now'", *(["act"] if row["publish"] else [])]]
+        if "cds" in row["publish"]:
+            times[-1].append("watch")
+            times.append(["act --no-cds"])
+        times[-1].append("watch --call")
+        yield from times
+        if deletes := [it for it in row.get("then", []) if it.startswith("delete")]:
+            yield [f"call '{it}'" for it in deletes]
+
+
+def command_lines(name):
+    """The commands of a roll as they are typed, with S for the script."""
+    for time in commands(name):
+        lines = (f"vaqsider {' '.join([word, 'S', *rest])}"
+                 for word, *rest in (it.split(" ", 1) for it in time))
+        yield "; ".join(lines)
