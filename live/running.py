@@ -1,5 +1,6 @@
-"""Scenes of signers that run: PowerDNS, Knot and named sign the zone, and the operator types only
-the command. In each act one command of the signer fails, or two do, and the act is typed again."""
+"""Scenes of each signer: the tools of BIND and ldns, PowerDNS, Knot and named sign the zone, and
+the operator types only the command. Before each act that ends well another one is broken off: a
+command of the signer fails, or the act is killed."""
 
 import asyncio
 import json
@@ -15,13 +16,11 @@ from by_command import DS_TTL, DUE, KSK, OK, TTL, UNAVAILABLE, WARNING, ZSK, Ope
 from dnspython import dns
 from from_bind import HERE, Bind, free_port, publish
 from keys import Version, plain_records, run
+from postgres import Postgres
 from processes import Failed, end, outcome, program
 
 PDNS = """\
-launch=gsqlite3
-gsqlite3-database={folder}/db
-gsqlite3-dnssec=yes
-socket-dir={folder}
+{database}socket-dir={folder}
 local-address={here}
 local-port={port}
 disable-axfr=no
@@ -32,7 +31,9 @@ guardian=no
 daemon=no
 direct-dnskey=yes
 """
+SQLITE = "launch=gsqlite3\ngsqlite3-database={folder}/db\ngsqlite3-dnssec=yes\n"
 SCHEMA = Path("/usr/share/doc/pdns-backend-sqlite3/schema.sqlite3.sql")
+API = "webserver=yes\nwebserver-address={here}\nwebserver-port={port}\napi=yes\napi-key={secret}\n"
 KNOT = """\
 server:
   rundir: "{folder}"
@@ -85,6 +86,8 @@ cd {folder} && echo x >>count
 exec {tool} "$@"
 """
 PATIENCE = 15
+# The algorithm of the keys after an algorithm roll.
+OTHER = "14"
 
 
 class Signer:
@@ -104,6 +107,13 @@ class Signer:
         self.operator.serial = serial
         text = f"$TTL {TTL}\n" + "\n".join(self.operator.records()) + "\n"
         (self.folder / "zone").write_text(text)
+
+    def files(self):
+        """The options of an act that a plan hasn't got."""
+        return []
+
+    def end(self):
+        """What is left to end after a scene, beside its processes."""
 
     def process(self, *words):
         name = f"{self.name}-{self.zone.name.rstrip('.')}"
@@ -141,17 +151,45 @@ class Pdns(Signer):
 
     async def start(self, serial):
         self.write(serial)
-        (self.folder / "pdns.conf").write_text(
-            PDNS.format(folder=self.folder, here=HERE, port=self.port))
-        with sqlite3.connect(self.folder / "db") as database:
-            database.executescript(SCHEMA.read_text())
+        database = await self.database()
+        (self.folder / "pdns.conf").write_text(database + PDNS.format(
+            folder=self.folder, here=HERE, port=self.port))
         await run(self.folder, "pdnsutil", f"--config-dir={self.folder}", "load-zone",
                   self.zone.name, "zone")
         self.process("pdns_server", f"--config-dir={self.folder}")
         await self.is_up()
 
+    async def database(self):
+        """The settings that name the database, which is made."""
+        with sqlite3.connect(self.folder / "db") as database:
+            database.executescript(SCHEMA.read_text())
+        return SQLITE.format(folder=self.folder)
+
     def options(self):
         return ["--signer", "pdns", "--signer-config", self.folder]
+
+
+class PdnsByApi(Pdns):
+    """By its API, on PostgreSQL."""
+
+    name, tools = "pdns-api", ()
+
+    async def database(self):
+        self.api, secret = free_port(), self.folder / "secret"
+        secret.write_text(f"{SECRET}\n")
+        self.postgres = Postgres()
+        await asyncio.to_thread(self.postgres.prepare)
+        self.postgres.start()
+        await asyncio.to_thread(self.postgres.fill)
+        api = API.format(here=HERE, port=self.api, secret=SECRET)
+        return self.postgres.settings() + api
+
+    def options(self):
+        return ["--signer", f"pdns-api http://{HERE}:{self.api}", "--signer-config",
+                self.folder / "secret"]
+
+    def end(self):
+        self.postgres.end()
 
 
 class Knot(Signer):
@@ -189,8 +227,36 @@ class Named(Signer):
         await self.is_up()
 
     def options(self):
-        return ["--signer", "bind-inline", "--signer-config", self.folder / "rndc.conf",
-                "--zone-file", self.folder / "zone"]
+        return ["--signer", "bind-inline", "--signer-config", self.folder / "rndc.conf"]
+
+    def files(self):
+        return ["--zone-file", self.folder / "zone"]
+
+
+class OfFiles(Signer):
+    """The tools of BIND or ldns, which sign a file. An act by them may be killed at any moment."""
+
+    async def start(self, serial):
+        self.write(serial)
+
+    async def given(self):
+        made = self.folder / "zone.signed"
+        return dns.zone.from_file(str(made), self.zone.name, relativize=False) \
+            if made.exists() else None
+
+    def options(self):
+        return ["--signer", self.name]
+
+    def files(self):
+        return ["--zone-file", self.folder / "zone"]
+
+
+class OfBind(OfFiles):
+    name = "bind"
+
+
+class OfLdns(OfFiles):
+    name = "ldns"
 
 
 # An old key of named signs beside the new one until it leaves: a watch says so of the NS set, and
@@ -209,9 +275,9 @@ class Running(Operator):
         made = super().environment()
         return {**made, "PATH": f"{self.path}:{made['PATH']}" if self.path else made["PATH"]}
 
-    async def key(self, *flag):
+    async def key(self, *flag, algorithm="13"):
         """A new key file, without times: named would use it at once."""
-        name = await super().key(*flag)
+        name = await super().key(*flag, algorithm=algorithm)
         for option in ("-P", "-A"):
             await run(self.folder, "dnssec-settime", option, "none", name)
         return name
@@ -219,7 +285,8 @@ class Running(Operator):
     def words_of_act(self):
         if self.signer is None:
             return super().words_of_act()
-        return ["act", self.script, *self.signer.options(), *self.parents(), "--json"]
+        options = [*self.signer.options(), *self.signer.files()]
+        return ["act", self.script, *options, *self.parents(), "--json"]
 
     async def act(self, *how):
         """Acts, after an act that failed between two commands of the signer."""
@@ -249,6 +316,8 @@ class Running(Operator):
 
     async def broken_off(self, *how):
         """An act in which one command of the signer fails, in the place of any of them."""
+        if not self.signer.tools:
+            return await self.killed(*how)
         made = self.signer.failing()
         (made / "at").write_text(str(self.zone.dice.randint(1, 30)))
         (made / "count").write_text("")
@@ -257,6 +326,21 @@ class Running(Operator):
             await self.type(*self.words_of_act(), *how, ends=(0, UNAVAILABLE))
         finally:
             self.path = ""
+        if self.signer.serves:
+            await self.give()
+
+    async def killed(self, *how):
+        """An act that is killed, at any moment."""
+        words = [*self.words_of_act(), *how]
+        process = await asyncio.create_subprocess_exec(
+            sys.executable, "-m", "vaqsider", *map(str, words), cwd=self.folder,
+            env=self.environment(), stdout=asyncio.subprocess.DEVNULL,
+            stderr=asyncio.subprocess.DEVNULL)
+        try:
+            await asyncio.wait_for(process.wait(), self.zone.dice.uniform(0.2, 2))
+        except asyncio.TimeoutError:
+            process.kill()
+            await process.wait()
         if self.signer.serves:
             await self.give()
 
@@ -309,17 +393,36 @@ def rolls(maker):
     async def scene(zone):
         operator = Running(zone)
         operator.signer = maker(operator)
-        await operator.signer.start(2)
-        ksk, zsk = await operator.first_keys()
-        zsk = await operator.replace("zsk-roll", zsk, ZSK)
-        ksk = await operator.replace("ksk-roll", ksk, KSK)
-        await end_early(operator, zsk)
-        zsk = await operator.replace("zsk-double-signature-roll", zsk, ZSK)
-        ksk = await operator.replace("ksk-double-ds-roll", ksk, KSK)
-        await csk(operator, ksk, zsk)
-        await operator.type("check", operator.script)
+        try:
+            await operator.signer.start(2)
+            await each_roll(operator)
+        finally:
+            operator.signer.end()
 
     return scene
+
+
+async def each_roll(operator):
+    ksk, zsk = await operator.first_keys()
+    zsk = await operator.replace("zsk-roll", zsk, ZSK)
+    ksk = await operator.replace("ksk-roll", ksk, KSK)
+    await end_early(operator, zsk)
+    zsk = await operator.replace("zsk-double-signature-roll", zsk, ZSK)
+    ksk = await operator.replace("ksk-double-ds-roll", ksk, KSK)
+    ksk, zsk = await other_algorithm(operator, ksk, zsk)
+    await csk(operator, ksk, zsk)
+    await operator.type("check", operator.script)
+
+
+async def other_algorithm(operator, ksk, zsk):
+    """A KSK and a ZSK of another algorithm take the places of these."""
+    new = [await operator.key(*flag, algorithm=OTHER) for flag in (KSK, ZSK)]
+    for key in new:
+        await operator.call(f"add {key}")
+    await operator.roll("algorithm-roll", f"{ksk},{zsk}", ",".join(new))
+    for old in (ksk, zsk):
+        await operator.call(f"delete {old}")
+    return new
 
 
 async def end_early(operator, zsk):
@@ -337,13 +440,12 @@ async def end_early(operator, zsk):
 
 async def csk(operator, ksk, zsk):
     """A CSK comes in by a roll, if the signer can do that. Else the plan says that it can't."""
-    new = await operator.key(*KSK)
+    new = await operator.key(*KSK, algorithm=OTHER)
     await operator.call(f"add-csk {new}")
-    ends = (0,) if operator.signer.name == "knot" else (1,)
-    options = operator.signer.options()[:4]
-    await operator.type("plan", operator.script, "csk-roll", f"{ksk},{zsk}", new, *options,
-                        ends=ends)
-    if operator.signer.name == "knot":
+    is_able = operator.signer.name in ("knot", "bind")
+    await operator.type("plan", operator.script, "csk-roll", f"{ksk},{zsk}", new,
+                        *operator.signer.options(), ends=(0,) if is_able else (1,))
+    if is_able:
         await operator.roll("csk-roll", f"{ksk},{zsk}", new)
 
 
@@ -466,10 +568,13 @@ async def replace_one(operator, roll):
 
 
 HONEST = {
+    "signer-bind": rolls(OfBind),
+    "signer-ldns": rolls(OfLdns),
     "signer-pdns": rolls(Pdns),
+    "signer-pdns-api": rolls(PdnsByApi),
     "signer-knot": rolls(Knot),
     "signer-bind-inline": rolls(Named),
     "from-bind-to-pdns-to-knot": round_trip,
 }
 # These have not passed whole yet: they are played by their names only.
-BY_NAME = ("signer-knot", "signer-bind-inline")
+BY_NAME = tuple(it for it in HONEST if it.startswith("signer-"))
