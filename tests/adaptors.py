@@ -21,7 +21,7 @@ import testkeys
 from typed import TOP, folder, typed
 from vaqsider import keyfiles
 from vaqsider.errors import Failure
-from vaqsider.signers import DELETION, Key, Sets, pdns_api
+from vaqsider.signers import DELETION, Key, Sets, inline, pdns_api
 from vaqsider.signers.hook import Hook
 from vaqsider.signers.inline import Inline
 from vaqsider.signers.knot import Knot
@@ -301,6 +301,27 @@ def private():
                 yield "knot: a key is used as soon as it is imported"
 
 
+# How many syncs named is behind the times of its keys, and what is said in the end.
+BEHIND = ((0, ""), (1, ""), (4, ""), (10**6, "doesn't give example.com as its keys have it"))
+
+
+def behind():
+    """An act waits until named gives what its keys' times ask for, and not for ever."""
+    for count, says in BEHIND:
+        with folder(), mock.patch.multiple(inline, PAUSE=0.001, PATIENCE=0.1):
+            keys = make()
+            store, fake = of("bind-inline")
+            known, wanted = list(keys.values()), sets(keys, "K1,Z1 K1 Z1 K1")
+            with fake.installed():
+                _run(steps(store, known, wanted))
+                fake.behind = count
+                wanted = sets(keys, FIRST)
+                said = _said(lambda: _run(steps(store, known, wanted)))
+                left = [] if says else list(store.given().differences(wanted))
+            if left or bool(said) != bool(says) or says not in said or says and "CDS" not in said:
+                yield f"named is {count} syncs behind: {left} {said!r}"
+
+
 # What a hook prints, and what is said of it.
 HOOKS = (
     ("echo '{'", "what it says is no JSON"), ("echo '[]'", "what it says is no JSON"),
@@ -534,10 +555,10 @@ def without_dnspython():
                 yield f"{words} without dnspython: {done.returncode}: {done.stderr}"
 
 
-CHECKS = (without_dnspython, courses, lacks, wrong, private, hooks, wires, names, typed_acts, nsec3, deaf,
-          typed_wrongly)
-COUNT = sum(2 * len(it) - 2 for it in COURSES.values()) + len(LACKS) + len(WRONG) + len(HOOKS) \
-    + len(WIRES) + len(TYPED)
+CHECKS = (without_dnspython, courses, lacks, wrong, private, behind, hooks, wires, names, typed_acts,
+          nsec3, deaf, typed_wrongly)
+COUNT = sum(2 * len(it) - 2 for it in COURSES.values()) + len(LACKS) + len(WRONG) \
+    + len(BEHIND) + len(HOOKS) + len(WIRES) + len(TYPED)
 
 
 def faults():

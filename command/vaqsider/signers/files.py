@@ -123,7 +123,7 @@ class Files:
         """The sets of the signed zone that is in place."""
         with tempfile.TemporaryDirectory() as made:
             last = self.last(Path(made).resolve())
-        return None if last is None else _sets_of(last)
+        return None if last is None else sets_of(last)
 
     @contextlib.contextmanager
     def publish(self, wish: Wish) -> Iterator[Plan]:
@@ -212,7 +212,7 @@ def _signing(sets: Sets, names: list[str]) -> Sets:
     return replace(sets, signers=frozenset(it for it in sets.signers if it.name in names))
 
 
-def _sets_of(zone: Zone) -> Sets:
+def sets_of(zone: Zone) -> Sets:
     """What a signed zone has."""
     keys = {Key.of(row.data) for row in zone.top.get("DNSKEY", ())}
     named = {By(key.algorithm, key.tag): key for key in keys}
