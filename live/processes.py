@@ -31,6 +31,7 @@ PACKAGES = {
     "pdnsutil": "pdns-server",
     "pdns_control": "pdns-server",
     "setpriv": "util-linux",
+    "softhsm2-util": "softhsm2",
 }
 # Those without a program in the folders of programs.
 LIBRARIES = {

@@ -8,8 +8,10 @@ import commanded
 import emergencies
 import from_bind
 import lost
+import offline
 import one_signer
 import running
+import takeovers
 import two_emergencies
 import two_signers
 from lies import LYING, LYING_TWO
@@ -31,6 +33,7 @@ class Scene(NamedTuple):
 
 # The longest come first.
 SCENES = [
+    *(Scene(name, play, "A", False) for name, play in running.HONEST.items()),
     Scene("resolvers-restarted", one_signer.restarted, "A", False),
     *(Scene(name, play, "A", False) for name, play in one_signer.LONG.items()),
     *(Scene(name, play, "AB", False) for name, play in two_signers.HONEST.items()),
@@ -43,7 +46,8 @@ SCENES = [
     Scene("by-command", by_command.tour, "A", False),
     *(Scene(name, play, "A", False) for name, play in commanded.HONEST.items()),
     *(Scene(name, play, "A", False) for name, play in from_bind.HONEST.items()),
-    *(Scene(name, play, "A", False) for name, play in running.HONEST.items()),
+    *(Scene(name, play, "A", False) for name, play in takeovers.HONEST.items()),
+    *(Scene(name, play, "A", False) for name, play in offline.HONEST.items()),
     Scene("server-without-address", commanded.without_address, "AB", False),
     Scene("secondary-comes-back-old", commanded.comes_back_old, "A", True),
 ]
@@ -79,6 +83,8 @@ ONLY_WHOLE = {
     "from-bind-csk",
     "from-bind-serial-by-date",
     *running.HONEST,
+    *takeovers.HONEST,
+    *offline.HONEST,
     "server-without-address",
     "secondary-comes-back-old",
 }

@@ -218,6 +218,16 @@ def _write(path: Path, rows: list[Row]) -> None:
     place.put(draft, path)
 
 
+def valid(taken: Iterable[Row], zone: str, dnskey: list[str], file: keyfiles.KeyFile,
+          now: float) -> Iterator[Row]:
+    """The signatures of a DNSKEY set, of this data, by a key, that are valid at this moment."""
+    name = dns.name.from_text(zone)
+    for row in taken:
+        due = dns.rrset.from_rdata_list(name, row.ttl, [parsed("DNSKEY", it) for it in dnskey])
+        if fits(row, due, file, now):
+            yield row
+
+
 def fits(row: Row, due: dns.rrset.RRset, file: keyfiles.KeyFile, now: float) -> bool:
     """Whether a signature is of this DNSKEY set, by this key, and valid now."""
     rrsig = parsed("RRSIG", row.data)

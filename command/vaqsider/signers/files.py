@@ -18,7 +18,8 @@ from ..arguments import expect_other, file_name
 from ..errors import UNAVAILABLE, Failure
 from ..signing import Nsec3, Task, Tools
 from ..zonefile import By, Due, Row, Zone, parsed
-from . import Key, Sets, Wish, bind, ldns
+from . import Key, Planned, Sets, Wish, bind, ldns
+from .daemon import is_here
 
 if TYPE_CHECKING:
     from ..act import Act
@@ -205,6 +206,24 @@ def lacks(name: str, wanted: Sets) -> Iterator[str]:
     seps = {key.is_sep for key in wanted.signers | wanted.zone}
     if name == "ldns" and False in seps and any(it.is_sep for it in wanted.zone):
         yield "ldns can't sign a zone with a CSK beside a ZSK: use --signer bind"
+
+
+def planned(name: str, script: str, zone: str, folders: list) -> Planned:
+    """The tools of a signer, for a plan: a key that is away signs only by a ceremony."""
+    from .. import ceremony
+
+    taken = ceremony.signatures(script)
+
+    def away(wanted: Sets, now: float) -> Iterator[str]:
+        data = [key.data for key in wanted.dnskey]
+        for key in sorted(wanted.signers, key=str):
+            file = key.file
+            if file and not is_here(file) and not any(
+                    ceremony.valid(taken, zone, data, file, now)):
+                yield f"the private half of {key} isn't here, and it has signed no such DNSKEY " \
+                    "set for that moment: 'vaqsider ceremony' asks for that by --roll"
+
+    return Planned(lambda wanted: lacks(name, wanted), folders, away)
 
 
 def _signing(sets: Sets, names: list[str]) -> Sets:
