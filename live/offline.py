@@ -7,7 +7,7 @@ import shutil
 import time
 
 import running
-from by_command import DUE, ZSK
+from by_command import DUE, TTL, ZSK
 from commanded import expect
 from dnspython import ec, hashes, utils
 from keys import private_key
@@ -29,7 +29,8 @@ class Ceremony:
     async def holds(self, *how):
         """Signs all that is asked for, and brings it back. Gives the signatures."""
         operator, asked = self.operator, self.folder / "asked.json"
-        await operator.type("ceremony", operator.script, "--span", QUARTER, "--out", asked, *how)
+        await operator.type("ceremony", operator.script, "--span", QUARTER,
+                            "--dnskey-ttl", TTL, "--out", asked, *how)
         told = json.loads(asked.read_text())
         for it in told["signatures"]:
             it["signature"] = self.signed(base64.b64decode(it["signs"]))

@@ -22,8 +22,8 @@ from signers import (
 
 # The algorithm of the keys after an algorithm roll.
 OTHER = "14"
-# An act by files or by an API takes longer than this many seconds, and no longer than these.
-SOON, LATE = 0.2, 3
+# An act without tools is killed after so many seconds, and the next one so many later.
+SOON, LATER = 0.2, 0.3
 
 
 # An old key of named signs beside the new one until it leaves: a watch says so of the NS set, and
@@ -88,12 +88,12 @@ class Running(Operator):
 
     async def broken_off(self, *how):
         """Acts that are broken off: before each command of the signer, or before any of them."""
-        break_off = self.failing if self.signer.tools else self.killed
+        break_off, most = (self.failing, 20) if self.signer.tools else (self.killed, 10)
         if self.is_thorough:
             for at in itertools.count(1):
                 if not await break_off(at, *how):
                     return
-        await break_off(self.zone.dice.randint(1, 20), *how)
+        await break_off(self.zone.dice.randint(1, most), *how)
 
     async def failing(self, at, *how):
         """An act in which the command of this number fails. Whether it came to that."""
@@ -115,9 +115,9 @@ class Running(Operator):
             sys.executable, "-m", "vaqsider", *map(str, [*self.words_of_act(), *how]),
             cwd=self.folder, env=self.environment(), stdout=asyncio.subprocess.DEVNULL,
             stderr=asyncio.subprocess.DEVNULL, start_new_session=True)
-        seconds, is_killed = SOON + (at - 1) * (LATE - SOON) / 20, False
+        is_killed = False
         try:
-            await asyncio.wait_for(process.wait(), seconds)
+            await asyncio.wait_for(process.wait(), SOON + (at - 1) * LATER)
         except asyncio.TimeoutError:
             end(process, signal.SIGKILL)
             await process.wait()

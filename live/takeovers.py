@@ -87,13 +87,12 @@ async def taken_over(operator):
     await running.come(operator, running.words_of_import(operator))
     made, looks = time.time() - began, operator.took
     signer.serves = True
-    act = [*operator.words_of_act(), "--no-cds"]
     began = time.time()
-    await operator.type(*act)
+    await operator.type(*operator.words_of_act())
     told = {"looks": len(looks), "one look": looks[-1], "script after": made,
             "the act": time.time() - began}
     (operator.folder / "takeover.json").write_text(json.dumps(told))
-    await operator.give()
+    await operator.compare(False)
     await running.is_right(operator)
     await running.replace_one(operator, "zsk-roll")
     await running.replace_one(operator, "ksk-roll")

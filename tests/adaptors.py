@@ -343,15 +343,19 @@ def hooks():
     if "it says" not in _said(lambda: Hook(ZONE, "echo '{\"dnskey\": -1, \"zone\": 5}'").ttls()):
         yield "hook: a TTL below 0 is taken"
     with folder():
-        keys = make()
+        keys, name = make(), "pkcs11:id=%01"
+        of = keys["K1"].file
+        told = {"reference": of.path.name, "tag": of.tag, "algorithm": 13, "private": name}
+        keys["K1"].file.reference = keyfiles.find(told, ["."]).reference
         hook = Hook(ZONE, 'cat >"$1"; echo "{\\"lacks\\": [\\"x\\"]}"')
         wanted = sets(keys, "K1,Z1 K1 Z1 K1")
         for step in hook.publish(Sets(), wanted, Path()):
             step.run()
         text = Path("publish").read_text()
         of_k1 = re.search(r'\{"key": "K1"[^}]*\}', text)
-        if list(hook.lacks(wanted)) != ["x"] or not of_k1 or '"signers": true' not in of_k1[0] \
-                or '"cds": true' not in of_k1[0] or '"verb": "publish"' not in text:
+        says = ('"signers": true', '"cds": true', '"private": "pkcs11:id=%01"')
+        if list(hook.lacks(wanted)) != ["x"] or not of_k1 or '"verb": "publish"' not in text \
+                or not all(it in of_k1[0] for it in says):
             yield f"a hook is asked {text}"
 
 
