@@ -63,11 +63,10 @@ def offline(maker):
         expect(months > QUARTER, f"signatures of {len(asked)} sets end after {months} seconds")
         await operator.type("plan", operator.script, "zsk-roll", zsk, new,
                             *operator.signer.options())
-        await operator.act()
-        await serves(operator, asked)
-        await operator.roll("zsk-roll", zsk, new)
+        for line in (f"start zsk-roll {zsk} {new} now", None, None):
+            await operator.step(line or await operator.wait("zsk-roll"))
+            await serves(operator, asked)
         await operator.call(f"delete {zsk}")
-        await serves(operator, asked)
         await refused(operator, new, zsk, "--first", f"add {await operator.key(*ZSK)}")
         await operator.watch("--state")
         await operator.type("check", operator.script)

@@ -9,6 +9,7 @@ import re
 import shutil
 import signal
 import sys
+import time
 
 from by_command import DS_TTL, DUE, KSK, OK, TTL, UNAVAILABLE, WARNING, ZSK, Operator
 from dnspython import dns
@@ -36,7 +37,7 @@ class Running(Operator):
 
     def __init__(self, zone, serial=1):
         super().__init__(zone, serial)
-        self.signer, self.path = None, ""
+        self.signer, self.path, self.algorithm = None, "", "13"
         # Whether acts are broken off before each command of the signer, or before any of them.
         self.is_thorough = False
 
@@ -45,8 +46,9 @@ class Running(Operator):
         made.update(self.signer.environment() if self.signer else {})
         return {**made, "PATH": f"{self.path}:{made['PATH']}" if self.path else made["PATH"]}
 
-    async def key(self, *flag, algorithm="13"):
+    async def key(self, *flag):
         """A new key: of the signer, or a file without times, for named would use it at once."""
+        algorithm = self.algorithm
         made = await self.signer.key(*flag, algorithm=algorithm) if self.signer else None
         if made is None:
             made = await super().key(*flag, algorithm=algorithm)
@@ -165,8 +167,9 @@ def tags_given(made):
         return {it.key_tag for it in found or ()}
 
     keys = made.get_rdataset(made.origin, "DNSKEY") or ()
+    both = {made.get_rdataset(made.origin, kind) is not None for kind in ("CDS", "CDNSKEY")}
     return {"dnskey": {dns.dnssec.key_id(it) for it in keys}, "signers": by("DNSKEY"),
-            "zone": by("SOA"), "cds": made.get_rdataset(made.origin, "CDS") is not None}
+            "zone": by("SOA"), "cds": both.pop() if len(both) == 1 else "only one of both"}
 
 
 def rolls(maker):
@@ -202,7 +205,8 @@ async def each_roll(operator):
 
 async def other_algorithm(operator, ksk, zsk):
     """A KSK and a ZSK of another algorithm take the places of these."""
-    new = [await operator.key(*flag, algorithm=OTHER) for flag in (KSK, ZSK)]
+    operator.algorithm = OTHER
+    new = [await operator.key(*flag) for flag in (KSK, ZSK)]
     for key in new:
         await operator.call(f"add {key}")
     await operator.roll("algorithm-roll", f"{ksk},{zsk}", ",".join(new))
@@ -226,7 +230,7 @@ async def end_early(operator, zsk):
 
 async def csk(operator, ksk, zsk):
     """A CSK comes in by a roll, if the signer can do that. Else the plan says that it can't."""
-    new, is_able = await operator.key(*KSK, algorithm=OTHER), operator.signer.rolls_to_csk
+    new, is_able = await operator.key(*KSK), operator.signer.rolls_to_csk
     await operator.call(f"add-csk {new}")
     await operator.type("plan", operator.script, "csk-roll", f"{ksk},{zsk}", new,
                         *operator.signer.options(), ends=(0,) if is_able else (1,))
@@ -325,17 +329,26 @@ async def round_trip(zone):
 
 async def come(operator, words):
     """The import, again and again: first the other system may be in its own roll, then all has to
-    stay the same for longer than every TTL."""
-    seen = set()
+    stay the same for longer than every TTL. What that took is kept, in seconds."""
+    began, looks = time.time(), []
     for _ in range(60):
+        since = time.time()
         status, out = await operator.typed(*words)
-        seen.add(status)
+        looks.append((status, time.time() - since))
         if status == OK and json.loads(out)["lines"]:
-            if DUE not in seen:
+            if DUE not in dict(looks):
                 raise Failed("the script was made at the first look")
+            took(operator, looks=len(looks), look=looks[-1][1], script=time.time() - began)
             return
         await asyncio.sleep(1)
     raise Failed(f"the keys don't come in: {out}")
+
+
+def took(operator, **seconds):
+    """Keeps what a takeover took."""
+    path = operator.folder / "takeover.json"
+    told = json.loads(path.read_text()) if path.exists() else {}
+    path.write_text(json.dumps({**told, **seconds}))
 
 
 async def stop(operator, bind):
@@ -396,5 +409,3 @@ HONEST = {
     "signer-hook": rolls(Hooked),
     "from-bind-to-pdns-to-knot": round_trip,
 }
-# These have not passed whole yet: they are played by their names only.
-BY_NAME = tuple(it for it in HONEST if it.startswith("signer-"))

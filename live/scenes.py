@@ -115,20 +115,15 @@ def is_short(name):
     return name not in ONLY_WHOLE and (not ALIKE.search(name) or name in OF_THEM)
 
 
-def is_played(name, short):
-    """Whether a run plays a scene that nobody has named."""
-    return name not in running.BY_NAME and (is_short(name) or not short)
-
-
 def chosen(names, short, rounds):
-    """The scenes with these names, or all that are played unnamed, or those of the short form. A
-    scene with a lie is played once."""
+    """The scenes with these names, or all, or those of the short form. A scene with a lie is played
+    once."""
     unknown = set(names) - {scene.name for scene in SCENES}
     if unknown:
         raise SystemExit(f"no scene: {' '.join(sorted(unknown))}")
     return [
         scene._replace(round=number)
         for number in range(1, rounds + 1) for scene in SCENES
-        if scene.name in names or not names and is_played(scene.name, short)
+        if scene.name in names or not names and (is_short(scene.name) or not short)
         if number == 1 or not scene.is_lie
     ]

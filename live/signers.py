@@ -346,7 +346,8 @@ class Knot(Signer):
                     if is_past(it[begin]) and not (is_past(it[end]) or is_past(it["remove"]))}
 
         keys = await self.list()
-        return those("publish", "remove"), those("active", "retire") | those("ready", "active")
+        given = those("publish", "remove")
+        return given, those("active", "retire") | those("ready", "active") & given
 
 
 class KnotByPkcs11(Knot):
@@ -454,7 +455,7 @@ class OfBind(OfFiles):
 
 
 class OfLdns(OfFiles):
-    name = "ldns"
+    name, rolls_to_csk = "ldns", True
 
 
 class Hooked(OfFiles):

@@ -48,23 +48,9 @@ class Dnst(OfBind):
         """Nobody runs `dnst keyset cron` here."""
 
 
-class Looking(running.Running):
-    """An operator with a watch: how long each word of the command took."""
-
-    def __init__(self, zone):
-        super().__init__(zone)
-        self.took = []
-
-    async def typed(self, *words):
-        began = time.time()
-        made = await super().typed(*words)
-        self.took.append(time.time() - began)
-        return made
-
-
 def takeover(maker):
     async def scene(zone):
-        operator = Looking(zone)
+        operator = running.Running(zone)
         operator.signer = maker(operator)
         try:
             await operator.signer.start(2)
@@ -83,15 +69,11 @@ async def taken_over(operator):
         await operator.type(*running.words_of_import(operator), ends=(WARNING,))
         await signer.has_ds()
     await signer.is_taken_over()
-    began = time.time()
     await running.come(operator, running.words_of_import(operator))
-    made, looks = time.time() - began, operator.took
     signer.serves = True
     began = time.time()
     await operator.type(*operator.words_of_act())
-    told = {"looks": len(looks), "one look": looks[-1], "script after": made,
-            "the act": time.time() - began}
-    (operator.folder / "takeover.json").write_text(json.dumps(told))
+    running.took(operator, act=time.time() - began)
     await operator.compare(False)
     await running.is_right(operator)
     await running.replace_one(operator, "zsk-roll")

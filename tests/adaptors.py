@@ -117,7 +117,7 @@ def _change(name: str, before: str, after: str):
                 left = _reached(store, known, first)
                 start, todo = len(fake.served), steps(store, known, wanted)
                 _run(todo[:crash])
-                left += _reached(store, known, wanted)
+                left += [*_reached(store, known, wanted), *fake.faults()]
                 served = [it for it in fake.served[start:] if it]
                 left += _reached(store, known, first)
             where = f"{name}: {before} to {after}, crash at {crash}"
@@ -308,7 +308,8 @@ BEHIND = ((0, ""), (1, ""), (4, ""), (10**6, "doesn't give example.com as its ke
 def behind():
     """An act waits until named gives what its keys' times ask for, and not for ever."""
     for count, says in BEHIND:
-        with folder(), mock.patch.multiple(inline, PAUSE=0.001, PATIENCE=0.1):
+        patience = 0.1 if says else 60
+        with folder(), mock.patch.multiple(inline, PAUSE=0.001, PATIENCE=patience):
             keys = make()
             store, fake = of("bind-inline")
             known, wanted = list(keys.values()), sets(keys, "K1,Z1 K1 Z1 K1")

@@ -16,7 +16,8 @@ from typed import folder, typed
 
 DAY = 86400
 KSK, ZSKS = "Kexample.com.+013+64103", (46350, 10133)
-ASK = ["ceremony", "start.script", "--dnskey-ttl", "60", "--out", "asked.json"]
+ASK = ["ceremony", "start.script", "--dnskey-ttl", "60", "--span", "7776000", "--out",
+       "asked.json"]
 TAKE = ["ceremony", "start.script", "--take", "asked.json"]
 ACT = ["act", "start.script", "--zone-file", "zone", "--out", "signed"]
 

@@ -29,6 +29,10 @@ class Fake:
     def __init__(self) -> None:
         self.changes, self.fails_at, self.served = 0, None, []
 
+    def faults(self) -> list[str]:
+        """What no signer may leave, whatever it says of it."""
+        return []
+
     def said(self, words, stdin: str = "", seconds: float = 0) -> str:
         words = list(words)
         if self.is_change(words):
@@ -74,6 +78,10 @@ class Pdns(Fake):
         if zone != self.zone:
             raise Failure(f"pdnsutil: No such zone in the database: {zone}", 69)
         return getattr(self, verb.replace("-", "_"))(*rest) or ""
+
+    def faults(self) -> list[str]:
+        count = {kind: len(data) for kind, data in self.records.items()}
+        return [] if count["CDS"] == count["CDNSKEY"] else [f"records: {count}"]
 
     def show_zone(self) -> str:
         rows = ["This is a Native zone"]
@@ -312,7 +320,8 @@ class Bind(Fake):
                 rest.pop(0)
             value = rest.pop(0)
             text = re.sub(rf"^{name}: .*\n", "", text, flags=re.MULTILINE)
-            text += "" if value == "none" else f"{name}: {NOW - 1}\n"
+            at = {"none": "", "now": f"{name}: {NOW}\n", "now-1": f"{name}: {NOW - 1}\n"}
+            text += at[value]
         path.write_text(text)
         return ""
 
@@ -342,7 +351,9 @@ class Bind(Fake):
 
         signers, zone = by_flags(those("Activate", "Inactive", "Delete"))
         rows = [("DNSKEY", it.data) for it in those("Publish", "Delete")]
-        rows += [("CDNSKEY", it.data) for it in those("SyncPublish", "SyncDelete")]
+        # In the second of its deletion it comes in again.
+        rows += [("CDNSKEY", key.data) for key, told in of
+                 if "SyncPublish" in told and int(told.get("SyncDelete", NOW)) >= NOW]
         rows += [("RRSIG", f"{kind} 13 2 60 19700131000000 19700101000000 {it.tag} example.com. A")
                  for kind, by in (("DNSKEY", signers), ("SOA", zone)) for it in by]
         return SOA + "".join(f"example.com. 60 IN {kind} {data}\n" for kind, data in rows)

@@ -84,7 +84,7 @@ def whiles(lines: list[str], told: dict, args: Namespace, now: int) -> list[Whil
     for words in args.roll or ():
         roll, old, new = _roll(words)
         made.roll(roll, old, new)
-    last = max(now + args.span, made.moment)
+    last = max(now + int(args.span), made.moment)
     steps = [(now, told["published"]), *((it["moment"], it["published"]) for it in made.steps)]
     ends = [*(moment for moment, _ in steps[1:]), last]
     found: dict[tuple[frozenset[str], frozenset[str]], While] = {}

@@ -181,8 +181,9 @@ class Inline:
         elif is_in:
             times += ["-I", "now"] if signed else ["-A", "none", "-I", "none"]
         if has_cds != had_cds:
+            # In the second of its deletion named publishes CDS anew, if it signs twice.
             sync = ["-P", "sync", "now", "-D", "sync", "none"] if has_cds else [
-                "-D", "sync", "now"]
+                "-D", "sync", "now-1"]
             times += sync
         file = key.at_hand()
         words = ("dnssec-settime", *times, str(file.path))
