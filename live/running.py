@@ -1,6 +1,6 @@
-"""Scenes of each signer: the tools of BIND and ldns, PowerDNS, Knot, named and a hook sign the zone,
-and the operator types only the command. Before each act that ends well another one is broken off: a
-command of the signer fails, or the act is killed."""
+"""Scenes of each signer: the tools of BIND and ldns, PowerDNS, Knot, named and a hook sign the
+zone, and the operator types only the command. Before each act that ends well another one is broken
+off: a command of the signer fails, or the act is killed."""
 
 import asyncio
 import itertools
@@ -13,7 +13,7 @@ import time
 
 from by_command import DS_TTL, DUE, KSK, OK, TTL, UNAVAILABLE, WARNING, ZSK, Operator
 from dnspython import dns
-from from_bind import HERE, Bind, free_port, publish
+from from_bind import HERE, Bind, free_port, is_signed, publish
 from keys import Version, plain_records, run
 from processes import Failed, end, outcome
 from signers import (
@@ -25,8 +25,6 @@ from signers import (
 OTHER = "14"
 # An act without tools is killed after so many seconds, and the next one so many later.
 SOON, LATER = 0.2, 0.3
-
-
 # An old key of named signs beside the new one until it leaves: a watch says so of the NS set, and
 # reports nothing less for that.
 BESIDE, LACK = "NS signed by", re.compile(r"127\.\S+: ")
@@ -201,6 +199,8 @@ async def each_roll(operator):
     await csk(operator, ksk, zsk)
     await operator.type("check", operator.script)
     await again(operator)
+    if not is_signed(await operator.signer.given(), operator.signer.denial):
+        raise Failed(f"{operator.zone.name} isn't signed with {operator.signer.denial}")
 
 
 async def other_algorithm(operator, ksk, zsk):

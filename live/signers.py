@@ -1,5 +1,5 @@
-"""The signers of the scenes: the tools of BIND and ldns, PowerDNS, Knot, named and a hook. Each has a
-folder of its own, with its settings, its process and its database."""
+"""The signers of the scenes: the tools of BIND and ldns, PowerDNS, Knot, named and a hook. Each has
+a folder of its own, with its settings, its process and its database."""
 
 import asyncio
 import base64
@@ -116,9 +116,10 @@ def is_past(moment):
 class Signer:
     """A signer of one zone."""
 
-    # The tools by which the command has it work; the name of its source for `import`; and whether
-    # it signs by a CSK beside the KSK and the ZSK of its algorithm, as a CSK roll wants.
-    tools, source, rolls_to_csk = (), None, False
+    # The tools by which the command has it work; the name of its source for `import`; whether it
+    # signs by a CSK beside the KSK and the ZSK of its algorithm, as a CSK roll wants; and how the
+    # zone denies.
+    tools, source, rolls_to_csk, denial = (), None, False, "NSEC"
 
     def __init__(self, operator):
         self.operator, self.zone, self.port = operator, operator.zone, free_port()
@@ -260,9 +261,9 @@ class PdnsOfItsOwnKeys(Pdns):
 
 
 class PdnsByApi(Pdns):
-    """By its API, on PostgreSQL."""
+    """By its API, on PostgreSQL, with NSEC3."""
 
-    name, tools, source = "pdns-api", (), "pdns-api"
+    name, tools, source, denial = "pdns-api", (), "pdns-api", "NSEC3"
 
     async def database(self):
         self.api, secret = free_port(), self.folder / "secret"
@@ -277,6 +278,9 @@ class PdnsByApi(Pdns):
     def options(self):
         return ["--signer", f"pdns-api http://{HERE}:{self.api}", "--signer-config",
                 self.folder / "secret"]
+
+    def files(self):
+        return ["--nsec3", "1 0 0 -"]
 
     def source_options(self):
         return ["--source", f"http://{HERE}:{self.api}", "--store", self.folder / "secret"]
@@ -372,7 +376,8 @@ class KnotByPkcs11(Knot):
         return "env", f"SOFTHSM2_CONF={self.settings}", str(copy)
 
     async def with_token(self, tool, *words):
-        return await run(self.folder, "env", f"SOFTHSM2_CONF={self.settings}", program(tool), *words)
+        setting = f"SOFTHSM2_CONF={self.settings}"
+        return await run(self.folder, "env", setting, program(tool), *words)
 
     async def keymgr(self, *words):
         return await self.with_token("keymgr", "-c", "knot.conf", self.zone.name, *words)

@@ -1,6 +1,6 @@
-"""Scenes in which another system has signed a zone by keys of its own: docs/COMING-FROM.md. Its keys
-come in, its signer goes on by the command, and each key rolls. `takeover.json` in the folder of the
-scene's keys says what that took."""
+"""Scenes in which another system has signed a zone by keys of its own: docs/COMING-FROM.md. Its
+keys come in, its signer goes on by the command, and each key rolls. `takeover.json` in the folder
+of the scene's keys says what that took."""
 
 import asyncio
 import json

@@ -560,8 +560,8 @@ def without_dnspython():
                 yield f"{words} without dnspython: {done.returncode}: {done.stderr}"
 
 
-CHECKS = (without_dnspython, courses, lacks, wrong, private, behind, hooks, wires, names, typed_acts,
-          nsec3, deaf, typed_wrongly)
+CHECKS = (without_dnspython, courses, lacks, wrong, private, behind, hooks, wires, names,
+          typed_acts, nsec3, deaf, typed_wrongly)
 COUNT = sum(2 * len(it) - 2 for it in COURSES.values()) + len(LACKS) + len(WRONG) \
     + len(BEHIND) + len(HOOKS) + len(WIRES) + len(TYPED)
 
