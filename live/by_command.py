@@ -56,10 +56,10 @@ class Operator:
             raise Failed(f"vaqsider {' '.join(map(str, words))}: {status}: {out}{err}")
         return out
 
-    async def key(self, *flag):
+    async def key(self, *flag, algorithm="13"):
         """A new key file."""
         return (await run(
-            self.folder, "dnssec-keygen", "-q", "-a", "13", *flag, self.zone.name
+            self.folder, "dnssec-keygen", "-q", "-a", algorithm, *flag, self.zone.name
         )).strip() + ".key"
 
     async def call(self, line):

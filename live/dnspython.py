@@ -13,6 +13,7 @@ try:
     import dns.rrset
     import dns.serial
     import dns.zone
-    from cryptography.hazmat.primitives.asymmetric import ec
+    from cryptography.hazmat.primitives import hashes
+    from cryptography.hazmat.primitives.asymmetric import ec, utils
 except ModuleNotFoundError:
-    dns = ec = None
+    dns = ec = hashes = utils = None

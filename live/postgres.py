@@ -1,8 +1,10 @@
 """PostgreSQL in a folder of its own, without TCP. It refuses to run as root: then it runs as
 Debian's user for it."""
 
+import json
 import os
 import shutil
+import signal
 import subprocess
 import tempfile
 import time
@@ -65,6 +67,14 @@ class Postgres:
         self.run(tool("psql"), "-q", "-X", "-h", self.folder, "-U", NAME, "-v", "ON_ERROR_STOP=1",
                  "-d", database, *words)
 
+    def rows(self, query):
+        """What a query gives."""
+        how = ["-q", "-X", "-A", "-t", "-h", self.folder, "-U", NAME, "-d", NAME]
+        words = [tool("psql"), *how, "-c",
+                 f"SELECT coalesce(json_agg(it), '[]') FROM ({query}) it"]
+        told = subprocess.check_output([*self.words, *map(str, words)], cwd=self.folder, text=True)
+        return [tuple(it.values()) for it in json.loads(told)]
+
     def run(self, *words):
         subprocess.run([*self.words, *map(str, words)], check=True, cwd=self.folder,
                        stdout=subprocess.DEVNULL, stderr=subprocess.DEVNULL)
@@ -75,7 +85,8 @@ class Postgres:
                 f"gpgsql-user={NAME}\ngpgsql-dnssec=yes\n")
 
     def end(self):
+        """It waits for nobody who is still connected."""
         if self.process is not None:
-            self.process.terminate()
+            self.process.send_signal(signal.SIGINT)
             self.process.wait(PATIENCE)
         shutil.rmtree(self.folder, ignore_errors=True)

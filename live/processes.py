@@ -7,7 +7,9 @@ import signal
 import socket
 import subprocess
 import time
+from pathlib import Path
 
+import postgres
 from places import ALL
 
 # Debian's package for each program that is run.
@@ -23,10 +25,19 @@ PACKAGES = {
     "dnssec-settime": "bind9-utils",
     "rndc": "bind9-utils",
     "keymgr": "knot",
+    "ldns-signzone": "ldnsutils",
     "pdns_recursor": "pdns-recursor",
     "pdns_server": "pdns-server",
     "pdnsutil": "pdns-server",
+    "pdns_control": "pdns-server",
     "setpriv": "util-linux",
+    "softhsm2-util": "softhsm2",
+}
+# Those without a program in the folders of programs.
+LIBRARIES = {
+    "pdns-backend-sqlite3": Path("/usr/share/doc/pdns-backend-sqlite3/schema.sqlite3.sql").exists,
+    "pdns-backend-pgsql": postgres.SCHEMA.exists,
+    "postgresql": lambda: postgres.tool("postgres") is not None,
 }
 PATHS = os.pathsep.join((os.environ.get("PATH", ""), "/usr/sbin", "/sbin"))
 
@@ -42,7 +53,8 @@ def program(name):
 
 def missing():
     """The packages of the programs that are not there."""
-    return sorted({package for name, package in PACKAGES.items() if not program(name)})
+    found = {package for name, package in PACKAGES.items() if not program(name)}
+    return sorted(found | {package for package, has in LIBRARIES.items() if not has()})
 
 
 def is_taken(port):

@@ -8,8 +8,10 @@ import commanded
 import emergencies
 import from_bind
 import lost
+import offline
 import one_signer
 import running
+import takeovers
 import two_emergencies
 import two_signers
 from lies import LYING, LYING_TWO
@@ -31,6 +33,7 @@ class Scene(NamedTuple):
 
 # The longest come first.
 SCENES = [
+    *(Scene(name, play, "A", False) for name, play in running.HONEST.items()),
     Scene("resolvers-restarted", one_signer.restarted, "A", False),
     *(Scene(name, play, "A", False) for name, play in one_signer.LONG.items()),
     *(Scene(name, play, "AB", False) for name, play in two_signers.HONEST.items()),
@@ -43,7 +46,8 @@ SCENES = [
     Scene("by-command", by_command.tour, "A", False),
     *(Scene(name, play, "A", False) for name, play in commanded.HONEST.items()),
     *(Scene(name, play, "A", False) for name, play in from_bind.HONEST.items()),
-    *(Scene(name, play, "A", False) for name, play in running.HONEST.items()),
+    *(Scene(name, play, "A", False) for name, play in takeovers.HONEST.items()),
+    *(Scene(name, play, "A", False) for name, play in offline.HONEST.items()),
     Scene("server-without-address", commanded.without_address, "AB", False),
     Scene("secondary-comes-back-old", commanded.comes_back_old, "A", True),
 ]
@@ -79,6 +83,8 @@ ONLY_WHOLE = {
     "from-bind-csk",
     "from-bind-serial-by-date",
     *running.HONEST,
+    *takeovers.HONEST,
+    *offline.HONEST,
     "server-without-address",
     "secondary-comes-back-old",
 }
@@ -109,20 +115,15 @@ def is_short(name):
     return name not in ONLY_WHOLE and (not ALIKE.search(name) or name in OF_THEM)
 
 
-def is_played(name, short):
-    """Whether a run plays a scene that nobody has named."""
-    return name not in running.BY_NAME and (is_short(name) or not short)
-
-
 def chosen(names, short, rounds):
-    """The scenes with these names, or all that are played unnamed, or those of the short form. A
-    scene with a lie is played once."""
+    """The scenes with these names, or all, or those of the short form. A scene with a lie is played
+    once."""
     unknown = set(names) - {scene.name for scene in SCENES}
     if unknown:
         raise SystemExit(f"no scene: {' '.join(sorted(unknown))}")
     return [
         scene._replace(round=number)
         for number in range(1, rounds + 1) for scene in SCENES
-        if scene.name in names or not names and is_played(scene.name, short)
+        if scene.name in names or not names and (is_short(scene.name) or not short)
         if number == 1 or not scene.is_lie
     ]

@@ -21,7 +21,7 @@ import testkeys
 from typed import TOP, folder, typed
 from vaqsider import keyfiles
 from vaqsider.errors import Failure
-from vaqsider.signers import DELETION, Key, Sets, pdns_api
+from vaqsider.signers import DELETION, Key, Sets, inline, pdns_api
 from vaqsider.signers.hook import Hook
 from vaqsider.signers.inline import Inline
 from vaqsider.signers.knot import Knot
@@ -117,7 +117,7 @@ def _change(name: str, before: str, after: str):
                 left = _reached(store, known, first)
                 start, todo = len(fake.served), steps(store, known, wanted)
                 _run(todo[:crash])
-                left += _reached(store, known, wanted)
+                left += [*_reached(store, known, wanted), *fake.faults()]
                 served = [it for it in fake.served[start:] if it]
                 left += _reached(store, known, first)
             where = f"{name}: {before} to {after}, crash at {crash}"
@@ -301,6 +301,28 @@ def private():
                 yield "knot: a key is used as soon as it is imported"
 
 
+# How many syncs named is behind the times of its keys, and what is said in the end.
+BEHIND = ((0, ""), (1, ""), (4, ""), (10**6, "doesn't give example.com as its keys have it"))
+
+
+def behind():
+    """An act waits until named gives what its keys' times ask for, and not for ever."""
+    for count, says in BEHIND:
+        patience = 0.1 if says else 60
+        with folder(), mock.patch.multiple(inline, PAUSE=0.001, PATIENCE=patience):
+            keys = make()
+            store, fake = of("bind-inline")
+            known, wanted = list(keys.values()), sets(keys, "K1,Z1 K1 Z1 K1")
+            with fake.installed():
+                _run(steps(store, known, wanted))
+                fake.behind = count
+                wanted = sets(keys, FIRST)
+                said = _said(lambda: _run(steps(store, known, wanted)))
+                left = [] if says else list(store.given().differences(wanted))
+            if left or bool(said) != bool(says) or says not in said or says and "CDS" not in said:
+                yield f"named is {count} syncs behind: {left} {said!r}"
+
+
 # What a hook prints, and what is said of it.
 HOOKS = (
     ("echo '{'", "what it says is no JSON"), ("echo '[]'", "what it says is no JSON"),
@@ -322,15 +344,19 @@ def hooks():
     if "it says" not in _said(lambda: Hook(ZONE, "echo '{\"dnskey\": -1, \"zone\": 5}'").ttls()):
         yield "hook: a TTL below 0 is taken"
     with folder():
-        keys = make()
+        keys, name = make(), "pkcs11:id=%01"
+        of = keys["K1"].file
+        told = {"reference": of.path.name, "tag": of.tag, "algorithm": 13, "private": name}
+        keys["K1"].file.reference = keyfiles.find(told, ["."]).reference
         hook = Hook(ZONE, 'cat >"$1"; echo "{\\"lacks\\": [\\"x\\"]}"')
         wanted = sets(keys, "K1,Z1 K1 Z1 K1")
         for step in hook.publish(Sets(), wanted, Path()):
             step.run()
         text = Path("publish").read_text()
         of_k1 = re.search(r'\{"key": "K1"[^}]*\}', text)
-        if list(hook.lacks(wanted)) != ["x"] or not of_k1 or '"signers": true' not in of_k1[0] \
-                or '"cds": true' not in of_k1[0] or '"verb": "publish"' not in text:
+        says = ('"signers": true', '"cds": true', '"private": "pkcs11:id=%01"')
+        if list(hook.lacks(wanted)) != ["x"] or not of_k1 or '"verb": "publish"' not in text \
+                or not all(it in of_k1[0] for it in says):
             yield f"a hook is asked {text}"
 
 
@@ -534,10 +560,10 @@ def without_dnspython():
                 yield f"{words} without dnspython: {done.returncode}: {done.stderr}"
 
 
-CHECKS = (without_dnspython, courses, lacks, wrong, private, hooks, wires, names, typed_acts, nsec3, deaf,
-          typed_wrongly)
-COUNT = sum(2 * len(it) - 2 for it in COURSES.values()) + len(LACKS) + len(WRONG) + len(HOOKS) \
-    + len(WIRES) + len(TYPED)
+CHECKS = (without_dnspython, courses, lacks, wrong, private, behind, hooks, wires, names,
+          typed_acts, nsec3, deaf, typed_wrongly)
+COUNT = sum(2 * len(it) - 2 for it in COURSES.values()) + len(LACKS) + len(WRONG) \
+    + len(BEHIND) + len(HOOKS) + len(WIRES) + len(TYPED)
 
 
 def faults():

@@ -16,7 +16,8 @@ from typed import folder, typed
 
 DAY = 86400
 KSK, ZSKS = "Kexample.com.+013+64103", (46350, 10133)
-ASK = ["ceremony", "start.script", "--dnskey-ttl", "60", "--out", "asked.json"]
+ASK = ["ceremony", "start.script", "--dnskey-ttl", "60", "--span", "7776000", "--out",
+       "asked.json"]
 TAKE = ["ceremony", "start.script", "--take", "asked.json"]
 ACT = ["act", "start.script", "--zone-file", "zone", "--out", "signed"]
 
@@ -106,6 +107,40 @@ def planned():
             yield f"a ceremony with a roll ends with {status}: {said}{sizes}"
 
 
+# Signers of a plan, when it begins, and whether it has a ceremony for each set.
+PLANS = (("bind", 206, True), ("ldns", 206, True), ("bind", 206 + 300 * DAY, False))
+
+
+def refused():
+    """A plan refuses a roll that no ceremony has signed, or not for that time. The sets that are
+    published now are signed."""
+    with folder():
+        begin()
+        tag, data = testkeys.add(13, 256)
+        new, old = f"Kexample.com.+013+{tag:05}.key", "Kexample.com.+013+10133.key"
+        Path(new).write_text(f"example.com. IN DNSKEY {data}\n")
+        Path(new).with_suffix(".private").touch()
+        first = ["--ttls", "60", "60", "60", "--delays", "1", "1", "1",
+                 "--first", "abort zsk-roll", "--first", f"add {new}"]
+        plan = ["plan", "start.script", "zsk-roll", old, new, *first]
+        says = f"{KSK}.key isn't here, and it has signed no such DNSKEY set"
+        yield from _planned(plan, [(*row[:2], False) for row in PLANS], says)
+        typed([*ASK, *first, "--roll", f"zsk-roll {old} {new}"], 205)
+        fill()
+        typed(TAKE, 206)
+        yield from _planned(plan, PLANS, says)
+        said, status = typed(plan, 206)
+        if status:
+            yield f"a plan without a signer ends with {status}: {said}"
+
+
+def _planned(plan, rows, says):
+    for signer, start, is_signed in rows:
+        said, status = typed([*plan, "--signer", signer, "--start", str(start)], 206)
+        if status != (0 if is_signed else 1) or (says in said) == is_signed:
+            yield f"a plan at {start} by {signer} ends with {status}: {said}"
+
+
 def _other_set(it: dict) -> None:
     it["dnskey"] = it["dnskey"][:-1]
 
@@ -168,8 +203,8 @@ def typed_wrongly():
                 yield f"{' '.join(words)}: {status}: {said}"
 
 
-CHECKS = (signed_ahead, put_in, planned, wrong, typed_wrongly)
-COUNT = len(WRONG) + len(TYPED) + 6
+CHECKS = (signed_ahead, put_in, planned, refused, wrong, typed_wrongly)
+COUNT = len(WRONG) + len(TYPED) + 2 * len(PLANS) + 6
 
 
 def faults():

@@ -4,6 +4,7 @@ in progress; and what `import` does then with servers that are files."""
 from __future__ import annotations
 
 import json
+import re
 from argparse import Namespace
 from pathlib import Path
 from unittest import mock
@@ -15,9 +16,10 @@ import adaptors
 import stores
 import testkeys
 from typed import TOP, folder, typed
+from vaqsider import importing, keyfiles
 from vaqsider.errors import Failure
 from vaqsider.signers import Key
-from vaqsider.sources import bind, dnst, knot, opendnssec, pdns
+from vaqsider.sources import Found, Told, bind, dnst, knot, opendnssec, pdns
 
 ZONE = "example.com"
 STATE = """; This is the state of key {tag}, for example.com.
@@ -336,6 +338,37 @@ def come():
             yield f"import over a script ends with {ends}: {said}"
 
 
+# Sources whose private halves stay where they are, and what these are called.
+STAY = {"Knot": r"knot:id\d+", "OpenDNSSEC": r"pkcs11:id=(%[0-9a-f]{2})+"}
+
+
+def references():
+    """What a private half is called that stays in its store, by its source and in the script; but
+    one that is here is a file."""
+    for name, tell, _, _ in ROWS:
+        if name in STAY:
+            with folder():
+                found = {it.reference for it in tell(adaptors.make()).keys}
+            if len(found) != 2 or not all(re.fullmatch(STAY[name], str(it)) for it in found):
+                yield f"{name} calls private halves {found}"
+    for is_here, wanted in ((False, f"{KSK} knot:id 13"), (True, f"{KSK} {KSK[:-4]}.private 13")):
+        with folder(), mock.patch.dict(importing.SOURCES, bind=_stored):
+            serve()
+            if is_here:
+                Path(KSK).with_suffix(".private").touch()
+            said, ends = typed([*ASKED, "--unchanged"], 1000)
+            text = Path("new.script").read_text() if Path("new.script").exists() else ""
+        if ends or wanted not in text:
+            yield f"an import of keys in a store ends with {ends}: {said}{text}"
+
+
+def _stored(*_):
+    """The keys of the zone that is served, as a store has them."""
+    keys = ((Key.of(keyfiles.read(it).data), it == KSK) for it in (KSK, ZSK))
+    return Told([Found(key, is_ksk, not is_ksk, reference="knot:id") for key, is_ksk in keys],
+                [], [])
+
+
 def signed_by_others():
     """No script is made of a zone that other keys sign."""
     with folder(), stores.Bind(Path()).installed():
@@ -345,8 +378,8 @@ def signed_by_others():
             yield f"import of a zone that others sign ends with {ends}: {said}"
 
 
-CHECKS = (rows, pems, come, signed_by_others)
-COUNT = len(ROWS)
+CHECKS = (rows, pems, come, references, signed_by_others)
+COUNT = len(ROWS) + len(STAY) + 2
 
 
 def faults():

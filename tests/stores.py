@@ -29,6 +29,10 @@ class Fake:
     def __init__(self) -> None:
         self.changes, self.fails_at, self.served = 0, None, []
 
+    def faults(self) -> list[str]:
+        """What no signer may leave, whatever it says of it."""
+        return []
+
     def said(self, words, stdin: str = "", seconds: float = 0) -> str:
         words = list(words)
         if self.is_change(words):
@@ -74,6 +78,10 @@ class Pdns(Fake):
         if zone != self.zone:
             raise Failure(f"pdnsutil: No such zone in the database: {zone}", 69)
         return getattr(self, verb.replace("-", "_"))(*rest) or ""
+
+    def faults(self) -> list[str]:
+        count = {kind: len(data) for kind, data in self.records.items()}
+        return [] if count["CDS"] == count["CDNSKEY"] else [f"records: {count}"]
 
     def show_zone(self) -> str:
         rows = ["This is a Native zone"]
@@ -279,11 +287,13 @@ class Knot(Fake):
 
 
 class Bind(Fake):
-    """What dnssec-settime and rndc do. Times are in the files of the keys."""
+    """What dnssec-settime and rndc do. Times are in the files of the keys. named gives what they
+    ask for some syncs later."""
 
     def __init__(self, folder: Path) -> None:
         super().__init__()
         self.folder, self.policy, self.status = folder, False, "key maintenance: automatic"
+        self.behind = 0
 
     def is_change(self, words) -> bool:
         return words[0] == "dnssec-settime" and "-p" not in words
@@ -295,7 +305,7 @@ class Bind(Fake):
         if words[0] == "rndc":
             return self._control(words)
         path = Path(words[-1]).with_suffix(".private")
-        told = dict(re.findall(r"^(\w+): (\d+)$", path.read_text(), re.MULTILINE))
+        told = self._times(path)
         if "-p" in words:
             names = {"SYNC Publish": "SyncPublish", "SYNC Delete": "SyncDelete"}
             every = ("Created", *sorted(inline.TIMES), "DS Publish")
@@ -310,16 +320,46 @@ class Bind(Fake):
                 rest.pop(0)
             value = rest.pop(0)
             text = re.sub(rf"^{name}: .*\n", "", text, flags=re.MULTILINE)
-            text += "" if value == "none" else f"{name}: {NOW - 1}\n"
+            at = {"none": "", "now": f"{name}: {NOW}\n", "now-1": f"{name}: {NOW - 1}\n"}
+            text += at[value]
         path.write_text(text)
         return ""
+
+    @staticmethod
+    def _times(path: Path) -> dict[str, str]:
+        return dict(re.findall(r"^(\w+): (\d+)$", path.read_text(), re.MULTILINE))
 
     def _control(self, words) -> str:
         if "zonestatus" in words:
             return f"name: example.com\nsigned serial: 7\n{self.status}\n"
         if "-status" in words:
             return "dnssec-policy: p\n" if self.policy else "Zone does not have dnssec-policy\n"
+        if "sync" in words:
+            self.behind -= 1
+            if self.behind < 0 or not Path("zone.signed").exists():
+                Path("zone.signed").write_text(self._signed() if self.behind < 0 else SOA)
+            return ""
         return "Done signing with key 1/ECDSAP256SHA256\nSigning with key 9/ECDSAP256SHA256\n"
+
+    def _signed(self) -> str:
+        """The signed zone, by the times of the keys."""
+        of = [(Key.of(keyfiles.read(path.with_suffix(".key")).data), self._times(path))
+              for path in sorted(self.folder.glob("K*.private"))]
+
+        def those(begin: str, *ends: str) -> list[Key]:
+            return [key for key, told in of if begin in told and not told.keys() & set(ends)]
+
+        signers, zone = by_flags(those("Activate", "Inactive", "Delete"))
+        rows = [("DNSKEY", it.data) for it in those("Publish", "Delete")]
+        # In the second of its deletion it comes in again.
+        rows += [("CDNSKEY", key.data) for key, told in of
+                 if "SyncPublish" in told and int(told.get("SyncDelete", NOW)) >= NOW]
+        rows += [("RRSIG", f"{kind} 13 2 60 19700131000000 19700101000000 {it.tag} example.com. A")
+                 for kind, by in (("DNSKEY", signers), ("SOA", zone)) for it in by]
+        return SOA + "".join(f"example.com. 60 IN {kind} {data}\n" for kind, data in rows)
+
+
+SOA = "example.com. 60 IN SOA ns. h. 7 3600 600 86400 60\n"
 
 
 def asked_by(answers: dict):

@@ -76,13 +76,14 @@ def _history(path, lines):
 
 
 def completed(text, clock):
-    """The line of a call, with the key of the file that `add FILE` or `add-csk FILE` names, and
-    with the moment for `now`. A report is made once the clock has reached its moment."""
+    """The line of a call, with the key of the file that `add FILE` or `add-csk FILE` names, and a
+    reference of its private half if that comes too; and with the moment for `now`. A report is made
+    once the clock has reached its moment."""
     if "\n" in text:
         raise Failure("a line of a script has no line feed in it")
     word, *fields = text.split(" ")
-    if word in ("add", "add-csk") and len(fields) == 1:
-        return keyfiles.read(fields[0]).line(word == "add-csk")
+    if word in ("add", "add-csk") and len(fields) in (1, 2):
+        return keyfiles.read(fields[0]).line(word == "add-csk", *fields[1:])
     line = forms.at(text, clock())
     if line != text:
         reach(forms.Line(line).moment, clock)

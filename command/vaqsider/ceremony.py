@@ -84,7 +84,7 @@ def whiles(lines: list[str], told: dict, args: Namespace, now: int) -> list[Whil
     for words in args.roll or ():
         roll, old, new = _roll(words)
         made.roll(roll, old, new)
-    last = max(now + args.span, made.moment)
+    last = max(now + int(args.span), made.moment)
     steps = [(now, told["published"]), *((it["moment"], it["published"]) for it in made.steps)]
     ends = [*(moment for moment, _ in steps[1:]), last]
     found: dict[tuple[frozenset[str], frozenset[str]], While] = {}
@@ -216,6 +216,16 @@ def _write(path: Path, rows: list[Row]) -> None:
         file.flush()
         os.fsync(file.fileno())
     place.put(draft, path)
+
+
+def valid(taken: Iterable[Row], zone: str, dnskey: list[str], file: keyfiles.KeyFile,
+          now: float) -> Iterator[Row]:
+    """The signatures of a DNSKEY set, of this data, by a key, that are valid at this moment."""
+    name = dns.name.from_text(zone)
+    for row in taken:
+        due = dns.rrset.from_rdata_list(name, row.ttl, [parsed("DNSKEY", it) for it in dnskey])
+        if fits(row, due, file, now):
+            yield row
 
 
 def fits(row: Row, due: dns.rrset.RRset, file: keyfiles.KeyFile, now: float) -> bool:

@@ -73,7 +73,7 @@ def come(args: Namespace, clock: Callable[[], float]) -> Came:
     if not (any(it.signs_keys for it in told.keys) and any(it.signs_zone for it in told.keys)):
         raise Failure(f"{args.SYSTEM} has no keys that sign {zone}", WARNING)
     folder = Path((args.keys or [script.parent])[0])
-    files = [(_file(it, zone, folder), it.is_csk) for it in told.keys]
+    files = [(_of(it, zone, folder), it.is_csk) for it in told.keys]
     return _looked(args, script, zone, files, told, clock)
 
 
@@ -97,7 +97,7 @@ def _looked(args, script, zone, files, told, clock) -> Came:
 
 def _lines(zone: str, files, moment: int) -> list[str]:
     """The first lines of a script, by which these keys come in at a moment."""
-    added = [(file, file.line(is_csk)) for file, is_csk in files]
+    added = [(file, file.line(is_csk, file.reference)) for file, is_csk in files]
     return calling.first_lines(zone, added, moment)
 
 
@@ -129,6 +129,13 @@ def _write(path: Path, told: dict) -> None:
         file.flush()
         os.fsync(file.fileno())
     place.put(draft, path)
+
+
+def _of(found: Found, zone: str, folder: Path) -> keyfiles.KeyFile:
+    """The key file of a key, with what its private half is called if that stays where it is."""
+    file = _file(found, zone, folder)
+    file.reference = None if file.private.is_file() else found.reference
+    return file
 
 
 def _file(found: Found, zone: str, folder: Path) -> keyfiles.KeyFile:

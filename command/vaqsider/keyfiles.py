@@ -24,6 +24,9 @@ CREATED = re.compile(r"^;\s*Created:\s*(\d{14})", re.MULTILINE)
 class KeyFile:
     """A public key in a file."""
 
+    # What a script calls its private half, if it is known.
+    reference = None
+
     def __init__(self, path):
         self.path = Path(path)
         if self.path.suffix != ".key":
@@ -50,10 +53,11 @@ class KeyFile:
         """The file of the private half. It may be away."""
         return self.path.with_suffix(".private")
 
-    def line(self, is_csk):
-        """The line that adds the key: as a CSK, or as what its SEP flag says."""
+    def line(self, is_csk, reference=None):
+        """The line that adds the key: as a CSK, or as what its SEP flag says. Its private half is
+        where the reference says, or is the file beside it."""
         word = "add-csk" if is_csk else "add-ksk" if self.is_sep else "add-zsk"
-        reference = self.private.name if self.private.is_file() else "-"
+        reference = reference or (self.private.name if self.private.is_file() else "-")
         parts = word, self.path.name, reference, self.algorithm, self.tag, self.creation, "yes"
         return " ".join(map(str, parts))
 
@@ -85,6 +89,7 @@ def find(key, folders):
             file = read(path)
             if (file.tag, file.algorithm) != (key["tag"], key["algorithm"]):
                 raise Failure(f"{path}: its tag or algorithm isn't that of the script", BROKEN)
+            file.reference = key.get("private")
             return file
     places = ", ".join(map(str, folders))
     raise Failure(f"no key file for {key['reference']} in {places}", UNAVAILABLE)

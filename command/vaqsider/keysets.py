@@ -9,7 +9,6 @@ from typing import Iterable, Iterator
 
 import dns.dnssec
 import dns.name
-import dns.rrset
 
 from . import keyfiles
 from .errors import UNAVAILABLE, Failure
@@ -140,9 +139,5 @@ class KeySets:
             return
         from . import ceremony
 
-        for row in self.taken:
-            due = dns.rrset.from_rdata_list(
-                dns.name.from_text(self.origin), row.ttl,
-                [parsed("DNSKEY", file.data) for file in self.of("dnskey")])
-            if ceremony.fits(row, due, self.files[name], now):
-                yield row
+        data = [file.data for file in self.of("dnskey")]
+        yield from ceremony.valid(self.taken, self.origin, data, self.files[name], now)

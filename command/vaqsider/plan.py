@@ -27,6 +27,8 @@ class Plan:
         self.keys = KeySet.resume(script, allow_refused=True)
         self.moment, self.ttls, self.delays, self.steps = moment, ttls, delays, []
         self.signer = signer
+        # The DNSKEY set before the plan: servers have it, with its signatures.
+        self.present = set(self.keys.published.dnskey)
 
     def call(self, text):
         """Makes a call, and gives the kinds of sets that it asks to watch."""
@@ -55,7 +57,10 @@ class Plan:
         of = {kind: frozenset(keys[name] for name in names) for kind, names in published.items()}
         cds = of["ds"] or frozenset([Key(DELETION)])
         cds = cds if Action.CREATE_CDS_RRSET in actions else frozenset()
-        lacks = list(self.signer.lacks(Sets(of["dnskey"], of["signers"], of["zone"], cds)))
+        wanted = Sets(of["dnskey"], of["signers"], of["zone"], cds)
+        lacks = list(self.signer.lacks(wanted))
+        if set(published["dnskey"]) != self.present:
+            lacks += self.signer.away(wanted, self.moment)
         if lacks:
             raise Failure(f"{line}: {'; '.join(lacks)}", DUE)
 

@@ -194,10 +194,12 @@ def of(args: Namespace, act) -> Signer:
 
 @dataclass(frozen=True)
 class Planned:
-    """A signer, for a plan: where its key files are, and what of sets it can't do."""
+    """A signer, for a plan: where its key files are, what of sets it can't do, and which keys that
+    are away can't sign another DNSKEY set than the present one at a moment."""
 
     lacks: Callable[[Sets], Iterator[str]]
     folders: list
+    away: Callable[[Sets, float], Iterator[str]] = lambda *_: iter(())
 
 
 def planned(args: Namespace, zone: str) -> Planned | None:
@@ -209,7 +211,7 @@ def planned(args: Namespace, zone: str) -> Planned | None:
     if name in ("bind", "ldns"):
         from . import files
 
-        return Planned(lambda wanted: files.lacks(name, wanted), folders)
+        return files.planned(name, args.SCRIPT, zone.rstrip(".") + ".", folders)
     return Planned(store(name, command, args, zone.rstrip(".") + ".").lacks, folders)
 
 

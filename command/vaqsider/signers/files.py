@@ -18,7 +18,8 @@ from ..arguments import expect_other, file_name
 from ..errors import UNAVAILABLE, Failure
 from ..signing import Nsec3, Task, Tools
 from ..zonefile import By, Due, Row, Zone, parsed
-from . import Key, Sets, Wish, bind, ldns
+from . import Key, Planned, Sets, Wish, bind, ldns
+from .daemon import is_here
 
 if TYPE_CHECKING:
     from ..act import Act
@@ -123,7 +124,7 @@ class Files:
         """The sets of the signed zone that is in place."""
         with tempfile.TemporaryDirectory() as made:
             last = self.last(Path(made).resolve())
-        return None if last is None else _sets_of(last)
+        return None if last is None else sets_of(last)
 
     @contextlib.contextmanager
     def publish(self, wish: Wish) -> Iterator[Plan]:
@@ -207,12 +208,30 @@ def lacks(name: str, wanted: Sets) -> Iterator[str]:
         yield "ldns can't sign a zone with a CSK beside a ZSK: use --signer bind"
 
 
+def planned(name: str, script: str, zone: str, folders: list) -> Planned:
+    """The tools of a signer, for a plan: a key that is away signs only by a ceremony."""
+    from .. import ceremony
+
+    taken = ceremony.signatures(script)
+
+    def away(wanted: Sets, now: float) -> Iterator[str]:
+        data = [key.data for key in wanted.dnskey]
+        for key in sorted(wanted.signers, key=str):
+            file = key.file
+            if file and not is_here(file) and not any(
+                    ceremony.valid(taken, zone, data, file, now)):
+                yield f"the private half of {key} isn't here, and it has signed no such DNSKEY " \
+                    "set for that moment: 'vaqsider ceremony' asks for that by --roll"
+
+    return Planned(lambda wanted: lacks(name, wanted), folders, away)
+
+
 def _signing(sets: Sets, names: list[str]) -> Sets:
     """What the keys sign that are here."""
     return replace(sets, signers=frozenset(it for it in sets.signers if it.name in names))
 
 
-def _sets_of(zone: Zone) -> Sets:
+def sets_of(zone: Zone) -> Sets:
     """What a signed zone has."""
     keys = {Key.of(row.data) for row in zone.top.get("DNSKEY", ())}
     named = {By(key.algorithm, key.tag): key for key in keys}

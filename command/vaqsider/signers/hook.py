@@ -38,6 +38,7 @@ class Hook:
         return {
             "key": str(key), "record": key.data, "tag": key.tag, "algorithm": key.algorithm,
             "file": str(file.path.resolve()) if file else None,
+            "private": file.reference if file else None,
             **{kind: key in getattr(sets, kind) for kind in SAID},
         }
 

@@ -8,6 +8,7 @@ key leaves the DNSKEY set: that harms nothing."""
 
 from __future__ import annotations
 
+import contextlib
 import os
 import re
 import shutil
@@ -22,7 +23,7 @@ from .. import zonefile
 from ..arguments import file_name
 from ..errors import UNAVAILABLE, Failure
 from ..keyfiles import KeyFile, read
-from . import DELETION, Key, Sets, bind, by_flags, lacks_by_flags
+from . import DELETION, Key, Sets, bind, by_flags, files, lacks_by_flags
 from .daemon import Step, is_here, said
 
 TIME = re.compile(r"(?P<name>[\w ]+): (?P<at>UNSET|\d+)")
@@ -31,7 +32,7 @@ TIMES = {"Publish", "Activate", "Inactive", "Delete", "SYNC Publish", "SYNC Dele
 SIGNS = ("signed serial: ", "key maintenance: automatic")
 NO_POLICY = "does not have dnssec-policy"
 SIGNING = re.compile(r"Signing with key (\d+)/")
-# How often named is asked whether it has signed all, and for how many seconds at most.
+# How often named is asked whether it has done all, and for how many seconds at most.
 PAUSE, PATIENCE = 0.3, 60
 
 
@@ -109,12 +110,23 @@ class Inline:
     def ttls(self) -> dict[str, int]:
         """Those of the unsigned zone; the DNSKEY set has that of the key files, or of the SOA
         record."""
-        with tempfile.TemporaryDirectory() as made:
-            full = zonefile.in_full(self.zone_file, self.origin, bind.TOOLS, Path(made).resolve())
+        with self._in_full(self.zone_file) as full:
             unsigned = zonefile.Zone.of(self.origin, full)
             highest = max(row.ttl for row in zonefile.rows(full))
         keys = [it.file.ttl for it in self.held()]
         return {"dnskey": max([unsigned.soa.ttl, *keys]), "zone": highest}
+
+    def given(self) -> Sets:
+        """What named gives: the signed zone, which it keeps beside the unsigned one."""
+        said(self.rndc("sync", self.zone))
+        with self._in_full(Path(f"{self.zone_file}.signed")) as full:
+            return files.sets_of(zonefile.Zone.of(self.origin, full))
+
+    @contextlib.contextmanager
+    def _in_full(self, path: Path) -> Iterator[Path]:
+        """A zone file in which each record is in full."""
+        with tempfile.TemporaryDirectory() as made:
+            yield zonefile.in_full(path, self.origin, bind.TOOLS, Path(made).resolve())
 
     # What has to be done
 
@@ -169,8 +181,9 @@ class Inline:
         elif is_in:
             times += ["-I", "now"] if signed else ["-A", "none", "-I", "none"]
         if has_cds != had_cds:
+            # In the second of its deletion named publishes CDS anew, if it signs twice.
             sync = ["-P", "sync", "now", "-D", "sync", "none"] if has_cds else [
-                "-D", "sync", "now"]
+                "-D", "sync", "now-1"]
             times += sync
         file = key.at_hand()
         words = ("dnssec-settime", *times, str(file.path))
@@ -180,18 +193,31 @@ class Inline:
         """named signs anew what expires soon, by itself."""
         yield Step(self.rndc("sign", self.zone))
         yield Step(self.rndc("signing", "-list", self.zone), self._when_signed)
+        yield Step(self.rndc("sync", self.zone), self._when_given)
 
     def _when_signed(self) -> tuple[str, ...]:
-        """The command, once named has signed all by each of its active keys. By one that is only
+        """Nothing, once named has signed all by each of its active keys. By one that is only
         published it is about to sign, it says."""
-        words, until = self.rndc("signing", "-list", self.zone), time.monotonic() + PATIENCE
         active = {str(it.key.tag) for it in self.held() if it.is_active}
-        while active & set(SIGNING.findall(said(words))):
+        words = self.rndc("signing", "-list", self.zone)
+        self._wait(lambda: [f"{tag} has not signed all" for tag in sorted(
+            active & set(SIGNING.findall(said(words))))])
+        return ()
+
+    def _when_given(self) -> tuple[str, ...]:
+        """Nothing, once named gives what the times of its keys ask for: it takes CDS out a moment
+        after it has signed."""
+        wanted = self.now([])
+        self._wait(lambda: list(self.given().differences(wanted)))
+        return ()
+
+    def _wait(self, left: Callable[[], list[str]]) -> None:
+        until = time.monotonic() + PATIENCE
+        while lacks := left():
             if time.monotonic() > until:
-                raise Failure(f"named has not signed {self.zone} in {PATIENCE} seconds",
-                              UNAVAILABLE)
+                raise Failure(f"named doesn't give {self.zone} as its keys have it in {PATIENCE} "
+                              f"seconds: {'; '.join(lacks)}", UNAVAILABLE)
             time.sleep(PAUSE)
-        return words
 
 
 def _settime(file: KeyFile, times: list[str], folder: Path) -> tuple[str, ...]:

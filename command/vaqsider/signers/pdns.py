@@ -94,15 +94,15 @@ class PowerDns:
         return Sets(dnskey, signers, zone, self._cds([*known, *(key for _, key in of)]))
 
     def _cds(self, keys: list[Key]) -> frozenset[Key]:
-        """For which keys CDS and CDNSKEY are in. What is of no key stays what it is."""
+        """For which keys CDS and CDNSKEY are in. What is of no key stays what it is, and so does
+        one of both without the other, as a crash between them leaves it."""
         of = {it.data: it for it in reversed(keys)}
-        found = set()
-        for row in self.top("CDNSKEY"):
-            key = Key.of(row.data)
-            found.add(of.get(key.data, key))
-        for row in self.top("CDS"):
-            found.add(self._of_cds(row.data, keys))
-        return frozenset(found)
+        given = (Key.of(row.data) for row in self.top("CDNSKEY"))
+        cdnskey = {of.get(key.data, key) for key in given}
+        cds = {self._of_cds(row.data, keys) for row in self.top("CDS")}
+        alone = {Key(f"0 0 {key.algorithm} AA==", f"{key} by one of CDS and CDNSKEY alone")
+                 for key in cds ^ cdnskey}
+        return frozenset(cds & cdnskey | alone)
 
     def _of_cds(self, data: str, keys: list[Key]) -> Key:
         record = parsed("CDS", data)

@@ -15,13 +15,14 @@ from ..signers import Key
 @dataclass(frozen=True)
 class Found:
     """A key that a system uses for a zone: what it signs; what gives its private half, if that may
-    come out; and its file, if it has one."""
+    come out; its file, if it has one; and what its private half is called in its store."""
 
     key: Key
     signs_keys: bool
     signs_zone: bool
     private: Callable[[], str] | None = None
     path: Path | None = None
+    reference: str | None = None
 
     @property
     def is_csk(self) -> bool:

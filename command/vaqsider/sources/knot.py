@@ -32,7 +32,8 @@ def tell(zone: str, asked: Asked) -> Told:
     for it in held:
         moving += _moving(it)
         if it.is_published or it.is_active:
-            keys.append(Found(it.key, it.is_ksk, it.is_zsk, _pem(it, asked.store)))
+            pem, name = _pem(it, asked.store), f"knot:{it.id}"
+            keys.append(Found(it.key, it.is_ksk, it.is_zsk, pem, reference=name))
     return Told(keys, moving, [text.format(zone=zone) for text in STOPS])
 
 

@@ -44,8 +44,13 @@ def tell(zone: str, asked: Asked) -> Told:
                           UNAVAILABLE)
         ids.append(row["id"])
         role = row["role"].upper()
-        keys.append(Found(records[at], role != "ZSK", role != "KSK"))
+        keys.append(Found(records[at], role != "ZSK", role != "KSK", reference=_uri(row["id"])))
     return Told(keys, moving, [it.format(ids=" ".join(ids)) for it in STOPS])
+
+
+def _uri(number: str) -> str:
+    """An object of a PKCS#11 store by its number (RFC 7512)."""
+    return "pkcs11:id=" + "".join(f"%{number[at:at + 2]}" for at in range(0, len(number), 2))
 
 
 def _rows(zone: str) -> list[re.Match]:

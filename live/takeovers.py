@@ -1,0 +1,100 @@
+"""Scenes in which another system has signed a zone by keys of its own: docs/COMING-FROM.md. Its
+keys come in, its signer goes on by the command, and each key rolls. `takeover.json` in the folder
+of the scene's keys says what that took."""
+
+import asyncio
+import json
+import time
+
+import running
+from by_command import TTL, WARNING
+from from_bind import is_signed, publish
+from keys import run
+from processes import Failed
+from signers import Knot, Named, OfBind, Pdns, PdnsByApi
+
+PATIENCE = 30
+# The flags of a key that is in use, as serde writes them for the crate `domain`.
+FLAGS = {"available": True, "old": False, "signer": True, "present": True, "at_parent": False}
+STAMPS = dict.fromkeys(("creation", "published", "visible", "ds_visible", "rrsig_visible",
+                        "withdrawn"))
+
+
+class Dnst(OfBind):
+    """The state of `dnst keyset`, and a zone signed by its keys. It isn't among Debian's packages:
+    so the state is written here."""
+
+    source = "dnst"
+
+    async def make_own_keys(self):
+        keys, folder = {}, self.operator.folder
+        for kind, flag in (("Ksk", ("-f", "KSK")), ("Zsk", ())):
+            name = (await run(folder, "dnssec-keygen", "-q", "-a", "13", *flag,
+                              self.zone.name)).strip()
+            flags = {**FLAGS, "at_parent": kind == "Ksk"}
+            keys[f"{name}.key"] = {
+                "privref": f"{name}.private", "decoupled": False, "keytype": {kind: flags},
+                "algorithm": "ECDSAP256SHA256", "key_tag": int(name.rpartition("+")[2]),
+                "timestamps": STAMPS}
+        state = {"keyset": {"name": self.zone.name, "keys": keys, "rollstates": {}}}
+        (folder / "keyset.json").write_text(json.dumps(state))
+        await run(self.folder, "dnssec-signzone", "-q", "-S", "-K", str(folder), "-T", str(TTL),
+                  "-P", "-O", "full", "-o", self.zone.name, "zone")
+
+    def source_options(self):
+        return ["--source", self.operator.folder / "keyset.json"]
+
+    async def is_taken_over(self):
+        """Nobody runs `dnst keyset cron` here."""
+
+
+def takeover(maker):
+    async def scene(zone):
+        operator = running.Running(zone)
+        operator.signer = maker(operator)
+        try:
+            await operator.signer.start(2)
+            await taken_over(operator)
+        finally:
+            operator.signer.end()
+
+    return scene
+
+
+async def taken_over(operator):
+    signer = operator.signer
+    await signer.make_own_keys()
+    await publish(operator, await whole(signer))
+    if hasattr(signer, "has_ds"):
+        await operator.type(*running.words_of_import(operator), ends=(WARNING,))
+        await signer.has_ds()
+    await signer.is_taken_over()
+    await running.come(operator, running.words_of_import(operator))
+    signer.serves = True
+    began = time.time()
+    await operator.type(*operator.words_of_act())
+    running.took(operator, act=time.time() - began)
+    await operator.compare(False)
+    await running.is_right(operator)
+    await running.replace_one(operator, "zsk-roll")
+    await running.replace_one(operator, "ksk-roll")
+    await operator.type("check", operator.script)
+
+
+async def whole(signer):
+    """The zone, once all of it is signed."""
+    for _ in range(PATIENCE * 2):
+        made = await signer.given()
+        if made is not None and is_signed(made, "NSEC"):
+            return made
+        await asyncio.sleep(0.5)
+    raise Failed(f"{signer.name} doesn't sign {signer.zone.name}")
+
+
+HONEST = {
+    "takeover-pdns": takeover(Pdns),
+    "takeover-pdns-api": takeover(PdnsByApi),
+    "takeover-knot": takeover(Knot),
+    "takeover-bind-inline": takeover(Named),
+    "takeover-dnst": takeover(Dnst),
+}
