@@ -60,10 +60,12 @@ def published(kinds, sets):
 
 
 def ttl_of(row):
+    """What a report of a row gives. Of more than one TTL it is that of all that was published."""
     if "sum" in row:
         return f"the **sum** of {listed([TTLS[kind] for kind in row['sum']])}"
-    ttls = [TTLS[kind] for kind in row["report"]]
-    return f"the higher of {listed(ttls)}" if len(ttls) > 1 else ttls[0]
+    if len(row["report"]) > 1:
+        return "the higher TTL of both"
+    return TTLS[row["report"][0]]
 
 
 def then_of(row, number):
