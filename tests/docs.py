@@ -24,12 +24,12 @@ What is compared:
 - each `NAME.answers` with what `replay/tables.py` answers to `NAME.script`, and both with the
   script of this name in `replay/scripts.txt`: so the gate compares them with the program;
 - each link with the file and the heading that it leads to;
+- each name in docs/PROOF.md with the crates: some code or definition has it;
 - the pictures of `tests/pictures.py`.
 """
 
 import json
 import re
-import subprocess
 import sys
 from pathlib import Path
 
@@ -62,6 +62,10 @@ QUOTED = re.compile(
 # Answers of another program.
 OF_ANOTHER = "| Original |"
 LINK = re.compile(r"\[[^][]*\]\(([^)\s]+)\)")
+# A name of code in a text, also one of a type's.
+NAME = re.compile(r"`([A-Za-z]\w*(?:::\w+)*)`")
+# Of the standard library.
+OF_STD = {"unwrap"}
 
 
 def documents():
@@ -211,6 +215,15 @@ def check_links(path, wrong):
     return count
 
 
+def unknown_names(path):
+    """The names of a text that the crates don't have."""
+    sources = [*TOP.glob("crates/*/src/**/*.rt"), *TOP.glob("crates/*/specs/**/*.antt")]
+    known = {word for source in sources for word in re.findall(r"\w+", source.read_text())}
+    named = {part for name in NAME.findall(path.read_text()) for part in name.split("::")}
+    for name in sorted(named - known - OF_STD):
+        yield f"{path.relative_to(TOP)}: no crate has the name {name}"
+
+
 def stored_text(scripts):
     """The stored scripts: first those that aren't examples, as they are, then the examples."""
     text = STORED.read_text()
@@ -263,7 +276,7 @@ def main():
         document.walk()
         blocks, quoted = blocks + document.blocks, quoted + document.quoted
         links += check_links(path, wrong)
-    wrong += pictures.differing()
+    wrong += [*pictures.differing(), *unknown_names(TOP / "docs" / "PROOF.md")]
     if wrong:
         print(*wrong, f"docs: {len(wrong)} differences", sep="\n")
         return 1
