@@ -24,8 +24,8 @@ WATCHED = {
     for word in ("Report", "Wait")
     for record, kind in (("Dnskey", "dnskey"), ("Rrsig", "zone"), ("Ds", "ds"))
 }
-# A rule of the guides ends with its mark. Its words begin with the paragraph, the item, the cell, or
-# after the mark before.
+# A rule of the guides ends with its mark. Its words begin with the paragraph, the item, the cell,
+# or after the mark before.
 MARK = re.compile(r"<!--rule:([a-z0-9-]+)-->")
 BEGIN = re.compile(r"\n\n|\n\s*(?:-|\d+\.) |\||-->")
 WORD = re.compile(r"\w\w+")

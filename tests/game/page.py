@@ -51,7 +51,8 @@ def listed(names):
 def published(kinds, sets):
     """What a row has published."""
     words = {
-        "dnskey": f"the DNSKEY set of {listed(sets['dnskey'])}, signed by {listed(sets['signers'])}",
+        "dnskey": f"the DNSKEY set of {listed(sets['dnskey'])}, "
+                  f"signed by {listed(sets['signers'])}",
         "zone": f"the zone, signed by {listed(sets['zone'])}",
         "cds": f"CDS for {listed(sets['ds'])}",
         "ds": f"the DS set becomes {listed(sets['ds'])}",
