@@ -12,6 +12,7 @@ other. keyset.3 has the comments and the declarations of the header.
 import argparse
 import contextlib
 import io
+import json
 import os
 import re
 import sys
@@ -212,6 +213,26 @@ def words():
         yield from verbatim(printed.getvalue().splitlines())
 
 
+# What the values of the status are that its schema describes by their form only.
+FORMS = {"second": "a second", "stamp": "a second, or null", "references": "references",
+         "rollName": "a roll", "rollNames": "rolls", "actions": "actions"}
+
+
+def members():
+    """The members of the status, as its schema describes them."""
+    schema = json.loads((TOP / "docs" / "status.schema.json").read_text(encoding="utf-8"))
+    parts = {"the status": schema} | {f"an object of {it}": schema["$defs"][of] for it, of in (
+        ("keys", "key"), ("roles", "role"), ("rolls", "roll"), ("ended", "ended"))}
+    for title, part in parts.items():
+        yield f".SS Members of {title}"
+        for name, value in part["properties"].items():
+            form = FORMS.get(value.get("$ref", "").rpartition("/")[2], value.get("type", ""))
+            yield ".TP"
+            yield f"\\fB{plain(name)}\\fR"
+            says = [", ".join(value.get("enum", ())), value.get("description", "")]
+            yield filled(": ".join(filter(None, says)) or form)
+
+
 def head(name, section, does, called):
     """How a page begins: its title, its name, and how it is called."""
     version = (TOP / "VERSION").read_text().strip()
@@ -232,6 +253,8 @@ def page(name):
         lines += body(document, number == 0)
     if name == "vaqsider":
         lines += words()
+    if name == "keyset_status":
+        lines += members()
     others = ", ".join(f"\\fB{plain(other)}\\fR(1)" for other in PAGES if other != name)
     return "\n".join([*lines, ".SH SEE ALSO", others]) + "\n"
 

@@ -18,18 +18,19 @@ A line `<!--course:NAME-->` has the table of that course below it, up to an empt
 
 What is compared:
 
-- each block and each table with its file; a block that names none may show neither calls nor answers;
+- each block and each table with its file; a block that names none may show neither calls nor
+  answers;
 - each answer that a text quotes, as `chain safe`: it has to be an answer of an example; after a
   script that is shown without answers it has to be an answer of that script;
 - each `NAME.answers` with what `replay/tables.py` answers to `NAME.script`, and both with the
   script of this name in `replay/scripts.txt`: so the gate compares them with the program;
 - each link with the file and the heading that it leads to;
-- the pictures of `tests/pictures.py`.
+- each name in docs/PROOF.md with the crates: some code or definition has it;
+- the pictures of `tests/pictures.py`, and the index of `tests/contracts.py`.
 """
 
 import json
 import re
-import subprocess
 import sys
 from pathlib import Path
 
@@ -40,6 +41,7 @@ sys.path.insert(0, str(TOP / "replay"))
 from make_sample import examples  # noqa: E402
 from tables import answers  # noqa: E402
 
+import contracts  # noqa: E402
 import pictures  # noqa: E402
 from game.page import command_lines, table  # noqa: E402
 
@@ -62,6 +64,10 @@ QUOTED = re.compile(
 # Answers of another program.
 OF_ANOTHER = "| Original |"
 LINK = re.compile(r"\[[^][]*\]\(([^)\s]+)\)")
+# A name of code in a text, also one of a type's.
+NAME = re.compile(r"`([A-Za-z]\w*(?:::\w+)*)`")
+# Of the standard library.
+OF_STD = {"unwrap"}
 
 
 def documents():
@@ -211,6 +217,15 @@ def check_links(path, wrong):
     return count
 
 
+def unknown_names(path):
+    """The names of a text that the crates don't have."""
+    sources = [*TOP.glob("crates/*/src/**/*.rt"), *TOP.glob("crates/*/specs/**/*.antt")]
+    known = {word for source in sources for word in re.findall(r"\w+", source.read_text())}
+    named = {part for name in NAME.findall(path.read_text()) for part in name.split("::")}
+    for name in sorted(named - known - OF_STD):
+        yield f"{path.relative_to(TOP)}: no crate has the name {name}"
+
+
 def stored_text(scripts):
     """The stored scripts: first those that aren't examples, as they are, then the examples."""
     text = STORED.read_text()
@@ -246,6 +261,7 @@ def write(scripts):
     for path in documents():
         path.write_text("\n".join(Document(path, set(), []).walk()) + "\n")
     pictures.write()
+    contracts.write()
 
 
 def main():
@@ -263,7 +279,7 @@ def main():
         document.walk()
         blocks, quoted = blocks + document.blocks, quoted + document.quoted
         links += check_links(path, wrong)
-    wrong += pictures.differing()
+    wrong += [*pictures.differing(), *contracts.differing(), *unknown_names(contracts.PAGE)]
     if wrong:
         print(*wrong, f"docs: {len(wrong)} differences", sep="\n")
         return 1

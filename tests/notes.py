@@ -2,8 +2,8 @@
 """Operators of `tests/runbooks.py` who keep notes, as docs/REFERENCE.md has them.
 
 The program `keyset notes` is asked for each report. Its answer has to be what the rule of
-docs/REFERENCE.md says, for which `tests/game/notes.py` has code of its own. It may be no more than rule
-1 of docs/OPERATORS.md, as it is played, except for the difference of clocks. Half of the operators
+docs/REFERENCE.md says, for which `tests/game/notes.py` has code of its own. It may be no more than
+rule 1 of docs/OPERATORS.md, as it is played, except for the difference of clocks. Half of them
 report what their notes say, and no zone breaks by it. With one second less zones break. At
 some reports each digit of the notes is lost in turn, and at all of them a moment before the
 report's step is asked about (`tests/mistyped.py`)."""

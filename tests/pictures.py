@@ -1,6 +1,6 @@
-"""Makes the pictures of docs/pictures that show no roll: crates.svg, by crates.txt, and network.svg.
-The others are those of `vaqsider draw` for the example of their name. `tests/docs.py --write` writes
-both, and without `--write` it compares them."""
+"""Makes the pictures of docs/pictures that show no roll: crates.svg, by crates.txt, and
+network.svg. The others are those of `vaqsider draw` for the example of their name. `tests/docs.py
+--write` writes both, and without `--write` it compares them."""
 
 from html import escape
 from pathlib import Path

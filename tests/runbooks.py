@@ -1,7 +1,7 @@
 #!/usr/bin/env python3
 """Plays operators who follow `docs/courses.json` to the letter, from which the tables of
-`docs/RUNBOOKS.md` are made, and looks at whatever caches may hold. There is no network, and the only clock is the game's. The key set is that of
-`replay/tables.py`.
+`docs/RUNBOOKS.md` are made, and looks at whatever caches may hold. There is no network, and the
+only clock is the game's. The key set is that of `replay/tables.py`.
 
 The game has a zone and its parent, whose servers get each version one by one. The parent's DS set
 is changed by hand, or the parent reads CDS as in RFC 7344, section 4.1. TTLs rise and fall at any

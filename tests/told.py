@@ -5,10 +5,10 @@ its end, with its own output.
     tests/told.py LOG            compares them with the output of a gate, or of some of its parts
     tests/told.py LOG --write    writes the numbers of that output in their place
 
-A line names its tests before a colon; indented lines say what they try. Each number of the line, with
-the word after it, has to be in a line that one of these tests has printed. Such a line begins with
-the name of the test, as `sets: `. If a word has more than one number, they have to come in the same
-order. A line without a test of the gate has to have the date of its numbers.
+A line names its tests before a colon; indented lines say what they try. Each number of the line,
+with the word after it, has to be in a line that one of these tests has printed. Such a line begins
+with the name of the test, as `sets: `. If a word has more than one number, they have to come in the
+same order. A line without a test of the gate has to have the date of its numbers.
 """
 
 import re

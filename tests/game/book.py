@@ -24,9 +24,11 @@ WATCHED = {
     for word in ("Report", "Wait")
     for record, kind in (("Dnskey", "dnskey"), ("Rrsig", "zone"), ("Ds", "ds"))
 }
-# A rule of the guides ends with its mark, which has some words before it.
+# A rule of the guides ends with its mark. Its words begin with the paragraph, the item, the cell,
+# or after the mark before.
 MARK = re.compile(r"<!--rule:([a-z0-9-]+)-->")
-WORDS = re.compile(r"(?:\w[^<|]*\s){2,}[^<|]*$")
+BEGIN = re.compile(r"\n\n|\n\s*(?:-|\d+\.) |\||-->")
+WORD = re.compile(r"\w\w+")
 
 
 class Wrong(Exception):
@@ -85,9 +87,9 @@ def rules():
     for page in ("OPERATORS", "RUNBOOKS", "EMERGENCY"):
         text = (DOCS / f"{page}.md").read_text()
         for match in MARK.finditer(text):
-            before = MARK.sub(" ", text[: match.start()]).rpartition("\n\n")[2]
-            if not WORDS.search(before):
-                raise Wrong(f"{page}: no words end with {match[0]}")
+            *_, rule = BEGIN.split(text[: match.start()])
+            if len(WORD.findall(rule)) < 3:
+                raise Wrong(f"{page}: no rule ends with {match[0]}")
             said.add(match[1])
     return said
 

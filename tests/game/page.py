@@ -51,7 +51,8 @@ def listed(names):
 def published(kinds, sets):
     """What a row has published."""
     words = {
-        "dnskey": f"the DNSKEY set of {listed(sets['dnskey'])}, signed by {listed(sets['signers'])}",
+        "dnskey": f"the DNSKEY set of {listed(sets['dnskey'])}, "
+                  f"signed by {listed(sets['signers'])}",
         "zone": f"the zone, signed by {listed(sets['zone'])}",
         "cds": f"CDS for {listed(sets['ds'])}",
         "ds": f"the DS set becomes {listed(sets['ds'])}",
@@ -60,10 +61,12 @@ def published(kinds, sets):
 
 
 def ttl_of(row):
+    """What a report of a row gives. Of more than one TTL it is that of all that was published."""
     if "sum" in row:
         return f"the **sum** of {listed([TTLS[kind] for kind in row['sum']])}"
-    ttls = [TTLS[kind] for kind in row["report"]]
-    return f"the higher of {listed(ttls)}" if len(ttls) > 1 else ttls[0]
+    if len(row["report"]) > 1:
+        return "the higher TTL of both"
+    return TTLS[row["report"][0]]
 
 
 def then_of(row, number):

@@ -1,0 +1,81 @@
+"""Makes docs/contracts.txt: for each function that docs/PROOF.md names its contract, clause by
+clause with the definitions that it cites and their files, and where its proof stands.
+`tests/docs.py --write` writes it, and without `--write` it compares."""
+
+import re
+from pathlib import Path
+
+TOP = Path(__file__).resolve().parent.parent
+CRATES = TOP / "crates"
+PAGE, INDEX = TOP / "docs" / "PROOF.md", TOP / "docs" / "contracts.txt"
+# The crates of the gate promise nothing.
+OF_THE_GATE = {"dnssec_tests", "callers"}
+
+HEAD = """\
+The contracts that PROOF.md names: the file of the function, then for each clause the definitions
+that it cites, each with its file in specs/. Below stands where the proof is, if it has lines of its
+own. Written by tests/docs.py --write.
+"""
+NAME = re.compile(r"`(?:[A-Z]\w*::)?([a-z]\w*)`")
+# A public function with the clauses of its contract, up to its body.
+FUNCTION = re.compile(r"^ *pub fn (?P<name>\w+)\b(?P<head>.*?)^ *\{", re.MULTILINE | re.DOTALL)
+CLAUSE = re.compile(r"^ *ensures (?P<name>\w*) ?(?P<says>\{.*?)(?=^ *ensures |\Z)",
+                    re.MULTILINE | re.DOTALL)
+DEFINED = re.compile(r"^(?:abbrev pub|pub record|pub data) ([A-Z]\w*)\b", re.MULTILINE)
+WORD = re.compile(r"\b[A-Z]\w+")
+
+
+def crates():
+    return sorted(it for it in CRATES.iterdir() if it.name not in OF_THE_GATE and it.is_dir())
+
+
+def definitions():
+    """The file of each definition, by the definition's name."""
+    found = {}
+    for crate in crates():
+        for path in sorted(crate.glob("specs/**/*.antt")):
+            if "Inner" in path.parts:
+                continue
+            for name in DEFINED.findall(path.read_text()):
+                found.setdefault(name, f"{crate.name}/{path.relative_to(crate / 'specs')}")
+    return found
+
+
+def clauses(head, defined):
+    """The lines of a contract: each clause with what it cites."""
+    for clause in CLAUSE.finditer(head):
+        cited = dict.fromkeys(it for it in WORD.findall(clause["says"]) if it in defined)
+        words = ", ".join(f"{it} ({defined[it].removesuffix('.antt')})" for it in cited)
+        yield f"    {clause['name'] or 'ensures'}: {words or 'in words of the language'}"
+
+
+def proof_of(crate, path, name):
+    """The folder or file of the proof of a function, or nothing if it takes no line."""
+    module = path.relative_to(crate / "src").with_suffix("")
+    places = (crate / "proofs" / module / name, crate / "proofs" / module / f"{name}.antt",
+              crate / "proofs" / name, crate / "proofs" / f"{name}.antt")
+    return next((it.relative_to(CRATES) for it in places if it.exists()), None)
+
+
+def made():
+    """The index as it should be."""
+    named, defined = set(NAME.findall(PAGE.read_text())), definitions()
+    lines = [HEAD]
+    for crate in crates():
+        for path in sorted(crate.glob("src/**/*.rt")):
+            for match in FUNCTION.finditer(path.read_text()):
+                told = [*clauses(match["head"], defined)]
+                if match["name"] in named and told:
+                    place = proof_of(crate, path, match["name"])
+                    proof = [f"    proof: {place}"] if place else []
+                    lines += [f"{match['name']}: {path.relative_to(CRATES)}", *told, *proof]
+    return "\n".join(lines) + "\n"
+
+
+def write():
+    INDEX.write_text(made())
+
+
+def differing():
+    if not INDEX.is_file() or INDEX.read_text() != made():
+        yield "docs/contracts.txt isn't what tests/contracts.py makes"
