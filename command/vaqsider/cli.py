@@ -198,7 +198,43 @@ def on_zones(args):
     progress("")
     is_safe = all(zone["chain_safe"] for zone in found)
     text = zones.prometheus(found) if args.prometheus else zones.table(found)
+    if args.html:
+        from . import pages
+
+        text = pages.page(found, clock())
     return OK if is_safe else BROKEN, text, found
+
+
+def on_policy(args):
+    if args.DO == "check":
+        from . import subjects
+
+        return subjects.check(args, clock)
+    from . import showing
+
+    return showing.show(args, clock)
+
+
+def on_tick(args):
+    from . import subjects, ticks
+
+    log = ticks.logger(args.log, sys.stderr if args.json else sys.stdout)
+    ends = ticks.run(subjects.scripts(args.SCRIPT), args.jobs or ticks.JOBS, clock, log)
+    worst = max((end.status for end in ends.values()), default=OK)
+    text = ticks.text(ends) if args.log == "text" else ()
+    return worst, text, {path: vars(end) for path, end in ends.items()}
+
+
+def on_roll(args):
+    from . import rollwords
+
+    return rollwords.roll(args, clock)
+
+
+def on_next(args):
+    from . import rollwords
+
+    return rollwords.next_(args, clock)
 
 
 def _verdict(told):
@@ -223,6 +259,7 @@ ARGUMENT = re.compile(r"^(\S+)(?: (\S+(?: \S+)*))?  (.*(?:\n .*)*)", re.MULTILIN
 READ_AS = {
     "--start": {"type": arguments.moment},
     "--since": {"type": arguments.moment},
+    "--until": {"type": arguments.moment},
     "--port": {"type": arguments.port},
     "SECONDS": {"type": arguments.span},
     "NUMBER": {"type": arguments.number},
@@ -231,6 +268,9 @@ READ_AS = {
     "DS DNSKEY ZONE": {
         "type": arguments.number, "nargs": 3, "metavar": ("DS", "DNSKEY", "ZONE"),
     },
+    "DO": {"choices": ("check", "show")},
+    "ROLE": {"choices": ("ksk", "zsk", "csk")},
+    "text|json": {"choices": ("text", "json"), "default": "text"},
     "[KEYFILE..]": {"nargs": "*"},
     "SCRIPT..": {"nargs": "+"},
 }

@@ -1,0 +1,92 @@
+"""The words of `roll` and `next`: a roll that is asked for, and one deed by hand."""
+
+from __future__ import annotations
+
+import sys
+from argparse import Namespace
+from collections.abc import Iterator
+from pathlib import Path
+from typing import Callable
+
+from keyset import Notes
+
+from . import advice, journal, playing, policies, status, ticking, ticks, words
+from .errors import OK, USAGE, Failure
+from .linting import Spans
+from .playing import Play
+from .policies import Policy
+
+Clock = Callable[[], float]
+Told = tuple[int, Iterator[str], object]
+# How a question is answered with yes.
+YES = ("y", "yes")
+# A roll is shown to its end, if that comes within this time.
+SHOWN = 90 * policies.DAY
+
+
+def roll(args: Namespace, clock: Clock) -> Told:
+    """Shows a roll, asks, and notes that it is wanted. The next tick begins it."""
+    policy = policies.read(args.SCRIPT)
+    of = _roll_of(policy, args.ROLE)
+    now = int(clock())
+    steps = list(_steps(_play(args.SCRIPT, policy, now, {args.ROLE: now}), of))
+    if not steps:
+        raise Failure(f"no {of} would begin within {words.duration(SHOWN)}: "
+                      f"'vaqsider next {args.SCRIPT} --dry-run' says what comes before it")
+    if args.dry_run or not (args.yes or _agreed(steps)):
+        return OK, playing.texts(steps if args.dry_run else ()), steps
+    with journal.alone(args.SCRIPT) as lines:
+        lines.ask(args.ROLE, now)
+    end = ticking.tick(args.SCRIPT, clock, _log(args))
+    return end.status, iter([f"{args.SCRIPT}: {end.text}"]), vars(end)
+
+
+def _roll_of(policy: Policy, role: str) -> str:
+    """The roll that renews keys of a role by the policy."""
+    found = [it for it in policy.rolls if it.startswith(role)]
+    if not found:
+        raise Failure(f"{policy.source} has no {role.upper()}s: its rolls are "
+                      f"{', '.join(policy.rolls)}", USAGE)
+    return found[0]
+
+
+def _play(script: str, policy: Policy, now: int, once: dict[str, int]) -> Play:
+    lines, _ = status.read(script, now)
+    spans, notes = Spans.of(script, now), Notes(script).lines
+    asked = {**journal.once_of(script), **once}
+    return Play(policy, lines, notes, now, spans.ttls, spans.delays, asked)
+
+
+def _steps(play: Play, of: str) -> Iterator[dict]:
+    """The calls from a roll's start to its end, with those beside it."""
+    has_begun = False
+    for step in play.until(play.moment + SHOWN):
+        line = step["line"]
+        has_begun |= line.startswith(f"start {of} ")
+        if has_begun:
+            yield step
+        if has_begun and line == f"done {of}":
+            return
+
+
+def _log(args: Namespace) -> ticking.Log:
+    return ticks.logger("text", sys.stderr if args.json else sys.stdout)
+
+
+def _agreed(steps: list[dict]) -> bool:
+    """Whether a person at the terminal wants it."""
+    print(*playing.texts(steps), sep="\n")
+    print("begin? [y/N] ", end="", flush=True)
+    return sys.stdin.readline().strip().lower() in YES
+
+
+def next_(args: Namespace, clock: Clock) -> Told:
+    """Makes the one thing that comes next, or only says it."""
+    if not args.dry_run:
+        end = ticking.tick(args.SCRIPT, clock, _log(args), most=1)
+        return end.status, iter([end.text]), vars(end)
+    policy = policies.read(args.SCRIPT)
+    lines, _ = status.read(args.SCRIPT, clock())
+    said = advice.said(policy.for_program(journal.once_of(args.SCRIPT)), lines,
+                       Notes(Path(args.SCRIPT)).lines, int(clock()))
+    return OK, iter([said.line]), vars(said)
