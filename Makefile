@@ -32,7 +32,7 @@ prove = mkdir -p crates/$(1)/out && cd crates/$(1) && \
 	{ rt $(2) >out/build.log 2>&1 || { cat out/build.log >&2; exit 1; }; }
 
 .PHONY: run build lib install uninstall made noted arm armed dist try-dist check fmt clean test \
-	wrong live docs memory test-lib test-arm test-go valgrind asan fuzz types mutants signers help \
+	wrong live machines docs memory test-lib test-arm test-go valgrind asan fuzz types mutants signers help \
 	python modules packages logs
 
 # The proved program answers if it is newer than its sources, else one that is built at once.
@@ -111,6 +111,10 @@ mutants: modules build ## changes a line of the command at a time: a test has to
 signers: modules build ## signs by real tools, of files and of PowerDNS, Knot and named
 	@$(PYTHON) tests/signers.py
 	@$(PYTHON) tests/running.py
+
+# It needs Debian's postgresql and python3-psycopg.
+machines: modules build ## lets machines share zones over PostgreSQL, and kills them
+	@$(PYTHON) tests/machines.py
 
 # It needs the packages that live/README.md names.
 live: ## rolls keys on real name servers, within an hour; LIVE=--short within ten minutes

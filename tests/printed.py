@@ -9,7 +9,7 @@ from typed import TOP, typed
 
 PAGES = sorted({*TOP.glob("*.md"), *TOP.glob("docs/*.md"), *TOP.glob("*/README.md")})
 PAGES = [it for it in PAGES if it.name != "CHANGELOG.md"]
-WORDS = "init|import|call|status|check|plan|draw|act|ceremony|watch|zones|policy|tick|roll|next"
+WORDS = "init|import|call|status|check|plan|draw|act|ceremony|watch|zones|policy|tick|roll|next|store"
 # A line of a block, or a text between backquotes, that begins with the command.
 IN_BLOCK = re.compile(r"^(?:\$ )?(vaqsider .*)$", re.MULTILINE)
 INLINE = re.compile(rf"(?<!`)`((?:vaqsider |(?=(?:{WORDS}) (?:S|SCRIPT|FOLDER|ZONE)\b))[^`]*)`")

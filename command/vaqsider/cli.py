@@ -218,11 +218,23 @@ def on_policy(args):
 def on_tick(args):
     from . import subjects, ticks
 
-    log = ticks.logger(args.log, sys.stderr if args.json else sys.stdout)
-    ends = ticks.run(subjects.scripts(args.SCRIPT), args.jobs or ticks.JOBS, clock, log)
+    log, jobs = ticks.logger(args.log, sys.stderr if args.json else sys.stdout), args.jobs
+    if args.store:
+        from . import shared
+
+        ends = shared.run(args.store, Path(args.SCRIPT[0]), jobs or ticks.JOBS, clock, log)
+    else:
+        ends = ticks.run(subjects.scripts(args.SCRIPT), jobs or ticks.JOBS, clock, log)
     worst = max((end.status for end in ends.values()), default=OK)
     text = ticks.text(ends) if args.log == "text" else ()
     return worst, text, {path: vars(end) for path, end in ends.items()}
+
+
+def on_store(args):
+    from . import shared
+
+    copied = shared.copy(args.FROM, args.TO)
+    return OK, [f"{len(copied)} zones copied"], copied
 
 
 def on_roll(args):
@@ -269,6 +281,7 @@ READ_AS = {
         "type": arguments.number, "nargs": 3, "metavar": ("DS", "DNSKEY", "ZONE"),
     },
     "DO": {"choices": ("check", "show")},
+    "copy": {"choices": ("copy",)},
     "ROLE": {"choices": ("ksk", "zsk", "csk")},
     "text|json": {"choices": ("text", "json"), "default": "text"},
     "[KEYFILE..]": {"nargs": "*"},

@@ -45,6 +45,7 @@ class Policy:
     delete_after: int = 0
     keygen: tuple[str, ...] = ("dnssec-keygen",)
     signer: str = "bind"
+    signer_config: str | None = None
     zone_file: str | None = None
     out: str | None = None
     keys: str | None = None
@@ -99,7 +100,8 @@ class Policy:
 
     def for_act(self, script: str | Path) -> list[str]:
         """The words of the act that publishes by this policy."""
-        given = {"signer": self.signer, "zone-file": self.zone_file, "out": self.out,
+        given = {"signer": self.signer, "signer-config": self.signer_config,
+                 "zone-file": self.zone_file, "out": self.out,
                  "keys": self.keys, "lifetime": self.signatures, "jitter": self.jitter,
                  "serial": self.serial, "nsec3": self.nsec3, "dnskey-ttl": self.dnskey_ttl}
         return ["act", str(script), *_options(given), *self._of_parent()]
@@ -202,7 +204,8 @@ def _port(text: str) -> int:
 SERIALS = ("unixtime", "increment", "date", "keep")
 READ_AS: dict[str, Callable[[str], object]] = {
     "policy": _base, "ksk-lifetime": _span, "zsk-lifetime": _span, "csk-lifetime": _span,
-    "delete-after": _length, "keygen": _command, "signer": _text, "zone-file": _text, "out": _text,
+    "delete-after": _length, "keygen": _command, "signer": _text, "signer-config": _text,
+    "zone-file": _text, "out": _text,
     "keys": _text, "signatures": _length, "jitter": _length, "renew-before": _length,
     "serial": _one_of(*SERIALS), "nsec3": _text, "dnskey-ttl": _length, "reload": _command,
     "server": _names, "parent-server": _names, "parent-zone": _text, "port": _port,

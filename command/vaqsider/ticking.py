@@ -32,6 +32,8 @@ from .zonefile import By
 # A tick makes at most so many deeds, and tries so many keys for one whose tag is free.
 DEEDS, TRIES = 50, 8
 TAKEN = "Key tag already present"
+# What the status of a tick means.
+MEANS = {OK: "rests", DUE: "waits", WARNING: "needs a person", BROKEN: "broken"}
 # These signers keep the signed zone in a file.
 OF_FILES = ("bind", "ldns")
 
@@ -334,11 +336,15 @@ class Tick:
             self.say("DS handed over", [words.listed(self.told["published"]["ds"])])
 
     def take_cds_out(self) -> None:
-        """Returns once no server gives CDS any more. If it is in still, it goes out first."""
+        """Returns once no server gives CDS any more. If it is in still, it goes out first: by what
+        stands in place, or else by what servers give."""
         stands = self.standing()
         if stands is not None and stands.has_cds:
             self.publish("CDS goes out")
         lacking = self.eyes(["ds"]).lacking
+        if stands is None and any(it.kind == "cds" for it in lacking):
+            self.publish("CDS goes out")
+            lacking = self.eyes(["ds"]).lacking
         if lacking:
             raise Done(DUE, "; ".join(map(str, sorted(lacking))))
 
@@ -388,7 +394,7 @@ def tick(script: str | Path, clock: Clock, log: Log, most: int = DEEDS) -> End:
     except Locked as error:
         return End(OK if journal.place_of(path).name in str(error) else DUE, str(error))
     except Exception as error:
-        return End(*_fault(error))
+        return End(*fault_of(error))
 
 
 def _ended(made: Tick) -> End:
@@ -398,10 +404,10 @@ def _ended(made: Tick) -> End:
     except Locked as error:
         return End(DUE, str(error))
     except Exception as error:
-        return End(*_fault(error))
+        return End(*fault_of(error))
 
 
-def _fault(error: Exception) -> tuple[int, str]:
+def fault_of(error: Exception) -> tuple[int, str]:
     """What an error means for the zone: it needs a person, or something is broken."""
     failure = failure_of(error)
     if failure.status == FAULTY:

@@ -16,7 +16,6 @@ from .ticking import Clock, Deed, End, Log
 
 # How many zones are ticked at once, if nobody says it.
 JOBS = 8
-MEANS = {0: "rests", 1: "waits", 2: "needs a person", 3: "broken"}
 
 
 def logger(form: str, out: TextIO) -> Log:
@@ -42,7 +41,7 @@ def run(paths: Iterable[Path], jobs: int, clock: Clock, log: Log) -> dict[str, E
     def one(path: Path) -> End:
         end = ticking.tick(path, clock, log)
         if end.status != OK:
-            log(Deed(int(clock()), path.stem, MEANS[end.status], end.text))
+            log(Deed(int(clock()), path.stem, ticking.MEANS[end.status], end.text))
         return end
 
     with ThreadPoolExecutor(max(1, min(jobs, len(paths)))) as pool:
