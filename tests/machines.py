@@ -115,8 +115,6 @@ def shared(postgres: Postgres, world: World) -> Iterator[Machines]:
         said, status = typed(["store", "copy", here, url])
         if status:
             raise AssertionError(said)
-        for of in ("script", "notes", "policy"):
-            (here / f"{ZONE}.{of}").unlink()
         yield Machines(url)
 
 
@@ -151,15 +149,25 @@ def is_killed(machines: Machines, world: World, count: int) -> bool:
 
 
 def left(machines: Machines, world: World, name: str) -> tuple:
-    """How a tick ends on a machine, and what it leaves there and in the store."""
-    status, _ = machines.tick(world, name)
+    """What a tick leaves on a machine and in the store, and whether that is the same."""
+    machines.tick(world, name)
+    if not (Path(name) / f"{ZONE}.script").exists():
+        # The other one had done all of it.
+        name = "one"
     for of in ("script", "notes"):
         shutil.copy(Path(name) / f"{ZONE}.{of}", f"{ZONE}.{of}")
     with tempfile.TemporaryDirectory() as copied:
         typed(["store", "copy", machines.url, copied])
         stored = [(Path(copied) / f"{ZONE}.{of}").read_text() for of in ("script", "notes")]
     same = stored == [Path(f"{ZONE}.{of}").read_text() for of in ("script", "notes")]
-    return status, same, shape()
+    return same, shape()
+
+
+def back_to(kept: Path, here: Path) -> None:
+    """Has a folder be as it was."""
+    for path in here.iterdir():
+        shutil.rmtree(path) if path.is_dir() else path.unlink()
+    shutil.copytree(kept, here, dirs_exist_ok=True)
 
 
 def killed(postgres: Postgres, before: int) -> Iterator[str]:
@@ -176,9 +184,7 @@ def killed(postgres: Postgres, before: int) -> Iterator[str]:
             wanted = left(machines, copy.deepcopy(world), "two")
             while True:
                 count += 1
-                for path in here.iterdir():
-                    shutil.rmtree(path) if path.is_dir() else path.unlink()
-                shutil.copytree(kept, here, dirs_exist_ok=True)
+                back_to(Path(kept), here)
                 postgres.make("zones", "kept")
                 twin = copy.deepcopy(world)
                 with living(twin):

@@ -137,6 +137,7 @@ class World:
             keys = frozenset(tag_of(data) for _, data in sets.get("DNSKEY", ()))
             self.held["dnskey"][keys, signers(sets, "DNSKEY")] = self.now
             self.held["zone"][signers(sets, "SOA")] = self.now
+            self._expect_valid(sets)
         for name in self.parent.delays:
             sets = self.parent.given.get(name, {})
             tags = frozenset(int(it.split()[0]) for _, it in sets.get("DS", ()))
@@ -149,6 +150,12 @@ class World:
             if ds and not (ds & keys & by and keys & zone):
                 raise Broken(f"at {self.now}: ds {set(ds)}, dnskey {set(keys)} by {set(by)}, "
                              f"zone by {set(zone)}")
+
+    def _expect_valid(self, sets: dict) -> None:
+        """No signature expires in a cache that fetches it now."""
+        for ttl, data in sets.get("RRSIG", ()):
+            if data.split()[4] < stamp(self.now + ttl):
+                raise Broken(f"at {self.now}: a signature of {data.split()[0]} expires")
 
     # ---- what the command asks
 

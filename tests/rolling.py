@@ -15,6 +15,7 @@ import copy
 import io
 import json
 import os
+import re
 import resource
 import shutil
 import signal
@@ -22,7 +23,7 @@ import sys
 import tempfile
 import threading
 import time
-from collections.abc import Iterator
+from collections.abc import Callable, Iterator
 from concurrent.futures import ProcessPoolExecutor
 from contextlib import contextmanager
 from dataclasses import dataclass
@@ -40,6 +41,8 @@ from typed import TOP, folder, typed  # noqa: E402
 
 COUNTS = {"ticks": 0, "rolls": 0, "kills": 0, "policies": 0, "commands": 0}
 DAY = 86400
+# The reports of DS sets: no server gives CDS any more then.
+OF_DS = re.compile(r"called: report(1 ksk-double-ds-roll|2 (ksk|csk|algorithm)-roll) ")
 
 
 # ---- courses
@@ -82,7 +85,8 @@ def course_faults(course: Course) -> Iterator[str]:
     world = World(reads_cds=course.reads_cds)
     with folder(), living(world, course.policy):
         for now, status, said in played(world, BEGIN + course.days * DAY):
-            if status > 1:
+            has_cds = any("CDS" in sets for sets in world.zone.given.values())
+            if status > 1 or has_cds and OF_DS.search(said):
                 yield f"{course.name}: at {now} it ends with {status}: {said}"
                 return
         starts = [line.split(" ")[1] for line in lines() if line.startswith("start ")]
@@ -116,6 +120,20 @@ def courses() -> Iterator[str]:
             yield from course_faults(course)
         except Broken as broken:
             yield f"{course.name}: {broken}"
+
+
+def renewals() -> Iterator[str]:
+    """Signatures of a zone that rolls no key are renewed before they expire in a cache, and a
+    version that was lost comes back."""
+    world = World()
+    with folder(), living(world, ""):
+        said = "".join(text for _, _, text in played(world, BEGIN + 50 * DAY, DAY))
+        if said.count("published: signatures run low") != 3:
+            yield f"in 50 days signatures were renewed so: {said}"
+        Path(f"{ZONE}.zone.signed").unlink()
+        said = tick(world)[1]
+        if "published: the signed zone is missing" not in said:
+            yield f"without the signed zone it says {said}"
 
 
 # ---- at rest
@@ -237,24 +255,29 @@ def killed() -> Iterator[str]:
             yield from faults
 
 
+def at_once(part: Callable[[], None], count: int) -> None:
+    """Runs a part so many times at once."""
+    threads = [threading.Thread(target=part) for _ in range(count)]
+    for thread in threads:
+        thread.start()
+    for thread in threads:
+        thread.join()
+
+
 def together() -> Iterator[str]:
     """Ticks at once: one does what is due, and the others find it locked, or nothing left."""
-    from vaqsider import ticking
+    from vaqsider import ticks
 
     world = World()
     with folder(), living(world, SPLIT):
-        deeds, ends, begun = [], [], threading.Barrier(4)
+        ends, begun = [], threading.Barrier(4)
 
         def one() -> None:
             begun.wait()
-            ends.append(ticking.tick(f"{ZONE}.script", lambda: world.now, deeds.append))
+            ends.append(ticks.tick(f"{ZONE}.script", lambda: world.now, lambda deed: None))
 
         for _ in range(12):
-            threads = [threading.Thread(target=one) for _ in range(4)]
-            for thread in threads:
-                thread.start()
-            for thread in threads:
-                thread.join()
+            at_once(one, 4)
             world.loads()
             world.passes(60)
         if worst := [end for end in ends if end.status > 1]:
@@ -326,7 +349,8 @@ class Hook:
 
 HOOKS = (
     Hook("hangs", "sleep 100", "it has not ended within 1 s"),
-    Hook("hangs, and its child too", "sleep 100 & sleep 100", "it has not ended within 1 s"),
+    Hook("hangs, and its child too", "sleep 100 & echo $! >pid; sleep 100",
+         "it has not ended within 1 s"),
     Hook("leaves a child", "sleep 100 & exit 1", "it has not ended within 1 s"),
     Hook("fails", "echo no room >&2; exit 3", "status 3: no room"),
     Hook("makes nothing", "true", "it has made no key of role ksk"),
@@ -360,6 +384,10 @@ def hooks() -> Iterator[str]:
                 status, said = tick(world)
                 if status != 2 or row.says not in said or len(lines()) > 1:
                     yield f"{row.name}: it ends with {status}: {said}"
+            for pid in here.glob(".*/pid"):
+                stat = Path(f"/proc/{pid.read_text().strip()}/stat")
+                if stat.exists() and "(sleep) S" in stat.read_text():
+                    yield f"{row.name}: its child goes on"
 
 
 def parents() -> Iterator[str]:
@@ -426,18 +454,9 @@ LINTED = (
 def policies() -> Iterator[str]:
     """Each word of a policy, wrong: it is refused by its line's number, or found by the lint."""
     with folder():
-        for text, why in WRONG:
-            COUNTS["policies"] += 1
-            Path("a.policy").write_text(f"# a policy\n\n{text}\n")
-            said, status = typed(["policy", "check", "a.policy"])
-            number = 3 + text.count("\n")
-            if status != 64 or f"a.policy: line {number}: " not in said or why not in said:
-                yield f"{text!r}: it ends with {status}: {said}"
+        yield from (fault for text, why in WRONG for fault in refused(text, why))
         for text in ("policy 13 csk-roll\nzsk-lifetime 9d", "csk-lifetime 9d"):
-            Path("a.policy").write_text(f"{text}\n")
-            said, status = typed(["policy", "check", "a.policy"])
-            if status != 64 or "speaks of keys that its rolls don't renew" not in said:
-                yield f"{text!r}: it ends with {status}: {said}"
+            yield from refused(text, "speaks of keys that its rolls don't renew", "")
         typed(["init", ZONE, "--before", 60, 60, 60])
         for text, why in LINTED:
             COUNTS["policies"] += 1
@@ -449,6 +468,16 @@ def policies() -> Iterator[str]:
         said, status = typed(["tick", f"{ZONE}.script"])
         if status != 2 or "example.com.policy is missing" not in said:
             yield f"without a policy it ends with {status}: {said}"
+
+
+def refused(text: str, why: str, line: str = "line {}: ") -> Iterator[str]:
+    """A policy whose last line is refused."""
+    COUNTS["policies"] += 1
+    Path("a.policy").write_text(f"# a policy\n\n{text}\n")
+    said, status = typed(["policy", "check", "a.policy"])
+    begin = f"a.policy: {line.format(3 + text.count(chr(10)))}"
+    if status != 64 or begin not in said or why not in said:
+        yield f"{text!r}: it ends with {status}: {said}"
 
 
 def years() -> Iterator[str]:
@@ -481,29 +510,47 @@ def demands() -> Iterator[str]:
     world, script = World(), f"{ZONE}.script"
     with folder(), living(world, ""):
         for _ in range(80):
-            said, status = typed(["next", script], world.now)
+            said, _ = typed(["next", script], world.now)
             world.passes(60)
         if lines()[-1] != "done algorithm-roll":
             yield f"by next it has come to {lines()[-1]}: {said}"
         shown, _ = typed(["roll", script, "zsk", "--dry-run"], world.now)
-        before = shape()
-        with mock.patch("sys.stdin", io.StringIO("no\n")):
-            said, status = typed(["roll", script, "zsk"], world.now)
-        if status or shape() != before or "begin? [y/N]" not in said:
-            yield f"roll without a yes ends with {status}: {said}"
-        said, status = typed(["roll", script, "zsk", "--yes"], world.now)
+        yield from not_begun(world)
+        typed(["roll", script, "zsk", "--yes"], world.now)
         for _ in played(world, world.now + 5 * DAY):
             pass
+        yield from rolled_to(world)
         rolls = [line.split(" ")[:2] for line in lines() if "zsk-roll" in line]
-        if rolls != [line.split()[1:3] for line in shown.splitlines() if "zsk-roll" in line]:
+        if rolls != 2 * [line.split()[1:3] for line in shown.splitlines() if "zsk-roll" in line]:
             yield f"it shows {shown}, and makes {rolls}"
         told = json.loads(typed(["next", script, "--dry-run", "--json"], world.now)[0])
         ends = json.loads(typed(["tick", script, "--json"], world.now)[0])
         if told["word"] != "nothing" or ends[script]["status"] != 0:
             yield f"as JSON they say {told} and {ends}"
-        said, status = typed(["roll", script, "csk", "--yes"], world.now)
-        if status != 64 or "has no CSKs" not in said:
-            yield f"a roll of CSKs ends with {status}: {said}"
+
+
+def rolled_to(world: World) -> Iterator[str]:
+    """A roll to a key that a person has made."""
+    world.runs(["keygen", f"{ZONE}.", "zsk", "13"], within=Path())
+    made = max(Path().glob("K*.key"), key=lambda path: path.stat().st_mtime_ns).name
+    said, status = typed(["roll", f"{ZONE}.script", "zsk", "--to", made, "--yes"], world.now)
+    for _ in played(world, world.now + 5 * DAY):
+        pass
+    starts = [line for line in lines() if line.startswith("start zsk-roll ")]
+    if status > 1 or starts[-1].split(" ")[3] != made:
+        yield f"a roll to {made} ends with {status}: {said}, {starts}"
+
+
+def not_begun(world: World) -> Iterator[str]:
+    """A roll without a yes, or of keys that the policy hasn't, changes nothing."""
+    before = shape()
+    with mock.patch("sys.stdin", io.StringIO("no\n")):
+        said, status = typed(["roll", f"{ZONE}.script", "zsk"], world.now)
+    if status or shape() != before or "begin? [y/N]" not in said:
+        yield f"roll without a yes ends with {status}: {said}"
+    said, status = typed(["roll", f"{ZONE}.script", "csk", "--yes"], world.now)
+    if status != 64 or shape() != before or "has no CSKs" not in said:
+        yield f"a roll of CSKs ends with {status}: {said}"
 
 
 def early_ends() -> Iterator[str]:
@@ -513,13 +560,13 @@ def early_ends() -> Iterator[str]:
         world = World()
         with folder(), living(world, policy):
             roll = None
-            for _, status, said in played(world, BEGIN + 9 * DAY):
+            for _ in played(world, BEGIN + 9 * DAY):
                 last = lines()[-1].split(" ")
                 if last[0] == "start" and last[1] != "algorithm-roll":
                     roll = last[1]
                     break
             typed(["call", f"{ZONE}.script", f"abort {roll}"], world.now)
-            said, status = tick(world)[1], 0
+            said = tick(world)[1]
             for _ in played(world, world.now + DAY):
                 pass
             ends = [line for line in lines() if line.endswith((f"abort {roll}", f"done {roll}"))]
@@ -591,7 +638,7 @@ def shown() -> Iterator[str]:
 
 
 CHECKS = {it.__name__: it for it in (
-    policies, years, rest, clocks, disks, together, hooks, parents, demands, early_ends, many, shown,
+    policies, years, renewals, rest, clocks, disks, together, hooks, parents, demands, early_ends, many, shown,
     courses, killed,
 )}
 

@@ -3,14 +3,15 @@
 from __future__ import annotations
 
 import sys
+import time
 from argparse import Namespace
 from collections.abc import Iterator
 from pathlib import Path
 from typing import Callable
 
-from keyset import Notes
+from keyset import Lines, Notes
 
-from . import advice, journal, playing, policies, status, ticking, ticks, words
+from . import advice, calling, journal, playing, policies, status, ticking, ticks, words
 from .errors import OK, USAGE, Failure
 from .linting import Spans
 from .playing import Play
@@ -29,15 +30,19 @@ def roll(args: Namespace, clock: Clock) -> Told:
     policy = policies.read(args.SCRIPT)
     of = _roll_of(policy, args.ROLE)
     now = int(clock())
-    steps = list(_steps(_play(args.SCRIPT, policy, now, {args.ROLE: now}), of))
+    add = _added(args)
+    steps = list(_steps(_play(args.SCRIPT, policy, now, {args.ROLE: now}, add), of))
     if not steps:
         raise Failure(f"no {of} would begin within {words.duration(SHOWN)}: "
                       f"'vaqsider next {args.SCRIPT} --dry-run' says what comes before it")
+    _expect(args.to, steps[0]["line"])
     if args.dry_run or not (args.yes or _agreed(steps)):
         return OK, playing.texts(steps if args.dry_run else ()), steps
+    for line in add:
+        calling.call(args.SCRIPT, line, clock)
     with journal.alone(args.SCRIPT) as lines:
         lines.ask(args.ROLE, now)
-    end = ticking.tick(args.SCRIPT, clock, _log(args))
+    end = ticks.tick(args.SCRIPT, clock, _log(args))
     return end.status, iter([f"{args.SCRIPT}: {end.text}"]), vars(end)
 
 
@@ -50,8 +55,26 @@ def _roll_of(policy: Policy, role: str) -> str:
     return found[0]
 
 
-def _play(script: str, policy: Policy, now: int, once: dict[str, int]) -> Play:
-    lines, _ = status.read(script, now)
+def _added(args: Namespace) -> list[str]:
+    """The line that adds the key to roll to, unless the script has it."""
+    known = {line.split(" ")[1] for line in Lines(args.SCRIPT).lines if line.startswith("add-")}
+    if args.to is None or args.to in known:
+        return []
+    word = "add-csk" if args.ROLE == "csk" else "add"
+    return [calling.completed(f"{word} {args.to}", time.time)]
+
+
+def _expect(key: str | None, start: str) -> None:
+    """The roll is to this key. The first fresh key comes in, by the bytes of its reference."""
+    new = start.split(" ")[3]
+    if key is not None and new != Path(key).name:
+        raise Failure(f"{new} would come in: it is fresh too, and the first by its reference")
+
+
+def _play(
+    script: str, policy: Policy, now: int, once: dict[str, int], add: list[str]
+) -> Play:
+    lines = [*status.read(script, now)[0], *add]
     spans, notes = Spans.of(script, now), Notes(script).lines
     asked = {**journal.once_of(script), **once}
     return Play(policy, lines, notes, now, spans.ttls, spans.delays, asked)
@@ -83,7 +106,7 @@ def _agreed(steps: list[dict]) -> bool:
 def next_(args: Namespace, clock: Clock) -> Told:
     """Makes the one thing that comes next, or only says it."""
     if not args.dry_run:
-        end = ticking.tick(args.SCRIPT, clock, _log(args), most=1)
+        end = ticks.tick(args.SCRIPT, clock, _log(args), most=1)
         return end.status, iter([end.text]), vars(end)
     policy = policies.read(args.SCRIPT)
     lines, _ = status.read(args.SCRIPT, clock())

@@ -15,7 +15,7 @@ from pathlib import Path
 
 from keyset import Lines, Locked, file, locked
 
-from . import place, policies, subjects, ticking
+from . import place, policies, subjects, ticks
 from .errors import BROKEN, DUE, OK, UNAVAILABLE, WARNING, Failure
 from .ticking import Clock, Deed, End, Log
 
@@ -142,9 +142,9 @@ class Store:
         except Locked as error:
             return End(DUE, str(error))
         except Exception as error:
-            return End(*ticking.fault_of(error))
+            return End(*ticks.fault_of(error))
         with self.witnessing(zone, folder):
-            return ticking.tick(folder / f"{zone}.script", clock, log)
+            return ticks.tick(folder / f"{zone}.script", clock, log)
 
     # ---- copies
 
@@ -191,7 +191,7 @@ def run(url: str, folder: Path, jobs: int, clock: Clock, log: Log) -> dict[str, 
             while found := store.next(before, folder, clock, log):
                 ends[found[0]] = found[1]
                 if found[1].status != OK:
-                    log(Deed(int(clock()), found[0], ticking.MEANS[found[1].status], found[1].text))
+                    log(Deed(int(clock()), found[0], ticks.MEANS[found[1].status], found[1].text))
 
     with ThreadPoolExecutor(jobs) as pool:
         list(pool.map(one, range(jobs)))

@@ -8,20 +8,18 @@ files of keys that have left are moved away."""
 from __future__ import annotations
 
 import functools
-import math
-import traceback
 from argparse import Namespace
 from dataclasses import dataclass, field
 from pathlib import Path
 from typing import Callable
 
-from keyset import Locked, Notes, WrongArgument
+from keyset import Notes, WrongArgument
 from keyset.lines import Line
 from keyset.notes import Seen, to_report
 
-from . import act, advice, calling, cli, hooks, journal, policies, resting, status, watching, words
+from . import act, advice, calling, cli, hooks, policies, resting, status, watching, words
 from .advice import Said
-from .errors import BROKEN, DUE, FAULTY, OK, WARNING, Failure, failure_of
+from .errors import BROKEN, DUE, OK, WARNING, Failure
 from .journal import Journal, Unsigned
 from .keymaking import Maker
 from .keysets import KeySets
@@ -32,8 +30,6 @@ from .zonefile import By
 # A tick makes at most so many deeds, and tries so many keys for one whose tag is free.
 DEEDS, TRIES = 50, 8
 TAKEN = "Key tag already present"
-# What the status of a tick means.
-MEANS = {OK: "rests", DUE: "waits", WARNING: "needs a person", BROKEN: "broken"}
 # These signers keep the signed zone in a file.
 OF_FILES = ("bind", "ldns")
 
@@ -377,62 +373,3 @@ def parsed(given: list[str]) -> Namespace:
     except SystemExit:
         text = f"the policy has what '{given[0]}' doesn't take"
         raise Failure(f"{text}: 'vaqsider policy check SCRIPT' says what") from None
-
-
-def tick(script: str | Path, clock: Clock, log: Log, most: int = DEEDS) -> End:
-    """A tick of a script. If another one runs now, that does what is due."""
-    path = Path(script)
-    try:
-        kept = resting.read(path)
-        if kept is not None and kept.holds(path, clock()):
-            return End(OK, kept.text, kept.until)
-        with journal.alone(path) as lines:
-            made = Tick(path, policies.read(path), clock, log, lines, most)
-            end = _ended(made)
-            _keep(made, end, kept)
-            return end
-    except Locked as error:
-        return End(OK if journal.place_of(path).name in str(error) else DUE, str(error))
-    except Exception as error:
-        return End(*fault_of(error))
-
-
-def _ended(made: Tick) -> End:
-    """How a tick ends, also by an error. Somebody else may be writing a file of the zone."""
-    try:
-        return made.run()
-    except Locked as error:
-        return End(DUE, str(error))
-    except Exception as error:
-        return End(*fault_of(error))
-
-
-def fault_of(error: Exception) -> tuple[int, str]:
-    """What an error means for the zone: it needs a person, or something is broken."""
-    failure = failure_of(error)
-    if failure.status == FAULTY:
-        traceback.print_exception(type(error), error, error.__traceback__)
-    return BROKEN if failure.status in (BROKEN, FAULTY) else WARNING, str(failure)
-
-
-def _keep(made: Tick, end: End, before: resting.Rest | None) -> None:
-    """Keeps how the tick ended, and tells the operator's command if that is new."""
-    if end.status > DUE and (before is None or before.text != end.text):
-        _tell(made, end)
-    until = None if end.until is None else math.ceil(end.until)
-    rest = resting.Rest(int(made.clock()), until, end.status, end.text,
-                        resting.files(made.script, made.files()))
-    resting.keep(made.script, rest)
-
-
-def _tell(made: Tick, end: End) -> None:
-    """Hands an event to the operator's command. If that fails, the log has it."""
-    if not made.policy.on_event:
-        return
-    event = "broken" if end.status == BROKEN else "needs a person"
-    try:
-        hooks.run(made.policy.on_event, {"event": event, "zone": made.zone,
-                                         "text": end.text, "moment": int(made.clock())})
-    except Failure as failure:
-        made.say("on-event failed", [str(failure)])
-
