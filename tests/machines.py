@@ -30,7 +30,7 @@ from rolled import ZONE, World, living, shape  # noqa: E402
 from typed import TOP, folder, typed  # noqa: E402
 
 LIFETIMES = "ksk-lifetime 15d\nzsk-lifetime 6d\n"
-COUNTS = {"statements": 0, "ticks": 0}
+COUNTS = {"kills": 0, "ticks": 0}
 
 
 class Postgres:
@@ -194,7 +194,7 @@ def killed(postgres: Postgres, before: int) -> Iterator[str]:
                     found = left(machines, twin, "two")
                 if found != wanted:
                     yield f"killed at statement {count}: {found}, not {wanted}"
-        COUNTS["statements"] += count - 1
+        COUNTS["kills"] += count - 1
 
 
 def together(postgres: Postgres) -> Iterator[str]:
@@ -242,7 +242,7 @@ def refused(postgres: Postgres) -> Iterator[str]:
         status, said = machines.tick(world, "one")
         if status != 2 or "has lines that the store hasn't" not in said:
             yield f"with another line it ends with {status}: {said}"
-        status, said = typed(["tick", "one", "--store", "postgresql:///none?host=/nowhere"])
+        said, status = typed(["tick", "one", "--store", "postgresql:///none?host=/nowhere"])
         if status != 69 or "the store fails" not in said:
             yield f"without a store it ends with {status}: {said}"
 
