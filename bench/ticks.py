@@ -17,6 +17,7 @@ import sys
 import tempfile
 from collections import Counter
 from collections.abc import Callable
+from dataclasses import replace
 from pathlib import Path
 
 sys.dont_write_bytecode = True
@@ -27,8 +28,9 @@ import answering  # noqa: E402
 from rolled import ZONE, World, living  # noqa: E402
 from rolling import played  # noqa: E402
 from typed import folder, typed  # noqa: E402
+from vaqsider import resting as kept  # noqa: E402
 
-DAY, NOW, DUE = 86400, 1_800_000_000, 10
+DAY, NOW, DUE, FIRST = 86400, 1_800_000_000, 10, 100
 POLICY = "ksk-lifetime 12d\nzsk-lifetime 5d\n"
 YEAR = "ksk-lifetime 365d\nzsk-lifetime 90d\ndelete-after 1d\n"
 # How many days zones are old that are in the midst of their rolls.
@@ -66,27 +68,44 @@ def resting(count: int) -> None:
         alone(here)
         for _ in played(world, NOW):
             pass
-        script = Path(f"{ZONE}.script")
         for number in range(count):
-            for suffix in ("script", "notes", "act", "tick"):
-                shutil.copy(script.with_suffix(f".{suffix}"), f"z{number}.{suffix}")
-            own = Path(f"{ZONE}.policy").read_text()
-            own += f"zone-file z{number}.zone\n"
-            Path(f"z{number}.policy").write_text(own)
-            shutil.copy(f"{ZONE}.zone", f"z{number}.zone")
-            shutil.copy(f"{ZONE}.zone.signed", f"z{number}.zone.signed")
+            copied(f"z{number}")
         for path in here.glob(f"{ZONE}.*"):
             path.unlink()
-        took, _, _ = measured(lambda: typed(["tick", here], world.now))
-        row(f"{count} zones, the first tick", took, "each is looked at")
+        few = [here / f"z{number}.script" for number in range(min(count, FIRST))]
+        took, _, _ = measured(lambda: typed(["tick", *few], world.now))
+        row(f"{len(few)} zones that need nothing, each looked at", took, "")
+        for number in range(len(few), count):
+            rests(here, f"z{number}")
         took, _, status = measured(lambda: typed(["tick", here], world.now))
         row(f"{count} zones at rest", took, f"status {status}")
         for number in range(DUE):
             with open(f"z{number}.tick", "a", encoding="ascii") as file:
                 file.write(f"once zsk {world.now}\n")
         took, said, status = measured(lambda: typed(["tick", here], world.now))
-        deeds = Counter(line.split(": ")[1] for line in said.splitlines() if ": " in line)
-        row(f"{count} zones, {DUE} are due", took, f"status {status}, {dict(deeds)}")
+        row(f"{count} zones, {DUE} of which are due", took, deeds_of(said))
+
+
+def copied(name: str) -> None:
+    """One more zone like that of these tests, with files of its own."""
+    for suffix in ("script", "notes", "act", "tick"):
+        shutil.copy(f"{ZONE}.{suffix}", f"{name}.{suffix}")
+    own = f"zone-file {name}.zone\n"
+    Path(f"{name}.policy").write_text(Path(f"{ZONE}.policy").read_text() + own)
+    shutil.copy(f"{ZONE}.zone", f"{name}.zone")
+    shutil.copy(f"{ZONE}.zone.signed", f"{name}.zone.signed")
+
+
+def rests(here: Path, name: str) -> None:
+    """Leaves what a tick of the first zone has left."""
+    like = kept.read(here / "z0.script")
+    files = [Path(it.replace("z0.", f"{name}.")) for it in like.files]
+    kept.keep(here / f"{name}.script", replace(like, files={str(it): kept.seen(it) for it in files}))
+
+
+def deeds_of(said: str) -> str:
+    deeds = Counter(line.split(": ")[1] for line in said.splitlines() if ": " in line)
+    return ", ".join(f"{count} {deed}" for deed, count in deeds.items())
 
 
 def busy(count: int) -> None:
@@ -104,9 +123,8 @@ def busy(count: int) -> None:
         scripts = [f"{place}/z{number}/{ZONE}.script" for number in range(count)]
         with living(Many(worlds)):
             for what in ("in the midst of their rolls", "once more"):
-                took, said, status = measured(lambda: typed(["tick", *scripts], NOW))
-                deeds = Counter(line.split(": ")[1] for line in said.splitlines() if ": " in line)
-                row(f"{count} zones {what}", took, f"status {status}, {dict(deeds)}")
+                took, said, _ = measured(lambda: typed(["tick", *scripts], NOW))
+                row(f"{count} zones {what}", took, deeds_of(said))
 
 
 def stage(here: Path, begin: int, number: int) -> World:
@@ -149,7 +167,8 @@ def year() -> None:
         worst = max(status for _, status, _ in played(world, NOW + 366 * DAY, 6 * 3600))
         lines = Path(f"{ZONE}.script").read_text().splitlines()
     starts = Counter(line.split()[1] for line in lines if line.startswith("start "))
-    row("a year of a zone", used() - begun, f"worst status {worst}, {dict(starts)}")
+    rolls = ", ".join(f"{count} {roll}" for roll, count in starts.items())
+    row("a year of a zone", used() - begun, f"{rolls}; the worst status is {worst}")
 
 
 def main() -> None:

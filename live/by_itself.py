@@ -24,8 +24,10 @@ from processes import Failed, end
 # For how long each scene is played, and the most that one may take with its end, in seconds.
 SECONDS = int(os.environ.get("BY_ITSELF_SECONDS", "1200"))
 MOST = SECONDS + 300
-# How far the clock of a tick is wrong at most, and how long a server or the registrar is away.
-CLOCK, AWAY, SLOW = 3, 3, 5
+# How far the clock of a tick is wrong at most, how long a server is away that has crashed, and one
+# that stands still (longer than that a resolver behind a cache doesn't wait), and how slow the
+# registrar is.
+CLOCK, AWAY, STILL, SLOW = 3, 3, 1, 5
 # A roll is over so many seconds after its key's time, with all that is done to it.
 BOUND = 120
 NEEDED = 2
@@ -241,22 +243,31 @@ class Unattended(Operator):
 
 
 async def failing(world, until, dice, counts):
-    """Servers of the zones and of the parent fail, one at a time, and come back: they stand still
-    for some seconds, or crash."""
+    """Servers of the zones and of the parent fail, one at a time, and come back: they stand still,
+    or crash."""
     names = {address: world.fleet.servers[address].name for address in (*CHILD["A"], *PARENT)}
     while time.monotonic() < until:
         await asyncio.sleep(dice.uniform(15, 40))
-        address = dice.choice(list(names))
-        process = world.processes.running[names[address]]
-        if names[address].startswith("knot") and dice.random() < 0.5:
-            await world.processes.restart(names[address])
-        else:
-            end(process, signal.SIGSTOP)
-            try:
-                await asyncio.sleep(AWAY)
-            finally:
-                end(process, signal.SIGCONT)
+        name = names[dice.choice(list(names))]
+        # (NSD would not outlive that it is told of a new version while it starts.)
+        await (crashes(world, name) if name.startswith("knot") else stands_still(world, name))
         counts["failures of servers"] += 1
+
+
+async def crashes(world, name):
+    world.processes.restarting.add(name)
+    end(world.processes.running[name], signal.SIGKILL)
+    await asyncio.sleep(AWAY)
+    await world.processes.restart(name)
+
+
+async def stands_still(world, name):
+    process = world.processes.running[name]
+    end(process, signal.SIGSTOP)
+    try:
+        await asyncio.sleep(STILL)
+    finally:
+        end(process, signal.SIGCONT)
 
 
 def scene(name):

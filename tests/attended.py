@@ -22,13 +22,14 @@ REPORT = re.compile(r"report\d algorithm-roll (\d+) ")
 EXPOSURE = re.compile(r"Overall exposure level for \S+: (\d\.\d)")
 
 
-def passing(world: World, seconds: int, *options: str) -> Iterator[tuple[int, str]]:
-    """Ticks as a timer makes them, for so long."""
+def passing(world: World, seconds: int, *options: str, every: int = 0) -> Iterator[tuple[int, str]]:
+    """Ticks as a timer makes them, for so long: each minute while something is waited for."""
     end = world.now + seconds
     while world.now < end:
         status, said = tick(world, *options)
         yield status, said
-        world.passes(min(60 if status else 6 * 3600, end - world.now))
+        usual = 6 * 3600 if said.count("nothing is due") else 60
+        world.passes(min(every or usual, end - world.now))
 
 
 def events(world: World) -> list[str]:
@@ -41,10 +42,10 @@ def low() -> Iterator[str]:
     with folder(), living(world, "on-event tell\n"):
         list(passing(world, 14 * DAY))
         with mock.patch.object(world, "signs", side_effect=OSError(5, "broken")), living(world):
-            ends = list(passing(world, 2 * DAY))
+            ends = list(passing(world, 2 * DAY, every=6 * 3600))
             if {status for status, _ in ends} != {0, 2} or events(world) != ["needs a person"]:
                 yield f"a signer that fails ends with {ends[-1]}, and is told as {events(world)}"
-            ends = list(passing(world, 2 * DAY))
+            ends = list(passing(world, 2 * DAY, every=6 * 3600))
         if events(world) != ["needs a person", "signatures run low"]:
             yield f"then it ends with {ends[-1]}, and is told as {events(world)}"
         metrics, _ = typed(["zones", ".", "--prometheus"], world.now)
@@ -59,16 +60,16 @@ def silent() -> Iterator[str]:
     person is told, once."""
     for off in ("p1", "ns1"):
         world = World()
-        with folder(), living(world, "patience 2h\non-event tell\n"):
+        with folder(), living(world, "patience 20min\non-event tell\n"):
             (world.parent if off == "p1" else world.zone).is_off.add(off)
-            ends = list(passing(world, 3600))
+            ends = list(passing(world, 15 * 60, every=180))
             if ends[-1][0] != 1 or events(world):
                 yield f"without {off} it ends with {ends[-1]}, and tells {events(world)}"
-            ends = list(passing(world, 2 * 3600))
+            ends = list(passing(world, 15 * 60, every=180))
             if ends[-1][0] != 2 or len(events(world)) != 1:
                 yield f"for long without {off} it ends with {ends[-1]}, and tells {events(world)}"
             (world.parent if off == "p1" else world.zone).is_off.clear()
-            list(passing(world, 3600))
+            list(passing(world, 20 * 60))
             if lines()[-1] != "done algorithm-roll":
                 yield f"with {off} again it comes to {lines()[-1]}"
 
@@ -93,7 +94,7 @@ def clock() -> Iterator[str]:
     with folder(), living(world, SPLIT + "clock 5s\n"):
         list(passing(world, DAY))
         ttls = {int(found[1]) for found in map(REPORT.match, lines()) if found}
-        if ttls != {70, 310}:
+        if ttls != {71, 72}:
             yield f"reports have the TTLs {ttls}"
         moments = re.findall(r" (\d+)$", Path(f"{ZONE}.notes").read_text(), re.MULTILINE)
         last = max(map(int, moments))
@@ -163,13 +164,18 @@ def names() -> Iterator[str]:
 def running() -> Iterator[str]:
     """A signer that runs, asked by its three verbs: a course, and a new serial each week."""
     world = World()
-    with folder(), living(world, "ksk-lifetime 15d\nzsk-lifetime 40d\nsigner hook signer\n"):
-        ends = list(passing(world, 17 * DAY))
+    with folder(), living(world, "ksk-lifetime 7d\nsigner hook signer\n"):
+        ends = list(passing(world, 9 * DAY))
         worst, said = max(status for status, _ in ends), "".join(it for _, it in ends)
         if worst > 1 or "done ksk-roll" not in lines() or Path(f"{ZONE}.zone.signed").exists():
             yield f"a signer that runs ends with {worst}: {said}"
         if not 1 <= said.count("published: signatures run low") <= 3:
             yield f"it is asked for new serials so: {said}"
+        with open(f"{ZONE}.policy", "a", encoding="ascii") as policy:
+            policy.write("signatures 20d\njitter 1h\n")
+        said, status = typed(["policy", "check", f"{ZONE}.script"], world.now)
+        if status != 2 or not {"lifetime: ", "jitter: "} <= set(re.findall(r"[a-z]+: ", said)):
+            yield f"options that it doesn't take end with {status}: {said}"
 
 
 def page() -> Iterator[str]:

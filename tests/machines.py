@@ -188,10 +188,9 @@ def together(postgres: Store) -> Iterator[str]:
     with shared(postgres, world) as machines:
         deeds: list = []
         for _ in range(14):
-            clock = lambda: world.now  # noqa: E731
-            one = ticks.logged(clock, deeds.append)
+            made = ticks.Ticks(lambda: world.now, deeds.append)
             threads = [threading.Thread(target=store.run, args=(
-                machines.url, Path(name), 2, clock, one)) for name in ("one", "two")]
+                machines.url, Path(name), 2, made)) for name in ("one", "two")]
             for thread in threads:
                 thread.start()
             for thread in threads:
@@ -241,7 +240,7 @@ def by_hand(postgres: Store) -> Iterator[str]:
         store = ["--store", machines.url]
         for words, wanted in (
             (["roll", f"two/{ZONE}.script", "zsk", "--yes"], 1),
-            (["next", f"one/{ZONE}.script"], 1),
+            (["next", f"one/{ZONE}.script"], 0),
             (["call", f"two/{ZONE}.script", "set-stale none"], 1),
             (["call", "two/other.script", "set-stale none"], 64),
             (["zones", "two"], 0),

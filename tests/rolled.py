@@ -338,7 +338,10 @@ def living(world: World, policy: str = "", asks: bool = True) -> Iterator[World]
         for stored in Path().glob("K*.key"):
             stored.unlink()
         Path(f"{ZONE}.zone").write_text(UNSIGNED)
-        Path(f"{ZONE}.policy").write_text(POLICY + policy)
+        usual = POLICY.splitlines(keepends=True)
+        of_signer = "signer hook" in policy
+        usual = [it for it in usual if not (of_signer and it.startswith(("signatures", "renew")))]
+        Path(f"{ZONE}.policy").write_text("".join(usual) + policy)
         typed(["init", ZONE, "--before", 60, 60, 60], world.now)
     with contextlib.ExitStack() as stack:
         for target, name, stands_in in (

@@ -226,13 +226,13 @@ def on_tick(args):
     from . import policies, subjects, ticks
 
     log, jobs = ticks.logger(args.log, sys.stderr if args.json else sys.stdout), args.jobs
-    one = ticks.logged(clock, log, policies.Commands(args.on_ds or (), args.on_event or ()))
+    made = ticks.Ticks(clock, log, policies.Commands(args.on_ds or (), args.on_event or ()))
     if args.store:
         from . import shared
 
-        ends = shared.run(args.store, Path(args.SCRIPT[0]), jobs or ticks.JOBS, clock, one)
+        ends = shared.run(args.store, Path(args.SCRIPT[0]), jobs or ticks.JOBS, made)
     else:
-        ends = ticks.run(subjects.scripts(args.SCRIPT), jobs or ticks.JOBS, one)
+        ends = ticks.run(subjects.scripts(args.SCRIPT), jobs or ticks.JOBS, made)
     worst = max((end.status for end in ends.values()), default=OK)
     text = ticks.text(ends) if args.log == "text" else ()
     return worst, text, {path: vars(end) for path, end in ends.items()}

@@ -15,7 +15,6 @@ from pathlib import Path
 from keyset.lines import NAMES, Line
 
 from . import hooks, keyfiles
-from .arguments import file_name
 from .errors import UNAVAILABLE, Failure
 from .keyfiles import KeyFile
 from .policies import Policy
@@ -29,16 +28,17 @@ ENDS = (".private", ".state", ".key")
 
 @dataclass(frozen=True)
 class Maker:
-    """Makes keys for a zone by its policy. `folder` has its key files."""
+    """Makes keys for a zone by its policy. `folder` has its key files, and `name` is its script's."""
 
     zone: str
     policy: Policy
     folder: Path
+    name: str
 
     @property
     def making(self) -> Path:
         """Where keys are made. Nobody else reads it."""
-        return self.folder / f".{file_name(self.zone)}{MAKING}"
+        return self.folder / f".{self.name}{MAKING}"
 
     def words(self, role: str, algorithm: int) -> list[str]:
         """The command that makes a key of this role, in its folder."""

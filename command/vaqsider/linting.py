@@ -132,13 +132,15 @@ def _of_signer(policy: Policy, spans: Spans) -> list[Finding]:
     """The rolls that its signer can't do."""
     from . import cli
 
-    found = []
+    args, found = cli.parsed(policy.for_act(f"{EXAMPLE}.script")), []
     for roll in policy.rolls:
         try:
-            signer = signers.planned(cli.parsed(policy.for_act(f"{EXAMPLE}.script")), EXAMPLE)
+            signer = signers.planned(args, EXAMPLE)
             takes_of(policy, roll, spans, signer and Planned(signer.lacks, signer.folders))
         except Failure as failure:
             found.append(_wrong(f"signer {policy.signer}: {failure}"))
+    found += (_wrong(f"{name}: {policy.signer} has that in its own settings")
+              for name in signers.not_taken(args))
     return found
 
 

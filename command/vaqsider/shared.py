@@ -16,9 +16,9 @@ from pathlib import Path
 from keyset import Lines, Locked, file, locked
 
 from . import place, policies, subjects, ticks
-from .ending import Clock, End
+from .ending import End
 from .errors import BROKEN, DUE, UNAVAILABLE, WARNING, Failure
-from .ticks import TickOf
+from .ticks import Ticks
 
 try:
     import psycopg
@@ -41,7 +41,7 @@ CREATE OR REPLACE TRIGGER vaqsider_kept BEFORE UPDATE OR DELETE ON vaqsider_line
 """
 TAKE = """SELECT name, policy FROM vaqsider_zone WHERE seen < %s
     ORDER BY seen, name FOR UPDATE SKIP LOCKED LIMIT 1"""
-HOLD = "SELECT name FROM vaqsider_zone WHERE name = %s FOR UPDATE"
+HOLD = "SELECT policy FROM vaqsider_zone WHERE name = %s FOR UPDATE"
 LEAVE = "UPDATE vaqsider_zone SET seen = %s, status = %s, says = %s WHERE name = %s"
 READ = "SELECT line FROM vaqsider_line WHERE zone = %s AND file = %s ORDER BY number"
 ADD = "INSERT INTO vaqsider_line (zone, file, number, line) VALUES (%s, %s, %s, %s)"
@@ -95,9 +95,10 @@ class Store:
         except psycopg.errors.UniqueViolation:
             raise Locked(f"{zone}: another machine has written line {number} of its {of}") from None
 
-    def bring(self, zone: str, folder: Path) -> None:
+    def bring(self, zone: str, folder: Path, policy: str) -> None:
         """Brings the files of a zone up to what is committed. They may lag, as after a crash; with
         other lines a person has to see why."""
+        _write(folder / f"{zone}{policies.SUFFIX}", policy)
         for of in FILES:
             path, lines = folder / f"{zone}.{of}", self.lines(zone, of)
             if not path.exists():
@@ -125,7 +126,7 @@ class Store:
 
     # ---- zones
 
-    def next(self, before: int, folder: Path, clock: Clock, tick: TickOf) -> tuple[str, End] | None:
+    def next(self, before: int, folder: Path, made: Ticks) -> tuple[str, End] | None:
         """Ticks the zone that waits longest of those that were not ticked since a moment, and that
         no other machine has. None if there is none."""
         with self.taking.transaction():
@@ -133,20 +134,19 @@ class Store:
             if taken is None:
                 return None
             zone, policy = taken
-            end = self._tick(zone, policy, folder, tick)
-            execute(self.taking, LEAVE, int(clock()) + 1, end.status, end.text, zone)
+            end = self._tick(zone, policy, folder, made)
+            execute(self.taking, LEAVE, int(made.clock()) + 1, end.status, end.text, zone)
             return zone, end
 
-    def _tick(self, zone: str, policy: str, folder: Path, tick: TickOf) -> End:
+    def _tick(self, zone: str, policy: str, folder: Path, made: Ticks) -> End:
         try:
-            self.bring(zone, folder)
-            _write(folder / f"{zone}{policies.SUFFIX}", policy)
+            self.bring(zone, folder, policy)
         except Locked as error:
-            return End(DUE, str(error))
+            return made.ended(zone, End(DUE, str(error)))
         except Exception as error:
-            return End(*ticks.fault_of(error))
+            return made.ended(zone, End(*ticks.fault_of(error)))
         with self.witnessing(zone, folder):
-            return tick(folder / f"{zone}.script")
+            return made.tick(folder / f"{zone}.script")
 
     # ---- copies
 
@@ -166,8 +166,7 @@ class Store:
         """Copies all zones to files."""
         found = list(execute(self.adding, "SELECT name, policy FROM vaqsider_zone ORDER BY name"))
         for zone, policy in found:
-            self.bring(zone, folder)
-            _write(folder / f"{zone}{policies.SUFFIX}", policy)
+            self.bring(zone, folder, policy)
         return [zone for zone, _ in found]
 
 
@@ -182,13 +181,13 @@ def is_url(text: str) -> bool:
     return text.startswith(("postgresql://", "postgres://"))
 
 
-def run(url: str, folder: Path, jobs: int, clock: Clock, tick: TickOf) -> dict[str, End]:
+def run(url: str, folder: Path, jobs: int, made: Ticks) -> dict[str, End]:
     """Ticks all zones of a store that no other machine ticks now. How each ended."""
-    before, ends = int(clock()) + 1, {}
+    before, ends = int(made.clock()) + 1, {}
 
     def one(_: int) -> None:
         with Store(url) as store:
-            while found := store.next(before, folder, clock, tick):
+            while found := store.next(before, folder, made):
                 ends[found[0]] = found[1]
 
     with ThreadPoolExecutor(jobs) as pool:
@@ -206,9 +205,10 @@ def held(url: str, place: Path) -> Iterator[None]:
             yield
             return
         with store.taking.transaction():
-            if execute(store.taking, HOLD, place.stem).fetchone() is None:
+            found = execute(store.taking, HOLD, place.stem).fetchone()
+            if found is None:
                 raise Failure(f"{place.stem} isn't in the store")
-            store.bring(place.stem, place.parent)
+            store.bring(place.stem, place.parent, *found)
             with store.witnessing(place.stem, place.parent):
                 yield
 

@@ -38,8 +38,8 @@ TAKEN = "Key tag already present"
 
 @dataclass
 class Tick:
-    """A tick of a script by its policy. `acted` are the acts of this tick, by the number of lines
-    and whether CDS was to be in; `stood` is what it has read of the signed file; and `is_cds_out`
+    """A tick of a script by its policy. `acted` are the acts of this tick, by the number of lines,
+    whether CDS was to be in, and the unsigned zone; `stood` is what it has read of the signed file; and `is_cds_out`
     says that no server gives CDS any more."""
 
     script: Path
@@ -50,7 +50,7 @@ class Tick:
     most: int = DEEDS
     lines: list[str] = field(default_factory=list)
     told: dict = field(default_factory=dict)
-    acted: set[tuple[int, bool]] = field(default_factory=set)
+    acted: set[tuple[int, bool, Unsigned]] = field(default_factory=set)
     is_cds_out: bool = False
     stood: tuple[list[int] | None, Standing | None] | None = None
 
@@ -66,7 +66,7 @@ class Tick:
         except Done as done:
             if done.end.status < WARNING:
                 self.clear_away()
-            return self.of_signatures(done.end)
+            return done.end
 
     def read(self) -> None:
         """Reads the script, and expects that a tick can go on from it."""
@@ -143,7 +143,7 @@ class Tick:
     @functools.cached_property
     def maker(self) -> Maker:
         folder = Path(self.policy.keys or self.script.parent)
-        return Maker(self.zone, self.policy, folder)
+        return Maker(self.zone, self.policy, folder, self.script.stem)
 
     @functools.cached_property
     def places(self) -> Places:
@@ -227,23 +227,23 @@ class Tick:
 
     def publish(self, why: str) -> None:
         """An act. If it was made in this tick and is still due, a person has to see why."""
-        has_cds = self.wants_cds()
-        if (len(self.lines), has_cds) in self.acted:
+        made = len(self.lines), self.wants_cds(), Unsigned.of(self.places.unsigned)
+        if made in self.acted:
             raise Done(WARNING, f"it was published, and still {why}: what does the signer do?")
-        self.acted.add((len(self.lines), has_cds))
-        self.journal.begin(self.clock(), Unsigned.of(self.places.unsigned))
-        made, _ = act.perform(parsed(self.policy.for_act(self.script)), self.clock)
+        self.acted.add(made)
+        self.journal.begin(self.clock(), made[2])
+        did, _ = act.perform(parsed(self.policy.for_act(self.script)), self.clock)
         if self.policy.reload:
             hooks.run(hooks.filled(self.policy.reload, self.zone))
         self.journal.end(self.clock())
-        cds = ", with CDS" if made.has_cds else ""
+        cds = ", with CDS" if did.has_cds else ""
         self.say("published", [f"{why}: {words.listed(self.told['published']['dnskey'])}{cds}"])
 
     def wants_cds(self) -> bool:
         """Whether an act puts CDS in now: the DS set is asked for, and not seen everywhere."""
-        seen = Seen(self.notes.lines, self.clock())
-        is_asked = status.is_asked(self.told, "CreateCdsRrset")
-        return is_asked and seen.is_everywhere.get("ds") is not True
+        if not status.is_asked(self.told, "CreateCdsRrset"):
+            return False
+        return not act.has_spread(act.step_of(self.lines), self.notes.lines, self.clock())
 
     def call(self, said: Said) -> None:
         """Makes the call that is said. Before a report of the DS set, or the end of a roll that
@@ -281,8 +281,10 @@ class Tick:
         role, algorithm = said.fields[0], int(said.fields[1])
         for _ in range(TRIES):
             file = self.maker.make(role, algorithm)
-            add = "add-csk" if role == "csk" else "add"
-            made = calling.call(self.script, f"{add} {file.path}", self.clock, known=self.lines)
+            # (The clock of its maker may be ahead of this one.)
+            file.creation = min(file.creation, int(self.clock()))
+            line = file.line(role == "csk")
+            made = calling.call(self.script, line, self.clock, known=self.lines)
             if made.kept:
                 short = shortnames.names([*self.lines, made.line]).get(file.path.name, role)
                 self.say("key made", [f"{short} {file.path.name}"])

@@ -9,9 +9,9 @@ import threading
 import traceback
 from collections.abc import Iterator
 from concurrent.futures import ThreadPoolExecutor
-from dataclasses import asdict
+from dataclasses import asdict, dataclass
 from pathlib import Path
-from typing import Callable, Iterable, TextIO
+from typing import Iterable, TextIO
 
 from keyset import Locked
 
@@ -27,7 +27,6 @@ JOBS = 8
 # What the status of a tick means; and the events that only their kind makes new, not their text.
 MEANS = {OK: "rests", DUE: "waits", WARNING: "needs a person", BROKEN: "broken"}
 KINDS = (STUCK, PARENT_LACKS, RUN_LOW)
-TickOf = Callable[[Path], End]
 
 
 def logger(form: str, out: TextIO) -> Log:
@@ -57,7 +56,7 @@ def tick(script: str | Path, clock: Clock, log: Log, most: int = DEEDS,
         with journal.alone(path) as lines:
             made = Tick(path, policies.read(path).by(commands), clock, log, lines, most)
             since = kept.since if kept is not None and kept.status else int(clock())
-            end = _in_time(made, _ended(made), since)
+            end = made.of_signatures(_in_time(made, _ended(made), since))
             _keep(made, end, kept, since)
             return end
     except Locked as error:
@@ -119,23 +118,28 @@ def _tell(made: Tick, end: End, event: str) -> None:
         made.say("on-event failed", [str(failure)])
 
 
-def logged(clock: Clock, log: Log, commands: Commands = Commands()) -> TickOf:
-    """Ticks whose end is logged, unless nothing is needed."""
+@dataclass(frozen=True)
+class Ticks:
+    """Ticks of zones, whose ends are logged unless nothing is needed."""
 
-    def one(path: Path) -> End:
-        end = tick(path, clock, log, commands=commands)
+    clock: Clock
+    log: Log
+    commands: Commands = Commands()
+
+    def tick(self, path: Path) -> End:
+        return self.ended(path.stem, tick(path, self.clock, self.log, commands=self.commands))
+
+    def ended(self, zone: str, end: End) -> End:
         if end.status != OK:
-            log(Deed(int(clock()), path.stem, MEANS[end.status], end.text))
+            self.log(Deed(int(self.clock()), zone, MEANS[end.status], end.text))
         return end
 
-    return one
 
-
-def run(paths: Iterable[Path], jobs: int, one: TickOf) -> dict[str, End]:
+def run(paths: Iterable[Path], jobs: int, ticks: Ticks) -> dict[str, End]:
     """Ticks of all these scripts, so many at once. How each ended, by its script."""
     paths = list(paths)
     with ThreadPoolExecutor(max(1, min(jobs, len(paths)))) as pool:
-        return dict(zip(map(str, paths), pool.map(one, paths)))
+        return dict(zip(map(str, paths), pool.map(ticks.tick, paths)))
 
 
 def text(ends: dict[str, End]) -> Iterator[str]:
