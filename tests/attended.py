@@ -11,7 +11,7 @@ from collections.abc import Iterator
 from pathlib import Path
 from unittest import mock
 
-from rolled import ZONE, World, lines, living, tick
+from rolled import ZONE, Servers, World, lines, living, tick
 from typed import TOP, folder, typed
 
 DAY = 86400
@@ -90,7 +90,7 @@ def commands() -> Iterator[str]:
 def clock() -> Iterator[str]:
     """A clock that is wrong by what the policy allows: each wait is longer by that, and a tick
     waits until the last moment is over."""
-    world = World()
+    world = World(ahead=5)
     with folder(), living(world, SPLIT + "clock 5s\n"):
         list(passing(world, DAY))
         ttls = {int(found[1]) for found in map(REPORT.match, lines()) if found}
@@ -103,6 +103,47 @@ def clock() -> Iterator[str]:
             said, status = typed(["tick", f"{ZONE}.script"], world.now)
             if status != wanted or "was that set back?" not in said:
                 yield f"set back by {back} it ends with {status}: {said}"
+
+
+class Fast(World):
+    """Servers and a parent that have each version at once."""
+
+    def __init__(self) -> None:
+        super().__init__(zone=Servers({"ns1": 0, "ns2": 0}), parent=Servers({"p1": 0, "p2": 0}))
+
+    def exchange(self, query, address: str, port: int):
+        self.loads()
+        return super().exchange(query, address, port)
+
+
+def fast() -> Iterator[str]:
+    """What one tick does with servers that are fast: it publishes CDS, and takes it out again."""
+    for policy in ("policy 13 csk-roll\ncsk-lifetime 2d\n", "ksk-lifetime 2d\nzsk-lifetime 1d\n"):
+        world = Fast()
+        with folder(), living(world, policy):
+            ends = list(passing(world, 3 * DAY))
+        worst, said = max(ends), "".join(text for _, text in ends)
+        if worst[0] > 1 or "CDS goes out" not in said:
+            yield f"{policy!r} ends with {worst}: {said}"
+
+
+def changed() -> Iterator[str]:
+    """A zone that somebody changes while it is signed is signed once more."""
+    world = World()
+    signs, left = world.signs, [1]
+
+    def changes(words, *given, **named) -> None:
+        signs(words, *given, **named)
+        if words[0] == "dnssec-signzone" and left:
+            left.pop()
+            with open(f"{ZONE}.zone", "a", encoding="ascii") as file:
+                file.write("www IN A 127.0.0.2\n")
+
+    with folder(), living(world, ""):
+        with mock.patch.object(world, "signs", changes), living(world):
+            status, said = tick(world)
+        if status != 1 or "published: the unsigned zone has changed" not in said:
+            yield f"a zone that changes meanwhile ends with {status}: {said}"
 
 
 def purge() -> Iterator[str]:
@@ -217,4 +258,4 @@ def analyzed(*words: str) -> subprocess.CompletedProcess[str]:
                           stderr=subprocess.STDOUT)
 
 
-CHECKS = (low, silent, commands, clock, purge, older, names, running, page, units)
+CHECKS = (low, silent, commands, clock, fast, changed, purge, older, names, running, page, units)

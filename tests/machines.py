@@ -240,7 +240,7 @@ def by_hand(postgres: Store) -> Iterator[str]:
         store = ["--store", machines.url]
         for words, wanted in (
             (["roll", f"two/{ZONE}.script", "zsk", "--yes"], 1),
-            (["next", f"one/{ZONE}.script"], 0),
+            (["next", f"one/{ZONE}.script"], 1),
             (["call", f"two/{ZONE}.script", "set-stale none"], 1),
             (["call", "two/other.script", "set-stale none"], 64),
             (["zones", "two"], 0),

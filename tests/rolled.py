@@ -67,7 +67,8 @@ class Servers:
 @dataclass
 class World:
     """The zone's servers and those of its parent. A parent that reads CDS takes it after a while.
-    `held` is what caches may hold of each kind, each with the moment when it was given last."""
+    `held` is what caches may hold of each kind, each with the moment when it was given last. The
+    clock of the maker of keys is `ahead` by so many seconds."""
 
     now: int = BEGIN
     reads_cds: bool = True
@@ -80,6 +81,7 @@ class World:
     believes: bool = True
     ttls: dict[str, int] = field(default_factory=lambda: dict(TTLS))
     signed: dict[str, list] = field(default_factory=dict)
+    ahead: int = 0
 
     def passes(self, seconds: int) -> None:
         """Lets time pass. Between two versions of a server nothing changes in what caches may
@@ -245,7 +247,7 @@ class World:
         name = f"K{zone}+{int(algorithm):03}+{tag:05}"
         (within / f"{name}.private").write_text(f"{self.made}\n")
         (within / f"{name}.key").write_text(
-            f"; Created: {stamp(self.now)}\n{zone} IN DNSKEY {data}\n")
+            f"; Created: {stamp(self.now + self.ahead)}\n{zone} IN DNSKEY {data}\n")
 
 
 class Broken(Exception):

@@ -16,7 +16,7 @@ METRICS = {
     "findings": "what check finds wrong or due",
     "tick_status": "how the last tick ended: 0 rests, 1 waits, 2 needs a person, 3 broken",
     "tick_age_seconds": "seconds since the last tick that had something to do",
-    "tick_waits_seconds": "seconds since it waits, or needs a person, for the same reason",
+    "tick_waits_seconds": "seconds since it waits or needs a person",
     "tick_next_seconds": "seconds until a tick may have something to do",
 }
 OTHERS = ("script", "zone", "fault", "next", "servers", "signed", "tick")
