@@ -4,6 +4,7 @@ import re
 from typing import Callable, NamedTuple
 
 import by_command
+import by_itself
 import commanded
 import emergencies
 import from_bind
@@ -25,6 +26,8 @@ class Scene(NamedTuple):
     letters: str
     is_lie: bool
     round: int = 1
+    # The most seconds that it may take.
+    most: int = 900
 
     @property
     def zone(self):
@@ -34,6 +37,8 @@ class Scene(NamedTuple):
 # The longest come first.
 SCENES = [
     *(Scene(name, play, "A", False) for name, play in running.HONEST.items()),
+    *(Scene(name, play, "A", False, most=by_itself.MOST)
+      for name, play in by_itself.HONEST.items()),
     Scene("resolvers-restarted", one_signer.restarted, "A", False),
     *(Scene(name, play, "A", False) for name, play in one_signer.LONG.items()),
     *(Scene(name, play, "AB", False) for name, play in two_signers.HONEST.items()),
@@ -115,15 +120,20 @@ def is_short(name):
     return name not in ONLY_WHOLE and (not ALIKE.search(name) or name in OF_THEM)
 
 
+def is_played(name, short):
+    """Whether a run plays a scene that nobody has named."""
+    return name not in by_itself.HONEST and (is_short(name) or not short)
+
+
 def chosen(names, short, rounds):
-    """The scenes with these names, or all, or those of the short form. A scene with a lie is played
-    once."""
+    """The scenes with these names, or all that are played unnamed, or those of the short form. A
+    scene with a lie is played once."""
     unknown = set(names) - {scene.name for scene in SCENES}
     if unknown:
         raise SystemExit(f"no scene: {' '.join(sorted(unknown))}")
     return [
         scene._replace(round=number)
         for number in range(1, rounds + 1) for scene in SCENES
-        if scene.name in names or not names and (is_short(scene.name) or not short)
+        if scene.name in names or not names and is_played(scene.name, short)
         if number == 1 or not scene.is_lie
     ]

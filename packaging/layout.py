@@ -23,6 +23,10 @@ PAGES = {"programs": (*PROGRAMS, *LINKS), "command": ("vaqsider",)}
 # The folders of Python that the command consists of.
 PACKAGES = (TOP / "library" / "python" / "keyset", TOP / "command" / "vaqsider")
 
+# What systemd reads: units in one folder, users in another.
+SYSTEMD = TOP / "packaging" / "systemd"
+UNITS, USERS = Path("lib/systemd/system"), Path("lib/sysusers.d")
+
 LAUNCHER = '''\
 #!/usr/bin/env python3
 """The command vaqsider, as it is installed."""
@@ -70,6 +74,7 @@ class Layout:
             yield from self._library(made)
         if "command" in self.parts:
             yield from self._command(made)
+            yield from self._units()
         for place in documents():
             source = made / "documents" if place.endswith(".md") else TOP
             yield File(DOCUMENTS / place, source / place)
@@ -100,6 +105,11 @@ class Layout:
                 if "__pycache__" not in source.parts:
                     yield File(SHARE / package.name / source.relative_to(package), source)
         yield from self._pages(made, "command")
+
+    def _units(self):
+        for unit in sorted(SYSTEMD.glob("vaqsider@.*")):
+            yield File(UNITS / unit.name, unit)
+        yield File(USERS / "vaqsider.conf", SYSTEMD / "vaqsider.conf")
 
     def _pages(self, made, part):
         for name in PAGES[part]:

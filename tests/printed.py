@@ -9,7 +9,7 @@ from typed import TOP, typed
 
 PAGES = sorted({*TOP.glob("*.md"), *TOP.glob("docs/*.md"), *TOP.glob("*/README.md")})
 PAGES = [it for it in PAGES if it.name != "CHANGELOG.md"]
-WORDS = "init|import|call|status|check|plan|draw|act|ceremony|watch|zones"
+WORDS = "init|import|call|status|check|plan|draw|act|ceremony|watch|zones|policy|tick|roll|next|store"
 # A line of a block, or a text between backquotes, that begins with the command.
 IN_BLOCK = re.compile(r"^(?:\$ )?(vaqsider .*)$", re.MULTILINE)
 INLINE = re.compile(rf"(?<!`)`((?:vaqsider |(?=(?:{WORDS}) (?:S|SCRIPT|FOLDER|ZONE)\b))[^`]*)`")
@@ -17,7 +17,7 @@ QUOTED = re.compile(rf"'((?:vaqsider )?(?:{WORDS}) [^'{{]+)'")
 # What stands for something in these lines.
 STANDS_FOR = {"S": "S.script", "SCRIPT": "S.script", "SCRIPT..": "S.script", "FOLDER": ".",
               "ZONE": "example.com", "KEYFILE..": "K1.key", "[KEYFILE..]": "K1.key",
-              "ROLL": "zsk-roll", "OLD": "Z1", "NEW": "Z2", "LINE": "done zsk-roll"}
+              "ROLE": "zsk", "ROLL": "zsk-roll", "OLD": "Z1", "NEW": "Z2", "LINE": "done zsk-roll"}
 # The word only, or an option of it: not a whole line.
 NAMES_A_PART = re.compile(rf"({WORDS})( --[a-z0-9-]+)?")
 

@@ -21,7 +21,7 @@ FIGURES = TOP / "docs" / "tests.txt"
 # The tests that print what they have done.
 PARTS = {
     *("command", "dnssec_tests", "examples", "install", "library", "long"),
-    *("memory", "networks", "notes", "runbooks", "sessions", "sets"),
+    *("memory", "networks", "nexts", "notes", "rolling", "runbooks", "sessions", "sets"),
 }
 
 ROW = re.compile(r"(?P<where>\S[^:]*): (?P<much>.+)")

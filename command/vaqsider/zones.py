@@ -2,7 +2,7 @@
 
 from pathlib import Path
 
-from . import check, looks, status, words
+from . import check, looks, resting, status, words
 from .errors import BROKEN, OK, UNAVAILABLE, Failure, failure_of
 
 METRICS = {
@@ -10,11 +10,16 @@ METRICS = {
     "next_seconds": "seconds until the next wait is accepted",
     "waits_for": "1 for whom the zone waits",
     "lines": "lines of the script",
-    "signatures_seconds": "seconds until the first signature expires, by the last look",
+    "signatures_seconds": "seconds until the first signature expires, by the last look or tick",
     "servers_lacking": "servers that lacked something at the last look",
     "look_age_seconds": "seconds since the last look",
     "findings": "what check finds wrong or due",
+    "tick_status": "how the last tick ended: 0 rests, 1 waits, 2 needs a person, 3 broken",
+    "tick_age_seconds": "seconds since the last tick that had something to do",
+    "tick_waits_seconds": "seconds since it waits or needs a person",
+    "tick_next_seconds": "seconds until a tick may have something to do",
 }
+OTHERS = ("script", "zone", "fault", "next", "servers", "signed", "tick")
 
 
 def zones(folder, now, progress=lambda done, of: None, counts=False):
@@ -25,8 +30,8 @@ def zones(folder, now, progress=lambda done, of: None, counts=False):
         raise Failure(f"{folder}: no file ends in .script", UNAVAILABLE)
     for number, path in enumerate(paths):
         progress(number, len(paths))
-        zone = dict.fromkeys(["script", "zone", "fault", "next", "servers", "signed", *METRICS])
-        zone.update(script=str(path), zone=path.stem)
+        zone = dict.fromkeys([*OTHERS, *METRICS])
+        zone.update(script=str(path), zone=path.stem, **_of_tick(path, now))
         try:
             if not path.is_file():
                 raise Failure(f"{path}: it is no file", BROKEN)
@@ -62,6 +67,19 @@ def _of_look(path, now):
     return {"servers": "no chain" if kept.broken else lack, "signed": kept.until,
             "signatures_seconds": kept.until and kept.until - int(now),
             "servers_lacking": kept.servers, "look_age_seconds": kept.age(now)}
+
+
+def _of_tick(path, now):
+    """How the last tick ended that had something to do."""
+    kept = resting.read(path)
+    if kept is None:
+        return {}
+    return {
+        "tick": kept.text, "tick_status": kept.status, "tick_age_seconds": int(now) - kept.moment,
+        "tick_waits_seconds": int(now) - kept.since if kept.status else None,
+        "tick_next_seconds": kept.until and kept.until - int(now),
+        "signed": kept.signed, "signatures_seconds": kept.signed and kept.signed - int(now),
+    }
 
 
 def table(found):

@@ -10,7 +10,7 @@ import fcntl
 import os
 import weakref
 from pathlib import Path
-from typing import Iterator, List, Optional, Sequence, Union
+from typing import Callable, Dict, Iterator, List, Optional, Sequence, Union
 
 from .errors import Damaged, Forked, Locked, NotKept
 
@@ -74,6 +74,11 @@ def _let_go() -> None:
 os.register_at_fork(after_in_child=_let_go)
 
 
+# Who has to have a line before the file of this path has it, as a store that several machines share:
+# it is handed the line's number and the line. If it raises, the file is left as it is.
+WITNESSES: Dict[str, Callable[[int, str], None]] = {}
+
+
 class Writer(Lines):
     """The lines of a file that this process has locked."""
 
@@ -90,6 +95,8 @@ class Writer(Lines):
         file has its lines from before, unless `NotKept` says that this one may remain."""
         self._expect_own()
         data = f"{line}\n".encode("ascii")
+        if witness := WITNESSES.get(os.path.realpath(self.path)):
+            witness(len(self.lines) + 1, line)
         try:
             self._put(data)
         except BaseException as error:

@@ -1,0 +1,59 @@
+"""A page of HTML about many zones: who waits for whom, what the last tick said, and each zone's
+picture. It has no script, and asks for nothing elsewhere."""
+
+from __future__ import annotations
+
+from collections.abc import Iterable, Iterator
+from html import escape
+from pathlib import Path
+
+from keyset import Notes
+
+from . import draw, status, timeline, words
+from .errors import failure_of
+
+HEAD = ("Zone", "Chain", "Waits for", "Next", "Signed until", "Last tick")
+POLICY = "default-src 'none'; style-src 'unsafe-inline'"
+STYLE = ("body{font:16px sans-serif;margin:2em}table{border-collapse:collapse}"
+         "td,th{text-align:left;padding:.2em 1em;border-bottom:1px solid #ccc}"
+         ".wrong{background:#fdd}svg{max-width:100%}")
+
+
+def page(found: Iterable[dict], now: float) -> Iterator[str]:
+    """The lines of the page, for the zones as `zones` finds them."""
+    found = list(found)
+    yield '<!DOCTYPE html><html lang="en"><head><meta charset="utf-8"><title>Zones</title>'
+    yield f'<meta http-equiv="Content-Security-Policy" content="{POLICY}">'
+    yield f"<style>{STYLE}</style></head><body><h1>Zones</h1>"
+    yield f"<p>{len(found)} zones, at {words.moment(int(now))}.</p><table>"
+    yield f"<tr>{''.join(f'<th>{it}</th>' for it in HEAD)}</tr>"
+    yield from (_row(number, zone) for number, zone in enumerate(found))
+    yield "</table>"
+    for number, zone in enumerate(found):
+        yield f'<h2 id="z{number}">{escape(_text(zone["zone"]))}</h2>'
+        yield from _picture(zone, now)
+    yield "</body></html>"
+
+
+def _text(text: object) -> str:
+    """A text for people. A byte that isn't UTF-8 has no form there."""
+    return str(text).encode("utf-8", "surrogateescape").decode("utf-8", "replace")
+
+
+def _row(number: int, zone: dict) -> str:
+    chain = "safe" if zone["chain_safe"] else zone["fault"] or "broken"
+    moments = (it and words.moment(it) for it in (zone["next"], zone["signed"]))
+    cells = [chain, zone["waits_for"], *moments, zone["tick"]]
+    shown = "".join(f"<td>{escape(_text('' if it is None else it))}</td>" for it in cells)
+    is_wrong = not zone["chain_safe"] or (zone["tick_status"] or 0) > 1
+    name = f'<td><a href="#z{number}">{escape(_text(zone["zone"]))}</a></td>'
+    return f"<tr{' class=wrong' if is_wrong else ''}>{name}{shown}</tr>"
+
+
+def _picture(zone: dict, now: float) -> Iterator[str]:
+    path = Path(zone["script"])
+    try:
+        lines, told = status.read(path, now)
+        yield from draw.picture(told["zone"], timeline.timeline(lines, Notes(path).lines), now)
+    except Exception as error:
+        yield f"<p>{escape(_text(failure_of(error)))}</p>"

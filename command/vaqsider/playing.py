@@ -1,0 +1,117 @@
+"""The course of a zone under its policy, played in memory: what would be said next, done at once,
+and seen on all servers after the usual time."""
+
+from __future__ import annotations
+
+from dataclasses import dataclass, field
+from typing import Iterable, Iterator
+
+from keyset.notes import KINDS, Seen, to_report
+
+from . import advice, plan, words
+from .advice import Said
+from .errors import UNAVAILABLE, Failure
+from .policies import Policy
+
+# A course of so many deeds at one moment goes round in circles.
+MOST_AT_ONCE = 1000
+
+
+@dataclass
+class Play:
+    """A zone that is played from a moment on, with these lines and notes. TTLs, and delays until
+    all servers have a version, are by kind of set. `once` has the moments at which rolls of a role
+    were asked for."""
+
+    policy: Policy
+    lines: list[str]
+    notes: list[str]
+    moment: int
+    ttls: dict[str, int]
+    delays: dict[str, int]
+    once: dict[str, int] = field(default_factory=dict)
+    there: dict[str, int] = field(default_factory=dict)
+    made: int = 0
+
+    def __post_init__(self) -> None:
+        self.course = plan.Plan(self.lines, self.moment, self.ttls, self.delays)
+        self.lines = list(self.course.keys.lines)
+        self.notes = self.notes or [f"before {' '.join(str(self.ttls[kind]) for kind in KINDS)}"]
+
+    @property
+    def steps(self) -> list[dict]:
+        return self.course.steps
+
+    def until(self, end: int) -> list[dict]:
+        """Plays to this moment. Gives each call with its moment and what it asks."""
+        deeds, last = 0, self.moment
+        while self.moment < end:
+            policy = self.policy.for_program(self.once, self.moment)
+            said = advice.said(policy, self.lines, self.notes, self.moment)
+            if said.word == advice.NOTHING:
+                break
+            self._do(said)
+            deeds, last = (deeds + 1, last) if self.moment == last else (0, self.moment)
+            if deeds > MOST_AT_ONCE:
+                raise Failure(f"it stands still: {said.line}", UNAVAILABLE)
+        return [step for step in self.steps if step["moment"] < end]
+
+    def _do(self, said: Said) -> None:
+        if said.word == advice.CALL:
+            self._call(said.line)
+        elif said.word == advice.KEY:
+            self._call(self._key(*said.fields))
+        elif said.word == advice.UNTIL:
+            self.moment = max(self.moment + 1, int(said.fields[0]))
+        elif said.word == advice.PUBLISH:
+            self._publish()
+        else:
+            self._see(said.fields[0])
+
+    def _call(self, line: str) -> None:
+        self.course.moment = self.moment
+        self.course.call(self._reported(line))
+        self.lines.append(self.steps[-1]["line"])
+
+    def _reported(self, line: str) -> str:
+        """A report with its TTL, or that of CDS."""
+        word, roll, *rest = line.split(" ")
+        if not word.startswith("report"):
+            return line
+        asked = {it["roll"]: it["due"] for it in self.course.keys.status()["rolls"]}
+        ttl = to_report(int(rest[0]), words.kinds_of(asked[roll]), roll, self.ttls)
+        return f"{word} {roll} {ttl + 2 * self.policy.clock} {rest[1]}"
+
+    def _key(self, role: str, algorithm: str) -> str:
+        """The line of a key that is made now. Its tag is a number that no other has."""
+        self.made += 1
+        tags = {told.tag for told in self.course.keys.keys().values()}
+        tag = next(it for it in range(self.made, 65536) if it not in tags)
+        name = f"{role}-{words.utc(self.moment, '%Y-%m-%d')}-{self.made}"
+        return f"add-{role} {name} - {algorithm} {tag} {self.moment} yes"
+
+    def _publish(self) -> None:
+        """Publishes all that is due, as an act does."""
+        call, seen = len(self.lines) - 1, Seen(self.notes, self.moment)
+        for kind in KINDS:
+            if seen.calls.get(kind) != call:
+                self.notes.append(f"published {kind} {call} {self.ttls[kind]} {self.moment}")
+                self.there[kind] = self.moment + self.delays[kind]
+
+    def _see(self, kind: str) -> None:
+        """All servers have it. After a DS set CDS goes out, and that has to be there too."""
+        self.moment = max(self.moment, self.there.get(kind, self.moment))
+        self.notes.append(f"everywhere {kind} {self.moment}")
+        if kind == "ds":
+            self.moment += self.delays["zone"]
+
+
+def invented(zone: str) -> list[str]:
+    """The script of a zone that has no key yet."""
+    return [f"zone {zone}"]
+
+
+def texts(steps: Iterable[dict]) -> Iterator[str]:
+    """A line for each call."""
+    for step in steps:
+        yield f"{words.moment(step['moment'])}  {step['line']}"

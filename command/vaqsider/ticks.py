@@ -1,0 +1,148 @@
+"""Ticks of one zone or of many, side by side: what a tick reads before it begins, and what it keeps
+at its end. A zone that fails doesn't hold up the others."""
+
+from __future__ import annotations
+
+import json
+import math
+import threading
+import traceback
+from collections.abc import Iterator
+from concurrent.futures import ThreadPoolExecutor
+from dataclasses import asdict, dataclass
+from pathlib import Path
+from typing import Iterable, TextIO
+
+from keyset import Locked
+
+from . import hooks, journal, policies, resting, words
+from .ending import PARENT_LACKS, RUN_LOW, STUCK, Clock, Deed, End, Log
+from .errors import BROKEN, DUE, FAULTY, OK, WARNING, Failure, Silent, failure_of
+from .policies import Commands
+from .resting import Rest
+from .ticking import DEEDS, Tick
+
+# How many zones are ticked at once, if nobody says it.
+JOBS = 8
+# What the status of a tick means; and the events that only their kind makes new, not their text.
+MEANS = {OK: "rests", DUE: "waits", WARNING: "needs a person", BROKEN: "broken"}
+KINDS = (STUCK, PARENT_LACKS, RUN_LOW)
+
+
+def logger(form: str, out: TextIO) -> Log:
+    """Prints a line for each deed as soon as it is done: for people, or as JSON."""
+    lock = threading.Lock()
+
+    def log(deed: Deed) -> None:
+        text = json.dumps(asdict(deed)) if form == "json" else _line(deed)
+        with lock:
+            print(text, file=out, flush=True)
+
+    return log
+
+
+def _line(deed: Deed) -> str:
+    return f"{words.moment(deed.moment)} {deed.zone}: {deed.deed}: {deed.text}"
+
+
+def tick(script: str | Path, clock: Clock, log: Log, most: int = DEEDS,
+         commands: Commands = Commands()) -> End:
+    """A tick of a script. If another one runs now, that does what is due."""
+    path = Path(script)
+    try:
+        kept = resting.read(path)
+        if kept is not None and kept.holds(path, clock()):
+            return End(OK, kept.text, kept.until)
+        with journal.alone(path) as lines:
+            made = Tick(path, policies.read(path).by(commands), clock, log, lines, most)
+            since = kept.since if kept is not None and kept.status else int(clock())
+            end = made.of_signatures(_in_time(made, _ended(made), since))
+            _keep(made, end, kept, since)
+            return end
+    except Locked as error:
+        return End(OK if journal.place_of(path).name in str(error) else DUE, str(error))
+    except Exception as error:
+        return End(*fault_of(error))
+
+
+def _ended(made: Tick) -> End:
+    """How a tick ends, also by an error. Somebody else may be writing a file of the zone."""
+    try:
+        return made.run()
+    except Locked as error:
+        return End(DUE, str(error))
+    except Exception as error:
+        return End(*fault_of(error))
+
+
+def _in_time(made: Tick, end: End, since: int) -> End:
+    """The end of a tick. If it has waited for too long, it needs a person."""
+    patience = made.policy.patience
+    if end.status != DUE or made.clock() - since <= patience:
+        return end
+    text = f"longer than {words.duration(patience)}: {end.text}"
+    return End(WARNING, text, end.until, end.event or STUCK)
+
+
+def fault_of(error: Exception) -> tuple[int, str]:
+    """What an error means for the zone: it waits, needs a person, or something is broken."""
+    failure = failure_of(error)
+    if isinstance(failure, Silent):
+        return DUE, str(failure)
+    if failure.status == FAULTY:
+        traceback.print_exception(type(error), error, error.__traceback__)
+    return BROKEN if failure.status in (BROKEN, FAULTY) else WARNING, str(failure)
+
+
+def _keep(made: Tick, end: End, before: Rest | None, since: int) -> None:
+    """Keeps how the tick ended, and tells the operator's command if that is new."""
+    event = (end.event or MEANS[end.status]) if end.status > DUE else ""
+    text = "" if event in KINDS else end.text
+    is_new = before is None or (event, text) != (before.event, text and before.text)
+    if event and is_new:
+        _tell(made, end, event)
+    until = None if end.until is None else math.ceil(end.until)
+    files = resting.files(made.script, made.files())
+    resting.keep(made.script, Rest(int(made.clock()), until, end.status, end.text, files, event,
+                                   since, made.signed_until()))
+
+
+def _tell(made: Tick, end: End, event: str) -> None:
+    """Hands an event to the operator's command. If that fails, the log has it."""
+    if not made.policy.on_event:
+        return
+    try:
+        hooks.run(made.policy.on_event, {"event": event, "zone": made.zone,
+                                         "text": end.text, "moment": int(made.clock())})
+    except Failure as failure:
+        made.say("on-event failed", [str(failure)])
+
+
+@dataclass(frozen=True)
+class Ticks:
+    """Ticks of zones, whose ends are logged unless nothing is needed."""
+
+    clock: Clock
+    log: Log
+    commands: Commands = Commands()
+
+    def tick(self, path: Path) -> End:
+        return self.ended(path.stem, tick(path, self.clock, self.log, commands=self.commands))
+
+    def ended(self, zone: str, end: End) -> End:
+        if end.status != OK:
+            self.log(Deed(int(self.clock()), zone, MEANS[end.status], end.text))
+        return end
+
+
+def run(paths: Iterable[Path], jobs: int, ticks: Ticks) -> dict[str, End]:
+    """Ticks of all these scripts, so many at once. How each ended, by its script."""
+    paths = list(paths)
+    with ThreadPoolExecutor(max(1, min(jobs, len(paths)))) as pool:
+        return dict(zip(map(str, paths), pool.map(ticks.tick, paths)))
+
+
+def text(ends: dict[str, End]) -> Iterator[str]:
+    """What is said of the zones that need nothing, if only one was asked for."""
+    if len(ends) == 1:
+        yield from (f"{path}: {end.text}" for path, end in ends.items() if end.status == OK)

@@ -1,0 +1,437 @@
+#!/usr/bin/env python3
+"""What a policy says to do next, by a second reader of the definition: crates/dnssec_policy/specs.
+It shares no text with the program, and stands on replay/tables.py.
+
+    tests/next_twin.py <INPUT
+
+INPUT is the text of a policy, an empty line, a script, an empty line, its notes, and `next MOMENT`.
+Names and order of the functions are those of the definition."""
+
+from __future__ import annotations
+
+import sys
+from dataclasses import dataclass
+from pathlib import Path
+from typing import Callable, Iterable, NamedTuple, Optional, Sequence, Union
+
+sys.dont_write_bytecode = True
+sys.path.insert(0, str(Path(__file__).resolve().parent.parent / "replay"))
+
+from judge import SPEAKS_OF, origin  # noqa: E402
+from tables import ROLLS, Key, KeySet  # noqa: E402
+
+SECOND, LONGEST_TTL, LAST_SECOND = 1_000_000_000, 2**32 - 1, 2**64 - 1
+KINDS = ("ds", "dnskey", "zone")
+ALGORITHM, CSK = "algorithm-roll", "csk-roll"
+SIDES = {"ksk-roll": {"ksk"}, "ksk-double-ds-roll": {"ksk"}, "zsk-roll": {"zsk"},
+         "zsk-double-signature-roll": {"zsk"}}
+
+
+# ---- policies
+
+
+@dataclass
+class Renewal:
+    """When keys of a role are renewed: so many seconds after they were published, or on demand."""
+
+    lifetime: Optional[int] = None
+    once: Optional[int] = None
+
+
+@dataclass
+class Policy:
+    """`rolls` are those by which a scheme renews its keys."""
+
+    algorithm: int
+    rolls: tuple[str, ...]
+    ksk: Renewal
+    zsk: Renewal
+    delete_after: int = 0
+
+    @property
+    def roles(self) -> tuple[str, ...]:
+        return ("csk",) if self.rolls == (CSK,) else ("ksk", "zsk")
+
+    def renewal_of(self, role: str) -> Renewal:
+        return self.zsk if role == "zsk" else self.ksk
+
+
+def policy_of(lines: Sequence[str]) -> Policy:
+    """Reads `policy ALGORITHM ROLL..` and what follows it."""
+    _, algorithm, *rolls = lines[0].split(" ")
+    policy = Policy(int(algorithm), tuple(rolls), Renewal(), Renewal())
+    for word, number in (line.split(" ") for line in lines[1:]):
+        if word == "delete-after":
+            policy.delete_after = int(number)
+        else:
+            role, _, name = word.partition("-")
+            setattr(policy.renewal_of(role), name, int(number))
+    return policy
+
+
+# ---- what there is to do: Todo.antt
+
+
+class Make(NamedTuple):
+    """A call, as a line of a script."""
+
+    line: str
+
+
+class Publish(NamedTuple):
+    kind: str
+
+
+class NeedKey(NamedTuple):
+    role: str
+
+
+class Watch(NamedTuple):
+    kind: str
+
+
+class NotBefore(NamedTuple):
+    moment: int
+
+
+class Stuck(NamedTuple):
+    roll: str
+
+
+class Rest(NamedTuple):
+    pass
+
+
+Todo = Union[Make, Publish, NeedKey, Watch, NotBefore, Stuck, Rest]
+RANKS = (Make, Publish, NeedKey, Watch, NotBefore, Stuck, Rest)
+
+
+def urgency(todo: Todo) -> tuple[int, int]:
+    return RANKS.index(type(todo)), todo.moment if isinstance(todo, NotBefore) else 0
+
+
+def soonest(todos: Iterable[Todo]) -> Todo:
+    """The most urgent, or the first of those."""
+    return min([*todos, Rest()], key=urgency)
+
+
+# ---- what is known of a zone: View.antt, and Spread.antt of dnssec_network
+
+
+@dataclass
+class Spread:
+    """How far the versions of a kind have come."""
+
+    ttl: int
+    position: int = 0
+    older: Optional[int] = None
+    seen: int = 0
+    expired: int = 0
+
+    def publish(self, base: int, position: int, ttl: int) -> None:
+        if self.position < base:
+            self.older = max(self.older or 0, self.ttl)
+        self.position, self.ttl = position, ttl
+
+    def see(self, moment: int) -> None:
+        if self.older is not None:
+            self.expired = max(self.expired, moment + self.older * SECOND + SECOND - 1)
+        self.older, self.seen = None, moment
+
+
+class View:
+    """What is known after these lines and notes, at a moment."""
+
+    def __init__(self, lines: Sequence[str], notes: Sequence[str], now: int) -> None:
+        self.set, self.now, self.last = KeySet(), now * SECOND, {}
+        self.notes = [line.split(" ") for line in notes]
+        for number, line in enumerate(lines[1:], start=1):
+            word, roll, *_ = line.split(" ")
+            if self.set.call(line).startswith("ok") and word == "wait2":
+                self.last[roll] = number
+
+    def known(self, base: int, kind: str) -> Spread:
+        _, *before = self.notes[0] if self.notes else ("before", 0, 0, 0)
+        spread = Spread(int(before[KINDS.index(kind)]))
+        for word, of, *numbers in self.notes[1:]:
+            if of == kind and word == "published":
+                spread.publish(base, int(numbers[0]), int(numbers[1]))
+            elif of == kind:
+                spread.see(int(numbers[0]) * SECOND)
+        return spread
+
+    def reach(self, kind: str, base: int) -> Optional[type]:
+        """What brings the sets of a position to all servers; None if they are there."""
+        spread = self.known(base, kind)
+        if spread.position < base:
+            return Publish
+        return None if spread.older is None and spread.seen <= self.now else Watch
+
+    def step(self, roll: str) -> Optional[int]:
+        """The position of the last start or first wait."""
+        record = self.set.record
+        return max((n for n, at in enumerate(record) if at.step == roll), default=None)
+
+    def end(self, roll: str) -> Optional[int]:
+        """When the wait is over, if that is known and a call can name it."""
+        word, ttl = self.set.phases[roll]
+        stamps = self.set.checked(word, roll)
+        if None in stamps:
+            return None
+        end = max((stamp + ttl for stamp in stamps), default=0) if ttl else 0
+        return end * SECOND if end <= LAST_SECOND else None
+
+
+# ---- rolls in progress: InProgress.antt
+
+
+def due_for(view: View, kind: str, base: int) -> Optional[int]:
+    """The TTL with which a report is true, of this kind; None if there is none."""
+    spread = view.known(base, kind)
+    if spread.position < base or spread.older is not None or spread.seen > view.now:
+        return None
+    left = (max(0, spread.expired - view.now) + SECOND - 1) // SECOND
+    return left if left <= LONGEST_TTL else None
+
+
+def report_next(view: View, word: str, roll: str) -> Todo:
+    step, ttl = view.step(roll), 0
+    if step is None:
+        return Stuck(roll)
+    for kind in KINDS:
+        if kind in SPEAKS_OF[roll][word == "report2"].split():
+            base = origin(view.set.record, kind, step)
+            due = due_for(view, kind, base)
+            if due is None:
+                brings = view.reach(kind, base)
+                return brings(kind) if brings else NotBefore(view.now + SECOND)
+            ttl = max(ttl, due)
+    return Make(f"{word} {roll} {ttl} {view.now // SECOND}")
+
+
+def wait_next(view: View, word: str, roll: str) -> Todo:
+    end = view.end(roll)
+    if end is None:
+        return Stuck(roll)
+    return Make(f"{word} {roll} {view.now // SECOND}") if end <= view.now else NotBefore(end)
+
+
+def once_settled(view: View, roll: str, base: int, todo: Todo) -> Todo:
+    """What is to be done once all that the last actions wait for is there."""
+    waits = {"ds": "WaitDs", "dnskey": "WaitDnskey", "zone": "WaitRrsig"}
+    for kind in KINDS:
+        if f"{waits[kind]}Propagated" in ROLLS[roll]["ended"]:
+            if brings := view.reach(kind, base):
+                return brings(kind)
+    return todo
+
+
+def end_next(view: View, word: str, roll: str) -> Todo:
+    base = view.last.get(roll)
+    return Stuck(roll) if base is None else once_settled(view, roll, base, Make(f"done {roll}"))
+
+
+PHASES: dict[str, Callable[[View, str, str], Todo]] = {
+    "report1": report_next, "wait1": wait_next, "report2": report_next, "wait2": wait_next,
+    "done": end_next,
+}
+
+
+def rolls_next(view: View) -> Todo:
+    phases = {roll: view.set.phases[roll][0] for roll in ROLLS if roll in view.set.phases}
+    return soonest(PHASES[word](view, word, roll) for roll, word in phases.items())
+
+
+# ---- keys: Keys.antt
+
+
+def entries(view: View) -> list[tuple[str, Key]]:
+    """The keys in the order of their references' bytes."""
+    return sorted(view.set.keys.items())
+
+
+def has_role(role: str, key: Key) -> bool:
+    return key.kind == role
+
+
+def is_at_work(is_ksk: bool, state: set[str]) -> bool:
+    wanted = {"present", "signer"} | ({"at_parent"} if is_ksk else set())
+    return "old" not in state and wanted <= state
+
+
+def serves(role: str, key: Key) -> bool:
+    """It is of this role, and at work: a KSK role has its DS."""
+    is_ksk = {"ksk": [True], "zsk": [False], "csk": [True, False]}[role]
+    return has_role(role, key) and all(map(is_at_work, is_ksk, key.states))
+
+
+def is_in_use(key: Key) -> bool:
+    return key.kind != "include" and any("old" not in it and it for it in key.states)
+
+
+def lists_kind(roll: str, key: Key) -> bool:
+    return key.kind in SIDES.get(roll, {"ksk", "zsk", "csk"})
+
+
+def is_unwanted(policy: Policy, key: Key) -> bool:
+    is_wanted = key.algorithm == policy.algorithm and key.kind in policy.roles
+    return is_in_use(key) and not is_wanted
+
+
+def wants_others(policy: Policy, keys: Sequence[Key]) -> bool:
+    is_served = all(any(serves(role, key) for key in keys) for role in policy.roles)
+    return not is_served or any(is_unwanted(policy, key) for key in keys)
+
+
+def is_new(policy: Policy, role: str, key: Key) -> bool:
+    is_fresh = key.available and not any(key.states)
+    return has_role(role, key) and is_fresh and key.algorithm == policy.algorithm
+
+
+def over_from(renewal: Renewal, published: int) -> Optional[int]:
+    """The moment in seconds from which a key's time is over, if ever."""
+    ends = [] if renewal.lifetime is None else [published + renewal.lifetime]
+    if renewal.once is not None and published < renewal.once:
+        ends.append(renewal.once)
+    return min(ends, default=None)
+
+
+def first_over(policy: Policy, role: str, keys: Sequence[Key]) -> Optional[int]:
+    at_work = [key for key in keys if serves(role, key)]
+    ends = [over_from(policy.renewal_of(role), key.stamps.get("published", 0)) for key in at_work]
+    return min((end for end in ends if end is not None), default=None)
+
+
+# ---- all of it: Next.antt
+
+
+def deletions(policy: Policy, view: View) -> Iterable[Todo]:
+    for name, key in entries(view):
+        is_rolled = any(lists_kind(roll, key) for roll in view.set.phases)
+        if not is_rolled and all(state == {"old"} for state in key.states):
+            withdrawn = key.stamps.get("withdrawn")
+            leaves = 0 if withdrawn is None else (withdrawn + policy.delete_after) * SECOND
+            yield delete_next(view, name) if leaves <= view.now else NotBefore(leaves)
+
+
+def delete_next(view: View, name: str) -> Todo:
+    todo: Todo = Make(f"delete {name}")
+    for roll in ROLLS:
+        if roll in view.last:
+            todo = once_settled(view, roll, view.last[roll], todo)
+    return todo
+
+
+def may_begin(view: View, roll: str) -> bool:
+    return all(other in ROLLS[roll]["tolerates"].split() for other in view.set.phases)
+
+
+def start_with(policy: Policy, view: View, roll: str, roles: Sequence[str]) -> Todo:
+    news = []
+    for role in roles:
+        found = [name for name, key in entries(view) if is_new(policy, role, key)]
+        if not found:
+            return NeedKey(role)
+        news.append(found[0])
+    olds = [name for name, key in entries(view) if lists_kind(roll, key) and is_in_use(key)]
+    lists = (",".join(names) or "-" for names in (olds, news))
+    return Make(" ".join(["start", roll, *lists, str(view.now // SECOND)]))
+
+
+def change(policy: Policy, view: View) -> Todo:
+    if may_begin(view, ALGORITHM) and wants_others(policy, list(view.set.keys.values())):
+        return start_with(policy, view, ALGORITHM, policy.roles)
+    return Rest()
+
+
+def renewal(policy: Policy, view: View, roll: str) -> Todo:
+    keys, role = list(view.set.keys.values()), roll.partition("-")[0]
+    if not may_begin(view, roll) or any(is_unwanted(policy, key) for key in keys):
+        return Rest()
+    over = first_over(policy, role, keys)
+    if over is None:
+        return Rest()
+    if over * SECOND > view.now:
+        return NotBefore(over * SECOND)
+    return start_with(policy, view, roll, [role])
+
+
+def next_of(policy: Policy, view: View) -> Todo:
+    renewals = (renewal(policy, view, roll) for roll in policy.rolls)
+    return soonest([rolls_next(view), soonest(deletions(policy, view)), change(policy, view),
+                    *renewals])
+
+
+# ---- lifetimes: Lint.antt of dnssec_policy_text
+
+
+def highest_of(notes: Sequence[str]) -> dict[str, int]:
+    """The highest TTL of each kind that is noted."""
+    before, *facts = [line.split(" ") for line in notes]
+    highest = {kind: int(ttl) for kind, ttl in zip(KINDS, before[1:])}
+    for word, kind, *numbers in facts:
+        if word == "published":
+            highest[kind] = max(highest[kind], int(numbers[1]))
+    return highest
+
+
+def roll_takes(highest: dict[str, int], roll: str) -> int:
+    """Both waits, each up to the highest TTL of the kinds that its report speaks of, and a
+    second."""
+    halves = (half.split() for half in SPEAKS_OF[roll])
+    return sum(max(highest[kind] for kind in kinds) + 1 for kinds in halves)
+
+
+def too_short(policy: Policy, notes: Sequence[str]) -> str:
+    """The first lifetime that is shorter than its roll takes, as a text; or an empty one."""
+    highest = highest_of(notes)
+    for roll in policy.rolls:
+        lifetime = policy.renewal_of(roll.partition("-")[0]).lifetime
+        takes = roll_takes(highest, roll)
+        if lifetime is not None and lifetime < takes:
+            return f"a lifetime of {lifetime} seconds is shorter than a {roll} takes: {takes}"
+    return ""
+
+
+# ---- as a text
+
+
+class NotSaid(ValueError):
+    """It isn't said what to do next, and why."""
+
+
+def shown(policy: Policy, todo: Todo) -> str:
+    """The line that the program prints."""
+    if isinstance(todo, Make):
+        return todo.line
+    if isinstance(todo, NeedKey):
+        return f"key {todo.role} {policy.algorithm}"
+    if isinstance(todo, NotBefore):
+        return f"until {-(-todo.moment // SECOND)}"
+    if isinstance(todo, (Publish, Watch)):
+        return f"{type(todo).__name__.lower()} {todo.kind}"
+    if isinstance(todo, Stuck):
+        return f"nothing: a wait of {todo.roll} ends after all time"
+    return "nothing: the zone is as the policy wants it"
+
+
+def said(policy: Sequence[str], lines: Sequence[str], notes: Sequence[str], now: int) -> str:
+    """What a policy says to do next, after these lines and notes, at a second since 1970."""
+    read = policy_of(policy)
+    if fault := too_short(read, notes):
+        raise NotSaid(f"policy: {fault}")
+    return shown(read, next_of(read, View(lines, notes, now)))
+
+
+def main() -> None:
+    policy, script, notes = sys.stdin.read().removesuffix("\n").split("\n\n")
+    *facts, question = notes.split("\n")
+    moment = int(question.removeprefix("next "))
+    try:
+        print(said(policy.split("\n"), script.split("\n"), facts, moment))
+    except NotSaid as fault:
+        sys.exit(str(fault))
+
+
+if __name__ == "__main__":
+    main()
