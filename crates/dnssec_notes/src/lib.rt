@@ -15,6 +15,7 @@ pub use dnssec_network::{
     Before, DueReport, Fact, Moments, News, NotYet, NoteFault, Notes, SetKind, Steps,
 };
 pub use fault::{DueFault, LineFault, NotesFault};
+pub use line::{read_before, read_fact};
 pub use questions::answer_lines;
 pub use reading::read_notes;
 pub use reports::due_lines;
