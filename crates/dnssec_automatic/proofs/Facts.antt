@@ -1,6 +1,6 @@
 -- Two facts that say the same are one; and the fact that stands on a line.
 use Rattle.std.proofs.Common.{◌≡◌, ℕ, zero, suc, ◌<◌, ◌∙◌, ◌∷◌, List, [], Bor, Some, ap, arith, get_or}
-use Rattle.std.proofs.Common.{Bool, false, length, map, refl, subst, sym, true, true≢false}
+use Rattle.std.proofs.Common.{length, map, refl, subst, sym}
 use Rattle.std.proofs.lemmas.List.{length-map}
 use denote.Bor.{now}
 use Rattle.dnssec_script.specs.Script.{Moment, Number, Value}
@@ -8,8 +8,6 @@ use Rattle.dnssec_network.specs.declared.fact.{Before.Before, Fact.Fact, News.Ne
 use Rattle.dnssec_network.specs.declared.fact.News.TheVariants.{Published, Everywhere}
 use Rattle.dnssec_notes.specs.Lines.{as_before, as_fact, before_says, fact_says, news_says}
 use Rattle.dnssec_notes.specs.Reading.{AreFacts, AreNotes}
-use Rattle.dnssec_notes.specs.declared.line.Word.{Word}
-use Rattle.dnssec_notes.specs.declared.line.Word.TheVariants as word
 
 -- the number that a value has
 abbrev number_in : Value → ℕ
@@ -17,18 +15,14 @@ number_in (Number n) = n
 number_in (Moment t) = t
 number_in _ = 0
 
-abbrev number_at : ℕ → Word × List Value → ℕ
+abbrev number_at : {W : Type 0} → ℕ → W × List Value → ℕ
 number_at i said = number_in (get_or said.1 i (Number 0))
-
-abbrev is_published : Word × List Value → Bool
-is_published (word.Published, values) = true
-is_published (word.Everywhere, values) = false
 
 same-news : (m n : News) → news_says m ≡ news_says n → m ≡ n
 same-news (Published p t m) (Published q u n) e =
     λ i. Published (ap (number_at 0) e i) (ap (number_at 1) e i) (ap (number_at 2) e i)
-same-news (Published p t m) (Everywhere n) e = absurd (true≢false (ap is_published e))
-same-news (Everywhere m) (Published q u n) e = absurd (true≢false (sym (ap is_published e)))
+same-news (Published p t m) (Everywhere n) e = absurd (omega (arith, ap (λ said. length said.1) e))
+same-news (Everywhere m) (Published q u n) e = absurd (omega (arith, ap (λ said. length said.1) e))
 same-news (Everywhere m) (Everywhere n) e = λ i. Everywhere (ap (number_at 0) e i)
 
 pub same-fact : (f g : Fact) → fact_says f ≡ fact_says g → f ≡ g

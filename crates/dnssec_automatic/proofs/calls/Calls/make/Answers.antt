@@ -13,7 +13,7 @@ returns c name calls entries after =
       entry = next.entry;
       after = record {
         stands = next.stands;
-        lasts = c.after.ensures.follows calls entries c.args.call next.entry
+        lasts = c.after-self.ensures.follows calls entries c.args.call next.entry
             after.stands.records.run.count after.lasts (sym c.second_wait-wait.ensures)
             next.is_reply (omega arith);
       };

@@ -11,6 +11,6 @@ returns-clause-ok c =
     record {
       notes = more;
       highest = λ so.
-          subst (λ (n : NotesParts). AreHighest n.before n.facts c.after.result) (sym more)
-          (c.after.ensures old.before old.facts so);
+          subst (λ (n : NotesParts). AreHighest n.before n.facts c.after-self.result) (sym more)
+          (c.after-self.ensures old.before old.facts so);
     }

@@ -1,7 +1,8 @@
 -- The state is what is known.
-use Rattle.std.proofs.Common.{◌∙◌, ap, refl, sym}
+use Rattle.std.proofs.Common.{◌∙◌, ap, refl, subst, sym}
 use Rattle.std.proofs.lemmas.Result.{IfOk-weaker}
 use Rattle.dnssec_run.specs.Record.{world_at}
+use Rattle.dnssec_network.specs.{Facts.AreTrue, Notes.NotesParts}
 use Rattle.dnssec_policy.specs.Code.{view_of}
 use Rattle.dnssec_policy.specs.declared.state.State.{State}
 use Rattle.dnssec_automatic.proofs.zone.AutomaticZone.next.Goals as goal
@@ -25,7 +26,8 @@ returns c =
         step = λ roll. c.steps.ensures name calls entries stands roll;
         last = so.lasts;
         end = said.1;
-        are_true = are;
+        are_true = subst (λ (n : NotesParts). AreTrue n.before n.facts network time)
+            (sym c.notes.ensures) are;
       };
       now = refl;
       said = sym said.2;

@@ -7,8 +7,8 @@ pub returns-in-None : goal.returns-in-None
 returns-in-None c name calls entries so =
     (_, c.in_ok-todo.ensures name calls entries so, c.in-None.ensures.none)
 
-pub returns-in-Some : goal.returns-in-Some
-returns-in-Some c name calls entries so = (
+pub returns : goal.returns
+returns c name calls entries so = (
   c.in-Some.call,
   subst (Says name calls entries c.args.policy.now c.args.moment c.args.self.now)
       c.in-Some.ensures.some (c.in_ok-todo.ensures name calls entries so),
