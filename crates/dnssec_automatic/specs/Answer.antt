@@ -13,10 +13,20 @@ use Rattle.dnssec_notes.specs.Reading.{AreNotes}
 use Rattle.dnssec_policy.specs.declared.policy.Policy.{Policy}
 use Rattle.dnssec_policy.specs.Automatic.{IsViewAt}
 use Rattle.dnssec_policy.specs.Next.{next_of}
+use Rattle.dnssec_policy.specs.Todo.{Todo}
 use Rattle.dnssec_policy.specs.View.{View}
 use Rattle.dnssec_policy_text.specs.Lint.{highest_of, too_short}
 use Rattle.dnssec_policy_text.specs.Reading.{policy_of}
 use Rattle.dnssec_automatic.specs.Lines.{todo_line}
+use Rattle.dnssec_automatic.specs.Zone.{Says}
+use Rattle.dnssec_automatic.specs.declared.zone.AutomaticZone.{AutomaticZone}
+
+-- the line says what the policy says to do at this second, by the calls so far and the notes
+pub record SaysLine (name : List ℕ) (calls : List Call) (entries : List Entry) (policy : Policy)
+    (seconds : ℕ) (zone : AutomaticZone) (line : List ℕ) : Type 0 where
+  pub todo : Todo
+  pub says : Says name calls entries policy (seconds * 1_000_000_000) zone todo
+  pub is_line : line ≡ todo_line policy.algorithm todo seconds
 
 -- The line says what the policy says to do at this second, by a run of the script, each of whose
 -- calls had memory, and by the notes. No lifetime is shorter than its roll takes.

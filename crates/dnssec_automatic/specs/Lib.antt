@@ -3,4 +3,5 @@ pub mod Noted
 pub mod Zone
 pub mod Lines
 pub mod Answer
+pub mod Asking
 pub mod Texts

@@ -1,7 +1,10 @@
 //! What to do next, by texts.
-ghost use Rattle.std.specs.Prelude.{◌≡◌, IfOk, None, OnOk, string_bytes};
+ghost use Rattle.std.specs.Prelude.{◌≡◌, ℕ, IfOk, List, None, OnOk, string_bytes};
 ghost use Rattle.dnssec_policy_text.specs.Lint.{highest_of, too_short};
-ghost use Rattle.dnssec_automatic.specs.Answer.{AnswersNext};
+ghost use Rattle.dnssec_run.specs.declared.call.Call.{Call as AnyCall};
+ghost use Rattle.dnssec_run.specs.declared.record.Entry.{Entry};
+ghost use Rattle.dnssec_automatic.specs.Answer.{AnswersNext, SaysLine};
+ghost use Rattle.dnssec_automatic.specs.Calls.{IsAfter};
 ghost use Rattle.dnssec_automatic.specs.Noted.{HasHighest};
 
 use crate::fault::NextFault;
@@ -10,7 +13,7 @@ use crate::zone::AutomaticZone;
 use dnssec_keyset::UnixTime;
 use dnssec_policy::Policy;
 use dnssec_policy_text::read_policy;
-use std::alloc::Global;
+use std::alloc::{AllocError, Global};
 use std::time::Duration;
 
 /// What a policy says to do next at this second since 1970, after the calls of a script and by the
@@ -41,9 +44,7 @@ pub fn answer_next(
     let policy = read_policy(alloc, policy)?;
     let zone = AutomaticZone::resume(alloc, script, notes)?;
     check(&zone, &policy)?;
-    let moment = UnixTime::from(Duration::from_secs(seconds));
-    let next = zone.next(alloc, &policy, moment)?;
-    let line = next_line(alloc, &next, policy.algorithm, seconds)?;
+    let line = said(alloc, &zone, &policy, seconds)?;
     Ok(line)
 }
 
@@ -56,4 +57,22 @@ fn check(zone: &AutomaticZone, policy: &Policy) -> Result<(), NextFault>
         None => Ok(()),
         Some(fault) => Err(NextFault::TooShort(fault)),
     }
+}
+
+/// The line of what the policy says at this second.
+fn said(
+    alloc: Global,
+    zone: &AutomaticZone,
+    policy: &Policy,
+    seconds: u64,
+) -> Result<String, AllocError>
+    ensures { IfOk result (λ text.
+        (name : List ℕ) (calls : List AnyCall) (entries : List Entry) →
+        IsAfter name calls entries zone.now.calls →
+        SaysLine name calls entries policy.now seconds zone.now (string_bytes text)) }
+{
+    let moment = UnixTime::from(Duration::from_secs(seconds));
+    let next = zone.next(alloc, policy, moment)?;
+    let line = next_line(alloc, &next, policy.algorithm, seconds)?;
+    Ok(line)
 }

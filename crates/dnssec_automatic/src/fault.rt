@@ -1,11 +1,12 @@
 //! Why the question what to do next was not answered.
 ghost use Rattle.std.specs.Prelude.{◌≡◌, Some};
-ghost use Rattle.dnssec_automatic.specs.Texts.{next_fault_text};
+ghost use Rattle.dnssec_automatic.specs.Texts.{lacks_memory, next_fault_text};
 ghost use Rattle.dnssec_automatic.specs.declared.fault.NextFault.TheVariants.{OutOfMemory};
 ghost use Rattle.dnssec_automatic.specs.declared.fault.NextFault.TheVariants as fault;
 
-use dnssec_notes::DueFault;
+use dnssec_notes::{DueFault, NotesFault};
 use dnssec_policy_text::{PolicyFault, TooShort};
+use dnssec_record::ScriptFault;
 use std::alloc::AllocError;
 use std::fmt;
 
@@ -20,6 +21,21 @@ pub enum NextFault {
     TooShort(TooShort),
     /// Memory has run out.
     OutOfMemory,
+}
+
+impl NextFault {
+    /// Whether it is for lack of memory. So asking again may help.
+    pub fn lacks_memory(&self) -> bool
+        ensures { result ≡ lacks_memory self.now }
+    {
+        matches!(
+            self,
+            NextFault::OutOfMemory
+                | NextFault::Policy(PolicyFault::OutOfMemory)
+                | NextFault::Zone(DueFault::Script(ScriptFault::OutOfMemory))
+                | NextFault::Zone(DueFault::Notes(NotesFault::OutOfMemory))
+        )
+    }
 }
 
 impl fmt::Display for NextFault {

@@ -6,6 +6,7 @@ mod calls;
 mod fault;
 mod line;
 mod noted;
+mod text;
 mod zone;
 
 pub use answer::answer_next;
@@ -15,4 +16,5 @@ pub use dnssec_policy_text::{
 };
 pub use fault::NextFault;
 pub use line::next_line;
+pub use text::answer_text;
 pub use zone::{AutomaticZone, is_add};

@@ -44,7 +44,7 @@ pub fn read_notes(alloc: Global, moments: &Moments, text: &[u8]) -> Result<Notes
 
 /// A text without the line feed at its end.
 #[tactic(auto, using(dnssec_script::proofs::Judging::ends))]
-fn without_end(text: &[u8]) -> &[u8]
+pub fn without_end(text: &[u8]) -> &[u8]
     ensures { result.now ≡ without_end text.now }
 {
     match text.split_last() {

@@ -1,5 +1,5 @@
 -- The zone is that of the texts.
-use Rattle.std.proofs.Common.{◌∙◌, ap, rules, sym}
+use Rattle.std.proofs.Common.{◌∙◌, ap, sym}
 use Rattle.dnssec_automatic.specs.Lines.{todo_line}
 use Rattle.dnssec_automatic.proofs.answer.answer_next.Goals as goal
 
@@ -8,7 +8,7 @@ returns c =
     let z = c.in_ok-zone.ensures in let r = z.resumes in
     let notes = c.in_ok-zone.zone.noted.notes in
     let policy = c.in_ok-policy.policy in
-    let says = c.in_ok-next.ensures r.name r.calls r.entries r.after in
+    let said = c.in_ok-line.ensures r.name r.calls r.entries r.after in
     record {
       policy = policy;
       is_policy = c.in_ok-policy.ensures.ok;
@@ -22,9 +22,9 @@ returns c =
       facts = notes.facts;
       are_notes = z.are_notes;
       long_enough = c.in_ok-check.ensures z.highest;
-      view = says.view;
-      sees = says.sees;
-      now = says.now ∙ search rules;
-      is_line = c.in_ok-line.ensures _
-          ∙ ap (λ todo. todo_line policy.algorithm todo c.args.seconds) (sym says.said);
+      view = said.says.view;
+      sees = said.says.sees;
+      now = said.says.now;
+      is_line = said.is_line
+          ∙ ap (λ todo. todo_line policy.algorithm todo c.args.seconds) (sym said.says.said);
     }
