@@ -1,14 +1,15 @@
 #!/usr/bin/env python3
-"""Plays zones that roll by themselves: an operator does what `next` says, and nothing else.
+"""Plays zones that roll by themselves: an operator does what `keyset next` says, and nothing else.
 Whatever caches may hold is looked at as in tests/runbooks.py, and each call is made by the key set
-of `replay/tables.py` too. What is said is compared with docs/POLICY.md, as `tests/game/policy.py`
-has it.
+of `replay/tables.py`. What is said is compared with docs/POLICY.md, as `tests/game/policy.py` has
+it, and at its end each script is answered by the program: all its calls are accepted.
 
-    tests/automatic.py [ROLLS]     how many rolls are played at least
+    tests/automatic.py [ROLLS [ZONE]]     how many rolls are played at least, from which zone on
 
 The policies are random, and change on the way: lifetimes, the rolls by which keys are renewed, the
-algorithm, CSKs in place of KSKs and ZSKs and back. So do TTLs and the delays of servers. Then come
-operators who note what isn't true: some of their zones have to break.
+algorithm, CSKs in place of KSKs and ZSKs and back. A lifetime that is too short has to be refused.
+TTLs and the delays of servers are random too. Then come operators who note what isn't true: some of
+their zones have to break.
 """
 
 import random
@@ -18,7 +19,7 @@ import time
 from collections import Counter
 from dataclasses import dataclass
 from pathlib import Path
-from typing import Iterator, Optional
+from typing import Iterator, Optional, Sequence
 
 sys.dont_write_bytecode = True
 TOP = Path(__file__).resolve().parent.parent
@@ -32,35 +33,26 @@ from game.policy import Facts, Policy, View  # noqa: E402
 from game.signer import Operator, Stuck  # noqa: E402
 from game.zone import SECOND, SLOWEST, Broken, World  # noqa: E402
 
-PROGRAM = TOP / "crates" / "automatic" / "out" / "automatic"
+PROGRAM = TOP / "crates" / "keyset" / "out" / "keyset"
 ROLLS_OF_A_ZONE, ROLLS_IN_THE_GATE = 12, 240
+CALLS = ("start", "report1", "wait1", "report2", "wait2", "done", "delete")
 # What an untrue note says: that all servers give a version if one does, or half of a TTL.
 EARLY, HALF = "seen on all servers once one gives it", "half of the TTL"
+# How often the program is asked again, though the page says the same as before.
+AGAIN = 0.1
 
 
 class Wrong(Exception):
     """`next` said what it must not say."""
 
 
-class Player:
-    """The program that says what to do next."""
-
-    def __init__(self) -> None:
-        self.program = subprocess.Popen(
-            [PROGRAM], stdin=subprocess.PIPE, stdout=subprocess.PIPE, text=True, bufsize=1
-        )
-
-    def ask(self, line: str) -> str:
-        self.program.stdin.write(line + "\n")
-        self.program.stdin.flush()
-        answer = self.program.stdout.readline().rstrip("\n")
-        if not answer:
-            raise Wrong(f"{line}: the program has ended")
-        return answer
-
-    def close(self) -> None:
-        self.program.stdin.close()
-        self.program.wait()
+def run(words: Sequence[str], lines: Sequence[str]) -> str:
+    """What the program says. A refusal is what it says of a fault."""
+    text = "".join(f"{line}\n" for line in lines)
+    done = subprocess.run([PROGRAM, *words], input=text, capture_output=True, text=True)
+    if done.returncode not in (0, 1):
+        raise Wrong(f"status {done.returncode}: {done.stderr}")
+    return done.stdout.rstrip("\n") if done.returncode == 0 else f"refused: {done.stderr.strip()}"
 
 
 class TrueNotes(Notes):
@@ -112,11 +104,11 @@ class Network(World):
 class Follower(Operator):
     """Does what `next` says."""
 
-    def __init__(self, world: World, player: Player, lie: Optional[str]) -> None:
+    def __init__(self, world: World, lie: Optional[str]) -> None:
         # The clock is right, and the DS set is changed by hand.
         super().__init__(world, {})
         self.ahead, self.margin, world.takes_cds = [0], 0, False
-        self.player, self.sent, self.told = player, 0, None
+        self.sent, self.told, self.last = 0, None, ("", 0)
         self.asked, self.lasts, self.facts = Counter(), {}, Facts()
         self.notes = UntrueNotes(self, lie) if lie else TrueNotes(self, reports=False)
 
@@ -125,52 +117,73 @@ class Follower(Operator):
         return kept.expires - self.world.now < kept.time + (SLOWEST + 1) * SECOND
 
     def tell(self) -> None:
-        """Hands in what was noted since the last time."""
+        """Reads what was noted since the last time."""
         self.notes.look()
         for line in self.notes.lines[self.sent:]:
-            if self.player.ask(line) != "ok":
-                raise Wrong(f"{line} was not taken")
             self.facts.take(line)
         self.sent = len(self.notes.lines)
 
     def asks(self) -> str:
-        """What is said has to be what the page says."""
+        """What is said has to be what the page says. If that says the same as before, and nothing
+        was noted, the program is asked only now and then."""
         self.tell()
         now = self.rounded_down()
         wanted = View(self.policy, self.keyset, self.lasts, self.facts, now).next()
-        said = self.player.ask(f"next {now}")
-        if said.removesuffix(": ok") != wanted:
+        if self.last == (wanted, self.sent) and self.dice.random() > AGAIN:
+            return wanted
+        self.last = wanted, self.sent
+        said = self.program_says(now)
+        if said != wanted:
             raise Wrong(f"{said}, and by the page: {wanted}")
         return said
 
+    def program_says(self, now: int) -> str:
+        self.asked["asked"] += 1
+        script = ["zone example.com", *self.script]
+        return run(["next"], [*self.text, "", *script, "", *self.notes.lines, f"next {now}"])
+
     def course(self, rolls: int) -> Iterator[None]:
         """Plays so many rolls."""
+        self.tell()
         self.another_policy()
         while sum(self.done.values()) < rolls:
             yield from self.obey(self.asks())
+            self.long_enough()
 
     def another_policy(self) -> None:
         self.policy = Policy.at_random(self.dice)
-        self.player.ask(";".join(self.policy.lines(self.dice)))
+        self.text = self.policy.lines(self.dice)
+        self.long_enough()
+
+    def long_enough(self) -> None:
+        """A lifetime that is too short by the notes is refused, and made longer."""
+        self.tell()
+        while fault := self.policy.too_short(self.facts):
+            said = self.program_says(self.rounded_down())
+            if said != f"refused: policy: {fault.text}":
+                raise Wrong(f"{said}, and by the page: {fault.text}")
+            self.asked["refused"] += 1
+            self.policy.lifetimes[fault.role] = fault.takes + self.dice.randint(0, 100)
+            self.text = self.policy.lines(self.dice)
 
     def obey(self, said: str) -> Iterator[None]:
         word, *fields = said.split()
         self.asked[word] += 1
-        if said.endswith(": ok"):
-            self.makes(said[:-4])
-        elif word == "publish":
+        if word == "publish":
             yield from self.publishes(fields[0])
         elif word == "watch":
             yield from self.lets_a_second_pass()
         elif word == "key":
-            self.adds(fields[0], int(fields[1]))
+            self.add(fields[0], int(fields[1]))
         elif word == "until":
             yield from self.sleeps(int(fields[0]))
+        elif word in CALLS:
+            self.makes(said)
         else:
             raise Wrong(said)
 
     def makes(self, line: str) -> None:
-        """The call is made: the tables have to accept it too."""
+        """Makes the call, which has to be accepted."""
         self.call(line)
         word, roll, *_ = line.split()
         if word == "wait2":
@@ -180,10 +193,12 @@ class Follower(Operator):
             if self.dice.random() < 0.25:
                 self.another_policy()
 
-    def adds(self, role: str, algorithm: int) -> None:
-        self.add(role, algorithm)
-        if self.player.ask(self.script[-1]) != "ok":
-            raise Wrong(f"{self.script[-1]} was not taken")
+    def closes(self) -> None:
+        """All calls are accepted by the program too, and the chain is safe."""
+        answers = run([], ["zone example.com", *self.script]).splitlines()
+        refused = [answer for answer in answers[:-2] if not answer.startswith("ok")]
+        if refused or answers[-1] != "chain safe":
+            raise Wrong(f"{refused}, {answers[-1]}")
 
     def publishes(self, kind: str) -> Iterator[None]:
         if kind != "ds":
@@ -223,49 +238,49 @@ class Played:
     fault: Optional[Exception]
 
 
-def play(player: Player, seed: int, rolls: int, lie: Optional[str] = None) -> Played:
+def play(seed: int, rolls: int, lie: Optional[str] = None) -> Played:
     world = Network(random.Random(seed))
-    one = Follower(world, player, lie)
+    one = Follower(world, lie)
     fault: Optional[Exception] = None
     try:
-        one.tell()
         for _ in one.course(rolls):
             one.lives()
             world.tick()
+        one.closes()
     except (Broken, Stuck) as broken:
         fault = broken
     return Played(world, one, fault)
 
 
-def follow(player: Player, least: int, wrong: list) -> str:
+def follow(least: int, first: int, wrong: list) -> str:
     """Plays operators who note what is true. Gives a line of counts."""
-    done, asked, zones, instants, choices = Counter(), Counter(), 0, 0, 0
+    done, asked, zone, instants, choices = Counter(), Counter(), first, 0, 0
     while sum(done.values()) < least and not wrong:
-        played = play(player, zones, ROLLS_OF_A_ZONE)
-        lasts = chain_line(played.one.keyset.record) if zones % 40 == 7 else "chain safe"
+        played = play(zone, ROLLS_OF_A_ZONE)
+        lasts = chain_line(played.one.keyset.record) if zone % 40 == 7 else "chain safe"
         if played.fault or lasts != "chain safe":
             said = f"{played.one.policy}: {played.fault or lasts}"
-            wrong.append(f"automatic: zone {zones}, {said}")
+            wrong.append(f"automatic: zone {zone}, {said}")
         done.update(played.one.done)
         asked.update(played.one.asked)
         instants, choices = instants + played.world.instants, choices + played.world.choices
-        zones += 1
+        zone += 1
     if missing := [roll for roll in ROLLS if not done[roll]]:
         wrong.append(f"automatic: never played: {' '.join(missing)}")
     told = ", ".join(f"{number} {word}" for word, number in sorted(asked.items()))
     return (
-        f"{zones} zones, {sum(done.values())} rolls by what a policy says ({told}): at {instants} "
-        f"instants {choices} choices of sets are as promised"
+        f"{zone - first} zones, {sum(done.values())} rolls by what a policy says ({told}): at "
+        f"{instants} instants {choices} choices of sets are as promised"
     )
 
 
-def lies(player: Player, wrong: list) -> str:
+def lies(wrong: list) -> str:
     """Plays operators who note what isn't true, until one of their zones is broken."""
     zones = 0
     for lie in (EARLY, HALF):
         for seed in range(60):
             zones += 1
-            if play(player, seed, ROLLS_OF_A_ZONE, lie).fault:
+            if play(seed, ROLLS_OF_A_ZONE, lie).fault:
                 break
         else:
             wrong.append(f"automatic: no zone breaks by notes that say {lie}")
@@ -273,14 +288,13 @@ def lies(player: Player, wrong: list) -> str:
 
 
 def main() -> int:
-    began, wrong, player = time.monotonic(), [], Player()
-    least = int(sys.argv[1]) if len(sys.argv) > 1 else ROLLS_IN_THE_GATE
+    began, wrong = time.monotonic(), []
+    least, first = (*map(int, sys.argv[1:]), *(ROLLS_IN_THE_GATE, 0)[len(sys.argv) - 1:])
     try:
-        print(f"automatic: {follow(player, least, wrong)}")
-        print(f"automatic: {lies(player, wrong)}")
+        print(f"automatic: {follow(least, first, wrong)}")
+        print(f"automatic: {lies(wrong)}")
     except Wrong as fault:
         wrong.append(f"automatic: {fault}")
-    player.close()
     print(*wrong, sep="\n", end="\n" if wrong else "")
     print(f"automatic: {time.monotonic() - began:.0f} s, {'FAILED' if wrong else 'passed'}")
     return 1 if wrong else 0

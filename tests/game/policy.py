@@ -29,11 +29,22 @@ class Policy:
     def at_random(cls, dice: random.Random) -> "Policy":
         rolls = dice.choice([("csk-roll",), (dice.choice(KSK_ROLLS), dice.choice(ZSK_ROLLS))])
         roles = ("csk",) if len(rolls) == 1 else ("ksk", "zsk")
-        lifetimes = {role: dice.randint(60, 300) for role in roles}
+        lifetimes = {role: dice.randint(5, 300) for role in roles}
         return cls(dice.choice(ALGORITHMS), rolls, lifetimes, dice.choice((0, 0, 30, 90)))
 
     def roles(self) -> list:
         return list(self.lifetimes)
+
+    def too_short(self, facts: "Facts") -> "Optional[TooShort]":
+        """The first lifetime that ends before the two waits of its roll do, by the highest TTLs that
+        were ever noted."""
+        for roll, (role, lifetime) in zip(self.rolls, self.lifetimes.items()):
+            kinds = (SPEAKS_OF[roll][second].split() for second in (False, True))
+            takes = sum(max(facts.highest(kind) for kind in of_one) + 1 for of_one in kinds)
+            if lifetime < takes:
+                text = f"a lifetime of {lifetime} seconds is shorter than a {roll} takes: {takes}"
+                return TooShort(role, takes, text)
+        return None
 
     def lines(self, dice: random.Random) -> list:
         """Its lines, in some order after the first."""
@@ -42,6 +53,14 @@ class Policy:
             more.append(f"delete-after {self.delete_after}")
         dice.shuffle(more)
         return [f"policy {self.algorithm} {' '.join(self.rolls)}", *more]
+
+
+class TooShort(NamedTuple):
+    """A lifetime that is shorter than its roll takes."""
+
+    role: str
+    takes: int
+    text: str
 
 
 class Todo(NamedTuple):
@@ -103,6 +122,11 @@ class Facts:
             self.before = dict(zip(ALL_KINDS, map(int, fields)))
         else:
             self.news[fields[0]].append(tuple(map(int, fields[1:])))
+
+    def highest(self, kind: str) -> int:
+        """The highest TTL that was ever noted."""
+        ttls = [fact[1] for fact in self.news[kind] if len(fact) == 3]
+        return max([self.before[kind], *ttls])
 
     def spread(self, kind: str, base: int) -> Spread:
         news = self.news[kind]

@@ -3,6 +3,7 @@ use Rattle.std.proofs.Common.{◌≡◌, ℕ, zero, suc, ◌<◌, ◌∙◌, ◌
 use Rattle.std.proofs.Common.{length, map, refl, subst, sym}
 use Rattle.std.proofs.lemmas.List.{length-map}
 use denote.Bor.{now}
+use Rattle.dnssec_script.proofs.Texts.{text_at}
 use Rattle.dnssec_script.specs.Script.{Moment, Number, Value}
 use Rattle.dnssec_network.specs.declared.fact.{Before.Before, Fact.Fact, News.News}
 use Rattle.dnssec_network.specs.declared.fact.News.TheVariants.{Published, Everywhere}
@@ -53,17 +54,15 @@ as-many lines facts said =
     sym (length-map (map now lines) as_fact ∙ length-map lines now) ∙ ap length said
     ∙ length-map facts (λ (f : Fact). Some (fact_says f))
 
-pub fact-at : (lines : List (Bor (List ℕ))) (facts : List Fact) (i : ℕ) (line : Bor (List ℕ))
-    → AreOn lines facts → i < length lines → line ≡ get_or lines i line
-    → (f : Fact) × (as_fact line.now ≡ Some (fact_says f)) × (f ≡ get_or facts i f)
-fact-at [] facts i line said within is = absurd (omega arith)
-fact-at (l ∷ ls) [] i line said within is = cc
-fact-at (l ∷ ls) (f ∷ fs) zero line said within is =
-    let here : as_fact l.now ≡ Some (fact_says f) = cc in
-    (f, ap (λ (b : Bor (List ℕ)). as_fact b.now) is ∙ here, refl)
-fact-at (l ∷ ls) (f ∷ fs) (suc i) line said within is =
-    let rest : AreOn ls fs = cc in
-    fact-at ls fs i line rest (omega arith) is
+pub fact-at : (lines : List (Bor (List ℕ))) (facts : List Fact) (i : ℕ) → AreOn lines facts
+    → i < length lines
+    → (f : Fact) × (as_fact (text_at lines i) ≡ Some (fact_says f)) × (f ≡ get_or facts i f)
+fact-at [] facts i said within = absurd (omega arith)
+fact-at (l ∷ ls) [] i said within = cc
+fact-at (l ∷ ls) (f ∷ fs) zero said within =
+    let here : as_fact l.now ≡ Some (fact_says f) = cc in (f, here, refl)
+fact-at (l ∷ ls) (f ∷ fs) (suc i) said within =
+    let rest : AreOn ls fs = cc in fact-at ls fs i rest (omega arith)
 
 -- ---- the lines of notes
 

@@ -46,6 +46,13 @@ call_line (keyset.StartRoll roll old new t) seconds =
 call_line (keyset.DeleteKey q) seconds = codes "delete " ++ q
 call_line _ seconds = []
 
+-- why nothing is done: a wait of a roll is never over, or the zone is as the policy wants it
+abbrev pub stuck_text : RollType → List ℕ
+stuck_text roll = codes "nothing: a wait of " ++ roll_name roll ++ codes " ends after all time"
+
+abbrev pub wanted_text : List ℕ
+wanted_text = codes "nothing: the zone is as the policy wants it"
+
 -- what to do at this second, by a policy of this algorithm
 abbrev pub todo_line : ℕ → Todo → ℕ → List ℕ
 todo_line algorithm (Make call) seconds = call_line call seconds
@@ -55,6 +62,5 @@ todo_line algorithm (NeedKey role) seconds =
 todo_line algorithm (Watch kind) seconds = codes "watch " ++ kind_name kind
 -- the first second that isn't before the moment
 todo_line algorithm (NotBefore moment) seconds = codes "until " ++ decimal (first_second moment)
-todo_line algorithm (Stuck roll) seconds =
-    codes "nothing: a wait of " ++ roll_name roll ++ codes " ends after all time"
-todo_line algorithm Rest seconds = codes "nothing: the zone is as the policy wants it"
+todo_line algorithm (Stuck roll) seconds = stuck_text roll
+todo_line algorithm Rest seconds = wanted_text

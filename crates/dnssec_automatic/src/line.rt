@@ -8,7 +8,7 @@ ghost use Rattle.dnssec_notes.specs.Due.{first_second};
 ghost use Rattle.dnssec_notes.specs.Lines.{kind_name};
 ghost use Rattle.dnssec_policy.specs.Code.{todo_of};
 ghost use Rattle.dnssec_automatic.specs.Lines.{list_text, report_name, role_name, start_text};
-ghost use Rattle.dnssec_automatic.specs.Lines.{todo_line, wait_name};
+ghost use Rattle.dnssec_automatic.specs.Lines.{stuck_text, todo_line, wait_name, wanted_text};
 
 use dnssec_key::{Half, roll_name};
 use dnssec_keyset::{RollType, SecurityAlgorithm};
@@ -94,13 +94,25 @@ fn push_next(
             text.push_str("until ")?;
             push_number(text, first_second(*moment))
         }
-        Next::Stuck { roll } => {
-            text.push_str("nothing: a wait of ")?;
-            text.push_str(roll_name(*roll))?;
-            text.push_str(" ends after all time")
-        }
-        Next::Rest => text.push_str("nothing: the zone is as the policy wants it"),
+        Next::Stuck { roll } => push_stuck(text, *roll),
+        Next::Rest => push_as_wanted(text),
     }
+}
+
+/// Writes that a wait of a roll ends after all time.
+fn push_stuck(text: &mut String, roll: RollType) -> Result<(), AllocError>
+    ensures { OnOk result (string_bytes text.new ≡ string_bytes text.old ++ stuck_text roll) }
+{
+    text.push_str("nothing: a wait of ")?;
+    text.push_str(roll_name(roll))?;
+    text.push_str(" ends after all time")
+}
+
+/// Writes that the zone is as the policy wants it.
+fn push_as_wanted(text: &mut String) -> Result<(), AllocError>
+    ensures { OnOk result (string_bytes text.new ≡ string_bytes text.old ++ wanted_text) }
+{
+    text.push_str("nothing: the zone is as the policy wants it")
 }
 
 /// Writes the line of a start.
