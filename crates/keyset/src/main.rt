@@ -36,8 +36,7 @@ Reads a script of a DNSSEC key set from standard input, and writes
   --version       its name and version; it reads nothing
   --help          this text; it reads nothing
 
-Called as keyset_status, keyset_notes or keyset_next, it does as with that word.
-It ends with
+Called as keyset_status or keyset_notes, it does as with that word. It ends with
 
   0   if all was answered
   1   if the policy, the script or the notes are malformed or refused
