@@ -5,7 +5,7 @@ ghost use Rattle.dnssec_automatic.specs.Texts.{next_fault_text};
 ghost use Rattle.keyset_c.specs.Answered.{HandsText};
 ghost use Rattle.keyset_c.specs.Policies.{IsSaid, SaysWhy};
 
-use crate::answered::{ANSWERED, Answered, NOT_SAID, OUT_OF_MEMORY, SHORT, fault, hand_out};
+use crate::answered::{ANSWERED, Answered, NOT_SAID, OUT_OF_MEMORY, fault, hand_out};
 use dnssec_automatic::{NextFault, answer_next};
 use std::alloc::{AllocError, Global};
 
@@ -49,8 +49,27 @@ fn refuse(alloc: Global, why: &NextFault, out: &mut [u8]) -> Answered
         return fault(OUT_OF_MEMORY);
     }
     match text_of(alloc, why) {
-        Ok(text) => as_refusal(hand_out(text.as_bytes(), out)),
+        Ok(text) => hand_out_why(text.as_bytes(), out),
         Err(_) => fault(OUT_OF_MEMORY),
+    }
+}
+
+/// Writes a refusal into the front of `out`, if it fits.
+fn hand_out_why(text: &[u8], out: &mut [u8]) -> Answered
+    ensures status { (result.status ≡ 4) ⊎ (result.status ≡ 13) }
+    ensures length { result.length ≡ length text.now }
+    ensures written { result.status ≡ 13 → take result.length out.new ≡ text.now }
+    ensures handed { HandsText result.status result.length result.line out.old out.new }
+{
+    let handed = hand_out(text, out);
+    if handed.status == ANSWERED {
+        Answered {
+            status: NOT_SAID,
+            length: handed.length,
+            line: 0,
+        }
+    } else {
+        handed
     }
 }
 
@@ -60,21 +79,4 @@ fn text_of(alloc: Global, why: &NextFault) -> Result<String, AllocError>
 {
     let text = format!(in alloc; "{why}")?;
     Ok(text)
-}
-
-/// What was handed out is why nothing is said.
-fn as_refusal(handed: Answered) -> Answered
-    ensures length { result.length ≡ handed.length }
-    ensures line { result.line ≡ handed.line }
-    ensures refused { handed.status ≡ 0 → result.status ≡ 13 }
-    ensures short { handed.status ≡ 4 → result.status ≡ 4 }
-{
-    match handed.status {
-        ANSWERED => Answered {
-            status: NOT_SAID,
-            length: handed.length,
-            line: handed.line,
-        },
-        _ => handed,
-    }
 }
