@@ -30,9 +30,8 @@ pub record SaysLine (name : List ℕ) (calls : List Call) (entries : List Entry)
 
 -- The line says what the policy says to do at this second, by a run of the script, each of whose
 -- calls had memory, and by the notes. No lifetime is shorter than its roll takes.
-pub record AnswersNext (text script notes : List ℕ) (seconds : ℕ) (line : List ℕ) : Type 0 where
-  pub policy : Policy
-  pub is_policy : policy_of (lines_of text) ≡ Ok policy
+pub record AnswersBy (policy : Policy) (script notes : List ℕ) (seconds : ℕ) (line : List ℕ)
+    : Type 0 where
   pub name : List ℕ
   pub calls : List Call
   pub entries : List Entry
@@ -48,3 +47,9 @@ pub record AnswersNext (text script notes : List ℕ) (seconds : ℕ) (line : Li
       IsViewAt name calls entries network time (length entries) view
   pub now : view.now ≡ seconds * 1_000_000_000
   pub is_line : line ≡ todo_line policy.algorithm (next_of policy view) seconds
+
+-- so does the policy of a text
+pub record AnswersNext (text script notes : List ℕ) (seconds : ℕ) (line : List ℕ) : Type 0 where
+  pub policy : Policy
+  pub is_policy : policy_of (lines_of text) ≡ Ok policy
+  pub answers : AnswersBy policy script notes seconds line

@@ -1,6 +1,6 @@
 -- What to do next, by one text: a policy, a script, and notes whose last line asks.
-use Rattle.std.specs.Prelude.{◌≡◌, ◌==◌, ◌&&◌, ℕ, ◌++◌, ◌∷◌, Bool, true, List, [], length, codes}
-use Rattle.std.specs.Prelude.{if◌then◌else◌, Option, None, Some, option_and_then}
+use Rattle.std.specs.Prelude.{◌≡◌, ◌==◌, ◌||◌, ℕ, ◌++◌, ◌∷◌, Bool, false, not, List, [], length}
+use Rattle.std.specs.Prelude.{codes, if◌then◌else◌, Option, None, Some, option_and_then}
 use Rattle.std.specs.List.{slice_split}
 use Rattle.std.specs.Str.{bytes_eq}
 use Rattle.dnssec_script.specs.Script.{Form, Value, Number, as_number, fields_of, first_field}
@@ -33,10 +33,10 @@ pub record Asks (noted notes : List ℕ) (seconds : ℕ) : Type 0 where
 
 -- ---- the text
 
--- there is nothing more, but for one empty line
-abbrev pub is_end : List (List ℕ) → Bool
-is_end [] = true
-is_end (part ∷ parts) = (length part == 0) && (length parts == 0)
+-- there is something more than one empty line
+abbrev pub has_more : List (List ℕ) → Bool
+has_more [] = false
+has_more (part ∷ parts) = not (length part == 0) || not (length parts == 0)
 
 -- the parts are a policy, a script, and notes whose last line asks; the line is the answer
 pub record AnswersParts (parts : List (List ℕ)) (line : List ℕ) : Type 0 where
@@ -45,7 +45,7 @@ pub record AnswersParts (parts : List (List ℕ)) (line : List ℕ) : Type 0 whe
   pub noted : List ℕ
   pub more : List (List ℕ)
   pub are : parts ≡ policy ∷ script ∷ noted ∷ more
-  pub end : is_end more ≡ true
+  pub end : has_more more ≡ false
   pub notes : List ℕ
   pub seconds : ℕ
   pub asks : Asks noted notes seconds

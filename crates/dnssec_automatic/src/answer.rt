@@ -1,9 +1,9 @@
 //! What to do next, by texts.
-ghost use Rattle.std.specs.Prelude.{◌≡◌, ℕ, IfOk, List, None, OnOk, string_bytes};
+ghost use Rattle.std.specs.Prelude.{◌≡◌, ◌*◌, ℕ, IfOk, List, None, OnOk, string_bytes};
 ghost use Rattle.dnssec_policy_text.specs.Lint.{highest_of, too_short};
 ghost use Rattle.dnssec_run.specs.declared.call.Call.{Call as AnyCall};
 ghost use Rattle.dnssec_run.specs.declared.record.Entry.{Entry};
-ghost use Rattle.dnssec_automatic.specs.Answer.{AnswersNext, SaysLine};
+ghost use Rattle.dnssec_automatic.specs.Answer.{AnswersBy, AnswersNext, SaysLine};
 ghost use Rattle.dnssec_automatic.specs.Calls.{IsAfter};
 ghost use Rattle.dnssec_automatic.specs.Noted.{HasHighest};
 
@@ -41,10 +41,26 @@ pub fn answer_next(
     ensures { IfOk result (λ text.
         AnswersNext policy.now script.now notes.now seconds (string_bytes text)) }
 {
-    let policy = read_policy(alloc, policy)?;
+    match read_policy(alloc, policy) {
+        Ok(policy) => answer_by(alloc, &policy, script, notes, seconds),
+        Err(fault) => Err(NextFault::Policy(fault)),
+    }
+}
+
+/// The same of a policy that is read.
+fn answer_by(
+    alloc: Global,
+    policy: &Policy,
+    script: &[u8],
+    notes: &[u8],
+    seconds: u64,
+) -> Result<String, NextFault>
+    ensures { IfOk result (λ text.
+        AnswersBy policy.now script.now notes.now seconds (string_bytes text)) }
+{
     let zone = AutomaticZone::resume(alloc, script, notes)?;
-    check(&zone, &policy)?;
-    let line = said(alloc, &zone, &policy, seconds)?;
+    check(&zone, policy)?;
+    let line = said(alloc, &zone, policy, seconds)?;
     Ok(line)
 }
 
@@ -71,8 +87,14 @@ fn said(
         IsAfter name calls entries zone.now.calls →
         SaysLine name calls entries policy.now seconds zone.now (string_bytes text)) }
 {
-    let moment = UnixTime::from(Duration::from_secs(seconds));
-    let next = zone.next(alloc, policy, moment)?;
+    let next = zone.next(alloc, policy, moment_of(seconds))?;
     let line = next_line(alloc, &next, policy.algorithm, seconds)?;
     Ok(line)
+}
+
+/// The moment of a second since 1970.
+fn moment_of(seconds: u64) -> UnixTime
+    ensures { result ≡ seconds * 1_000_000_000 }
+{
+    UnixTime::from(Duration::from_secs(seconds))
 }

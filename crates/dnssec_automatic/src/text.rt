@@ -4,7 +4,7 @@ ghost use Rattle.std.specs.Option.{option_map};
 ghost use denote.Bor.{now};
 ghost use Rattle.dnssec_script.specs.Script.{Number, values_of};
 ghost use Rattle.dnssec_automatic.specs.Asking.{AnswersParts, AnswersText, Asks, IsLastLine};
-ghost use Rattle.dnssec_automatic.specs.Asking.{as_next, is_end, question_forms};
+ghost use Rattle.dnssec_automatic.specs.Asking.{as_next, has_more, question_forms};
 
 use crate::answer::answer_next;
 use crate::fault::NextFault;
@@ -48,7 +48,7 @@ fn answer_parts(alloc: Global, parts: &[&[u8]]) -> Result<String, NextFault>
     let Some((noted, more)) = parts.split_first() else {
         return unasked(alloc, policy, script, b"");
     };
-    if !is_end(more) {
+    if has_more(more) {
         return unasked(alloc, policy, script, noted);
     }
     match asked(noted) {
@@ -57,13 +57,13 @@ fn answer_parts(alloc: Global, parts: &[&[u8]]) -> Result<String, NextFault>
     }
 }
 
-/// Whether the text ends before these parts: there is none, or an empty one.
-fn is_end(parts: &[&[u8]]) -> bool
-    ensures { result ≡ is_end (map now parts.now) }
+/// Whether the text goes on with these parts: there are some, and not only an empty one.
+fn has_more(parts: &[&[u8]]) -> bool
+    ensures { result ≡ has_more (map now parts.now) }
 {
     match parts.split_first() {
-        None => true,
-        Some((first, rest)) => first.is_empty() && rest.is_empty(),
+        None => false,
+        Some((first, rest)) => !first.is_empty() || !rest.is_empty(),
     }
 }
 
@@ -72,7 +72,16 @@ fn is_end(parts: &[&[u8]]) -> bool
 fn unasked(alloc: Global, policy: &[u8], script: &[u8], notes: &[u8]) -> Result<String, NextFault>
     ensures { IfOk result (λ _. ⊥) }
 {
-    read_policy(alloc, policy)?;
+    match read_policy(alloc, policy) {
+        Ok(_) => unasked_by(alloc, script, notes),
+        Err(fault) => Err(NextFault::Policy(fault)),
+    }
+}
+
+/// The fault of a script or of its notes, which ask nothing.
+fn unasked_by(alloc: Global, script: &[u8], notes: &[u8]) -> Result<String, NextFault>
+    ensures { IfOk result (λ _. ⊥) }
+{
     AutomaticZone::resume(alloc, script, notes)?;
     let lines = all_lines(alloc, notes)?;
     let missing = NotesFault::Malformed(lines.len() + 1);

@@ -12,6 +12,17 @@ loop-statement-init c =
     c.into_iter-statement-iterator.ensures.into_iter_gives.0 (search rules)
     (c.in_ok-calls.ensures, All-nil (λ entry. entry.reply ≢ Refused OutOfMemory))
 
+pub loop-statement-preserved-in_ok-check_memory : goal.loop-statement-preserved-in_ok-check_memory
+loop-statement-preserved-in_ok-check_memory c =
+    let h = c.loop-statement.invariant in let made = c.in_ok-reply.ensures in
+    let next = made.goes_on h.name h.calls h.entries h.so.0 in
+    one_made _ _ h made.call _ c.in-Some.ensures.steps.0 c.in-Some.ensures.steps.1 made.is_call (
+      next.after,
+      All-push (λ entry. entry.reply ≢ Refused OutOfMemory) h.entries next.entry h.so.1
+          (subst (λ reply. reply ≢ Refused OutOfMemory) (sym next.is_reply)
+          c.in_ok-check_memory.ensures.ok),
+    )
+
 pub loop-statement-preserved : goal.loop-statement-preserved
 loop-statement-preserved c =
     let h = c.loop-statement.invariant in let made = c.in_ok-reply.ensures in

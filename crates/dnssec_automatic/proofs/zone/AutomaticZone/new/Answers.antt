@@ -6,7 +6,7 @@ use Rattle.dnssec_automatic.proofs.zone.AutomaticZone.new.Goals as goal
 pub returns : goal.returns
 returns c = record {
   after = c.in_ok-new.ensures;
-  highest = c.new.ensures.highest;
+  highest = c.new-2.ensures.highest;
   count = refl;
   automatic = λ network time are in_time n call here. absurd (omega (arith, slice_get_within [] n call here));
 }

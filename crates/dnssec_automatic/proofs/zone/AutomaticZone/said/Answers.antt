@@ -12,5 +12,5 @@ returns c name calls entries so = (
   c.in-Some.call,
   subst (Says name calls entries c.args.policy.now c.args.moment c.args.self.now)
       c.in-Some.ensures.some (c.in_ok-todo.ensures name calls entries so),
-  c.in_ok-made.ensures name calls entries so,
+  c.in_ok-made-in-Some.ensures name calls entries so,
 )
