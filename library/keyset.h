@@ -1,8 +1,9 @@
 /* keyset.h: a proved DNSSEC key set for C, and for languages that call C.
 
    There are two ways to use it. `keyset_answer` takes a script and writes its answers; it keeps
-   nothing, and the script is the whole state. A session keeps a zone between two calls: a line goes
-   in, and its answer comes out. docs/CALLERS.md is the page for callers, and docs/REFERENCE.md has
+   nothing, and the script is the whole state. So does `keyset_next`, which says what a policy wants
+   to be done next. A session keeps a zone between two calls: a line goes in, and its answer comes
+   out. docs/CALLERS.md is the page for callers, and docs/REFERENCE.md has
    the form of scripts and of answers.
 
    Who owns what: all buffers are the caller's. The library reads and writes them while it is
@@ -65,12 +66,13 @@ enum {
     KEYSET_REFUSED = 10,      /* the key set refuses the call */
     /* a line of notes: published before the moment of its call, or of a call before that */
     KEYSET_PUBLISHED_EARLY = 11,
-    KEYSET_LOST = 12          /* the library got no memory in a call, and has closed the session */
+    KEYSET_LOST = 12,         /* the library got no memory in a call, and has closed the session */
+    KEYSET_NOT_SAID = 13      /* keyset_next: a text is refused, and the answer is why */
 };
 
 struct keyset_answered {
     uint32_t status;
-    size_t length; /* answered: the bytes written; short: the bytes needed; else 0 */
+    size_t length; /* answered, not said: the bytes written; short: the bytes needed; else 0 */
     size_t line;   /* malformed script: the first malformed line, counted from 1; else 0 */
 };
 
@@ -185,6 +187,25 @@ uint32_t keyset_note(struct keyset_session *session, const uint8_t *line, size_t
    session has no notes (no_notes). Else it is as the three functions above. */
 struct keyset_answered keyset_due(const struct keyset_session *session, uint64_t seconds,
                                   uint8_t *out, size_t out_length);
+
+/* Writes what a policy says to do next at this second since 1970, after the calls of a script and by
+   the notes beside it: one line without a line feed. docs/POLICY.md has the form of a policy and of
+   the line. It keeps nothing, and is for zones that roll by themselves: whatever it says, the calls
+   are accepted, and resolvers find a chain of trust (crates/dnssec_policy). An add of a key may come
+   between.
+
+   answered       `out` begins with the line (said)
+   not said       the policy, the script or the notes are refused, or a lifetime is shorter than its
+                  roll takes: `out` begins with why, as `keyset next` says it (why)
+   short          the line, or why there is none, has `length` bytes, and `out` has fewer (needed)
+   out of memory  asking again may help
+
+   After what it writes, and unless it writes, `out` is as it was (handed). `line` is 0. There is no
+   other status (status). */
+struct keyset_answered keyset_next(const uint8_t *policy, size_t policy_length,
+                                   const uint8_t *script, size_t script_length,
+                                   const uint8_t *notes, size_t notes_length, uint64_t seconds,
+                                   uint8_t *out, size_t out_length);
 
 /* Opens another session after the same calls, with the same last answer and the same notes
    (copied). So you can try a call on it. The first session stays as it is (same). Each may go to

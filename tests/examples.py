@@ -50,11 +50,13 @@ GIVEN = {
     "fact": "fact: Fact",
     "policy": "policy: Policy",
     "highest": "highest: HighestTtls",
+    "zone": "zone: &mut AutomaticZone",
 }
 # The same name for something else, by the file.
 GIVEN_IN = {
     ("dnssec_base/src/name.rt", "rt"): "rt: &impl Abort",
     ("dnssec_notes/src/answer.rt", "notes"): "notes: &str",
+    ("dnssec_automatic/src/zone.rt", "notes"): "notes: &str",
 }
 # What an example calls that is the caller's own.
 OWN = {
@@ -95,7 +97,7 @@ def public_items():
     """Each public name of the crates, with the highest crate that has it."""
     items = {}
     crates = ["base", "key", "keyset", "run", "judge", "network", "record", "notes", "policy"]
-    crates += ["policy_text"]
+    crates += ["policy_text", "automatic"]
     for crate in reversed(crates):
         text = (CRATES / f"dnssec_{crate}" / "src" / "lib.rt").read_text()
         for path, listed in PUBLIC.findall(text):

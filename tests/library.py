@@ -75,7 +75,7 @@ def build_in_c(folder, program, *flags, more=()):
 
 
 def build_sessions(folder, program, *flags):
-    """Builds the tests of sessions in C as a program: those of the file of its name."""
+    """Builds tests in C as a program: those of the file of its name."""
     source = TOP / "tests" / f"{program.name}.c"
     run(CC, *STRICT, *WRAPPED, *flags, "-o", program, source, *c_flags(folder))
     return program
@@ -97,6 +97,10 @@ def test_notes(folder, room):
     return run(noted.build(folder, room / "notes"), *NOTED).strip()
 
 
+def test_policies(folder, room):
+    return run(build_sessions(folder, room / "policies")).strip()
+
+
 def test_statuses(folder):
     return run(sys.executable, "-B", TOP / "tests" / "sessions.py", folder).strip()
 
@@ -109,6 +113,7 @@ def under_valgrind(folder, room):
     tests = library, *(build_sessions(folder, room / name, "-g") for name in names)
     told = [run(*before, test_of, STORED, STEP) for test_of in tests]
     told.append(run(*before, noted.build(folder, room / "notes", "-g"), *NOTED, STEP))
+    told.append(run(*before, build_sessions(folder, room / "policies", "-g"), STEP))
     return "".join(told).strip()
 
 
@@ -119,11 +124,12 @@ def under_asan(folder, room):
         names = "sessions", "accepted"
         tests = library, *(build_sessions(folder, room / name, *flags) for name in names)
         notes = noted.build(folder, room / "notes", *flags)
+        policies = build_sessions(folder, room / "policies", *flags)
     except Wrong as wrong:
         text = f"{wrong}\nthe C compiler wants its runtime libraries of {flags[1]} here"
         raise Wrong(text) from None
     told = [run(test_of, STORED, STEP) for test_of in tests]
-    return "".join([*told, run(notes, *NOTED, STEP)]).strip()
+    return "".join([*told, run(notes, *NOTED, STEP), run(policies, STEP)]).strip()
 
 
 def elsewhere(folder, room):
@@ -135,6 +141,7 @@ def elsewhere(folder, room):
     told = [run(*RUNNER, test_of, STORED, STEP) for test_of in tests]
     notes = noted.build(folder, room / "notes")
     told.append(run(*RUNNER, notes, *NOTED, STEP))
+    told.append(run(*RUNNER, build_sessions(folder, room / "policies"), STEP))
     for caller, flags in (("C", c_flags(folder)), ("C by the shared object", shared_flags(folder))):
         told.append(test_c_caller(room, caller, flags) + "\n")
     program = programs.build(folder, room)
@@ -418,6 +425,7 @@ def short_tests(folder, room):
     yield "library", test_static_buffer(folder, room)
     yield "library", test_accepted(folder, room)
     yield "library", test_notes(folder, room)
+    yield "library", test_policies(folder, room)
     yield "library", test_c_caller(room, "C", c_flags(folder))
     yield "library", test_c_caller(room, "C over the shared object", shared_flags(folder))
     program = programs.build(folder, room)

@@ -16,6 +16,37 @@ ANSWERS = SHOWN[0].with_suffix(".answers").read_bytes()
 SCRIPT, STATUS = (path.read_bytes() for path in SHOWN)
 NOTES, REPORTS = (path.read_bytes() for path in NOTED)
 
+# A policy, a script and notes, whose last line asks.
+POLICY, ZONE, BEFORE = "policy 13 ksk-roll zsk-roll\n", "zone example.com\n", "before 60 60 60\n"
+ASKED = f"{POLICY}\n{ZONE}add-ksk K1 - 13 1 0 yes\n\n{BEFORE}next 100\n".encode()
+# What `next` says of other texts.
+SAID = {
+    f"{POLICY}\n{ZONE}\n{BEFORE}next 100": "key ksk 13",
+    f"{POLICY}\n{ZONE}\n{BEFORE}next 00000000000000000100\n\n": "key ksk 13",
+}
+UNSAID = {
+    "": "policy: line 1: malformed",
+    "policy 13 ksk-roll\n": "policy: line 1: malformed",
+    f"{POLICY}zsk-once 1\nzsk-once 2\n": "policy: line 3: said twice",
+    f"{POLICY}csk-lifetime 1\n": "policy: line 2: no such keys by line 1",
+    f"{POLICY}zsk-lifetime 121\n\n{ZONE}\n{BEFORE}next 100\n":
+        "policy: a lifetime of 121 seconds is shorter than a zsk-roll takes: 122",
+    POLICY: "script: line 1: malformed",
+    f"{POLICY}\n{ZONE}add\n": "script: line 2: malformed",
+    f"{POLICY}\n{ZONE}": "notes: line 1: malformed",
+    f"{POLICY}\n{ZONE}\nnext 100\n": "notes: line 1: malformed",
+    f"{POLICY}\n{ZONE}\n{BEFORE}": "notes: line 2: malformed",
+    f"{POLICY}\n{ZONE}\n{BEFORE}next\n": "notes: line 2: malformed",
+    f"{POLICY}\n{ZONE}\n{BEFORE}next 1 2\n": "notes: line 2: malformed",
+    f"{POLICY}\n{ZONE}\n{BEFORE}next 18446744073709551616\n": "notes: line 2: malformed",
+    f"{POLICY}\n{ZONE}\n{BEFORE}next 000000000000000000100\n": "notes: line 2: malformed",
+    f"{POLICY}\n{ZONE}\n{BEFORE}due 100\n": "notes: line 2: malformed",
+    f"{POLICY}\n{ZONE}\n{BEFORE}next 1\nnext 2\n": "notes: line 2: malformed",
+    f"{POLICY}\n{ZONE}\n{BEFORE}published ds 9 5 9\nnext 10\n":
+        "notes: line 2: no such call yet",
+    f"{POLICY}\n{ZONE}\n{BEFORE}\nnext 2\n": "notes: line 2: malformed",
+}
+
 USAGE = 64
 NO_SUCH, MORE = b"no such word: see keyset --help\n", b"more than one word: see keyset --help\n"
 DEVICE = 2, b"", b"input or output fault\n"
@@ -31,6 +62,7 @@ WORDS = {
     (): (SCRIPT, ANSWERS),
     (b"status",): (SCRIPT, STATUS),
     (b"notes",): (NOTES, REPORTS),
+    (b"next",): (ASKED, b"key zsk 13\n"),
     (b"--version",): (b"", VERSION),
 }
 # Arguments that ask for nothing. None of them is read as a word that it begins with or that is
@@ -43,7 +75,7 @@ REFUSED = {
     (b"status ",): NO_SUCH,
     (b"status\n",): NO_SUCH,
     (b"keyset_status",): NO_SUCH,
-    (b"next",): NO_SUCH,
+    (b"nexts",): NO_SUCH,
     (b"-",): NO_SUCH,
     (b"--",): NO_SUCH,
     (b"-h",): NO_SUCH,
@@ -78,7 +110,7 @@ NAMES = {
     b"xkeyset_status": (),
     b"keyset-status": (),
     b"keyset_": (),
-    b"keyset_next": (),
+    b"keyset_next": (b"next",),
     b"keyset_--version": (),
     b"status": (),
     b"\xff": (),
@@ -124,6 +156,10 @@ def rows(program) -> Iterator[Row]:
     yield Row((b"notes",), SCRIPT, 1, b"", b"notes: line 1: malformed\n")
     yield Row((b"status",), NOTES, 1, b"", b"line 12: malformed\n")
     yield Row((b"status",), b"", 1, b"", b"line 1: malformed\n")
+    for text, line in SAID.items():
+        yield Row((b"next",), text.encode(), 0, f"{line}\n".encode(), b"")
+    for text, fault in UNSAID.items():
+        yield Row((b"next",), text.encode(), 1, b"", f"{fault}\n".encode())
 
 
 def without_arguments(program):
@@ -162,7 +198,7 @@ def expect_help(program):
     status, text, said = called(program, b"keyset", (b"--help",), stdin=subprocess.DEVNULL)
     readme = (CRATES / "keyset" / "README.md").read_text()
     words, ends = WORD.findall(readme), ENDS.findall(readme)
-    if (status, said) != (0, b"") or len(words) != 4 or len(ends) != 5:
+    if (status, said) != (0, b"") or len(words) != 5 or len(ends) != 5:
         raise Wrong(f"{program} --help ends with {status} and {said}; {words} {ends}")
     lines = text.decode().splitlines()
     for word in (*words, *ends):

@@ -23,13 +23,16 @@ static const char HELP[] =
     "  status          the status of the zone after the script, as JSON\n"
     "  notes           the reports that are due, by notes: after the script come an\n"
     "                  empty line, the notes and questions\n"
+    "  next            what a policy says to do next: first comes the policy, then the\n"
+    "                  script, then the notes and `next` with a second since 1970, with\n"
+    "                  empty lines between these three\n"
     "  --version       its name and version; it reads nothing\n"
     "  --help          this text; it reads nothing\n"
     "\n"
     "Called as keyset_status or keyset_notes, it does as with that word. It ends with\n"
     "\n"
     "  0   if all was answered\n"
-    "  1   if the script or the notes are malformed, or the notes refused\n"
+    "  1   if the policy, the script or the notes are malformed or refused\n"
     "  2   if the input or the output fails\n"
     "  3   if there is no memory\n"
     "  64  if there is no such word, or more than one\n"
@@ -54,7 +57,7 @@ static void say_help(void)
 
 /* A link of the name keyset_status asks for what the word status does. */
 static const struct word WORDS[] = {
-    {"status", show_status}, {"notes", answer_questions}, {NULL, NULL}};
+    {"status", show_status}, {"notes", answer_questions}, {"next", say_next}, {NULL, NULL}};
 
 /* What may be asked under each name. */
 static const struct word OPTIONS[] = {

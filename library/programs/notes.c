@@ -18,7 +18,7 @@ struct zone {
 static bool is_question(const uint8_t *line, size_t length, uint64_t *seconds)
 {
     size_t at = 4;
-    if (length < 5 || memcmp(line, "due ", 4) != 0 || (length > 5 && line[4] == '0'))
+    if (length < 5 || length > 24 || memcmp(line, "due ", 4) != 0)
         return false;
     for (*seconds = 0; at < length; at++) {
         uint64_t digit = (uint64_t)(line[at] - '0');

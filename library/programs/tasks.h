@@ -13,4 +13,7 @@ void show_status(void);
 /* Says which reports are due, by scripts and their notes. */
 void answer_questions(void);
 
+/* Says what a policy wants to be done next, by a script and its notes. */
+void say_next(void);
+
 #endif

@@ -19,10 +19,12 @@ from keyset import (
     Locked,
     Malformed,
     Notes,
+    NotSaid,
     Refusal,
     Refused,
     RollType,
     Session,
+    Todo,
     Torn,
     Wait,
     WrongArgument,
@@ -40,6 +42,7 @@ FIRST = [
     "wait1 algorithm-roll 3700",
 ]
 ROLL = RollType.ALGORITHM_ROLL
+POLICY = "policy 13 ksk-roll zsk-roll\nzsk-lifetime 7776000\n"
 
 
 def after(lines):
@@ -195,11 +198,44 @@ class Calls(unittest.TestCase):
         keys.call("wait1 algorithm-roll 7230")
         self.assertEqual(keys.due(7229), [Due("report2", ROLL, None, waits_until=7230)])
 
+    def test_a_policy_says_what_to_do_next(self):
+        keys = KeySet("example.com")
+        keys.note("before 60 60 60")
+        for role, line in zip(("ksk", "zsk"), FIRST):
+            self.assertEqual(keys.next(POLICY, 100), Todo("key", f"key {role} 13"))
+            keys.call(line)
+        start = keys.next(POLICY, 100.9)
+        self.assertEqual(start, Todo("call", "start algorithm-roll - K1,Z1 100"))
+        keys.call(start.line)
+        for kind in ("dnskey", "zone"):
+            self.assertEqual(keys.next(POLICY, 101).fields, [kind])
+            keys.note(f"published {kind} 3 60 101")
+        self.assertEqual(keys.next(POLICY, 102), Todo("watch", "watch dnskey"))
+        for kind in ("dnskey", "zone"):
+            keys.note(f"everywhere {kind} 103")
+        keys.call(keys.next(POLICY, 103).line)
+        self.assertEqual(keys.script.splitlines()[-1], "report1 algorithm-roll 61 103")
+        self.assertEqual(keys.next(POLICY, 104), Todo("until", "until 164"))
+
+    def test_why_a_policy_says_nothing_is_named(self):
+        keys = KeySet("example.com")
+        short = "policy 13 ksk-roll zsk-roll\nzsk-lifetime 60\n"
+        why = "a lifetime of 60 seconds is shorter than a zsk-roll takes: 122"
+        with self.assertRaises(NotSaid) as said:
+            keys.next(POLICY, 100)
+        self.assertEqual(str(said.exception), "notes: line 1: malformed")
+        keys.note("before 60 60 60")
+        for policy, text in (("", "line 1: malformed"), (short, why)):
+            with self.assertRaises(NotSaid) as said:
+                keys.next(policy, 100)
+            self.assertEqual(str(said.exception), f"policy: {text}")
+
     def test_a_closed_key_set_is_told_as_such(self):
         keys = after(FIRST[:4])
         keys.close()
         keys.close()
-        for asked in (keys.status, lambda: keys.published, lambda: keys.call(FIRST[4])):
+        questions = keys.status, lambda: keys.published, lambda: keys.next(POLICY, 1)
+        for asked in (*questions, lambda: keys.call(FIRST[4])):
             with self.assertRaises(ValueError) as closed:
                 asked()
             self.assertEqual(str(closed.exception), "the key set is closed")

@@ -1,16 +1,18 @@
 -- Notes, line by line: what is noted after one more line.
 use Rattle.std.proofs.Common.{Err, List, None, Ok, Option, Result, Some, [], ap, refl, sym, ℕ, ◌++◌}
-use Rattle.std.proofs.Common.{◌∙◌, ◌∷◌, ◌≡◌}
+use Rattle.std.proofs.Common.{◌∙◌, ◌∷◌, ◌≡◌, ◌+◌, ◌-◌, ◌≤◌, ◌==◌, Bool, true, false, arith, length}
+use Rattle.std.proofs.Common.{if◌then◌else◌, take}
+use Rattle.std.proofs.lemmas.List.{length-take-le, Splits.length-slice_split}
+use Rattle.std.proofs.lemmas.List.Sums.{count_by-le-length}
+use Rattle.std.specs.Io.BufRead.{ends_with_byte}
+use Rattle.dnssec_script.specs.Script.{lines_of, without_end}
 use Rattle.std.proofs.lemmas.{List.append-nil, List.append_assoc, List.map-append, Option.none-some}
 use Rattle.std.{proofs.lemmas.Option.same_Some, specs.Option.option_map, specs.Prelude.IfOk}
 use Rattle.dnssec_network.specs.Notes.{NotesParts, refusal}
 use Rattle.dnssec_network.specs.declared.fact.{Before.Before, Fact.Fact}
-use Rattle.dnssec_script.specs.Script.{lines_of}
 use Rattle.dnssec_notes.specs.Lines.{as_before, before_says}
-use Rattle.dnssec_notes.specs.Reading.{AreFacts, AreNotes, AreTaken, HasLine, HasTaken, IsFaultOf}
-use Rattle.dnssec_notes.specs.Reading.{IsNotesFault}
-use Rattle.dnssec_notes.specs.declared.fault.NotesFault.{NotesFault, TheVariants.Malformed}
-use Rattle.dnssec_notes.specs.declared.fault.NotesFault.TheVariants.{OutOfMemory, Refused}
+use Rattle.dnssec_notes.specs.Reading.{AreFacts, AreNotes, AreTaken, HasLine, HasTaken}
+use Rattle.dnssec_notes.specs.declared.fault.NotesFault.{NotesFault}
 
 -- one fact more is taken
 taken-more : (moments : List ℕ) (old facts : List Fact) (fact : Fact) → AreTaken moments old facts
@@ -42,12 +44,21 @@ pub notes-all : (moments : List ℕ) (lines rest : List (List ℕ)) (first : Lis
 notes-all moments lines rest first before (Ok n) split said same are = rw (split, same) (said, are)
 notes-all moments lines rest first before (Err e) split said same are = tt
 
--- the fault of the lines is that of the text
-pub fault-of : (moments : List ℕ) (text : List ℕ) (fault : NotesFault)
-    → IsFaultOf moments (lines_of text) fault → IsNotesFault moments text fault
-fault-of moments text (Malformed n) here = here
-fault-of moments text (Refused n cause) here = here
-fault-of moments text OutOfMemory here = tt
+-- a text has at most one line more than bytes
+shorter : (is_cut : Bool) (text : List ℕ)
+    → length (if is_cut then take (length text - 1) text else text) ≤ length text
+shorter true text = omega (arith, length-take-le (length text - 1) text (omega arith))
+shorter false text = omega arith
+
+pub lines-fit : (text : List ℕ) → length (lines_of text) ≤ length text + 1
+lines-fit text =
+    let feed = λ (b : ℕ). b == 10 in
+    let long : length (without_end text) ≤ length text = shorter (ends_with_byte 10 text) text in
+    omega (
+      arith,
+      length-slice_split feed (without_end text),
+      count_by-le-length feed (without_end text),
+    )
 
 -- ---- beside a session
 

@@ -6,7 +6,6 @@ use Rattle.dnssec_run.specs.declared.record.Entry.{Entry}
 use Rattle.dnssec_network.specs.declared.fact.Before.{Before}
 use Rattle.dnssec_network.specs.declared.fact.Fact.{Fact}
 use Rattle.dnssec_network.specs.Notes.{NotesParts, refusal}
-use Rattle.dnssec_script.specs.Script.{lines_of}
 use Rattle.dnssec_notes.specs.Lines.{as_before, as_fact, before_says, fact_says}
 use Rattle.dnssec_notes.specs.declared.fault.LineFault.{LineFault}
 use Rattle.dnssec_notes.specs.declared.fault.LineFault.TheVariants as why
@@ -68,12 +67,6 @@ IsFaultOf moments (first ∷ lines) fault =
     ((as_before first ≡ None) × (fault ≡ Malformed 1))
     ⊎ (((before : Before) × (as_before first ≡ Some (before_says before)))
     × IsFactsFault moments lines fault)
-
--- the text is no notes, and why; the list of its lines takes memory before the first is read
-abbrev pub IsNotesFault : List ℕ → List ℕ → NotesFault → Type 0
-IsNotesFault moments text OutOfMemory = Unit {0}
-IsNotesFault moments text (Malformed n) = IsFaultOf moments (lines_of text) (Malformed n)
-IsNotesFault moments text (Refused n cause) = IsFaultOf moments (lines_of text) (Refused n cause)
 
 -- ---- one more line
 

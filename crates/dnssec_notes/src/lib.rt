@@ -15,8 +15,9 @@ pub use dnssec_network::{
     Before, DueReport, Fact, Moments, News, NotYet, NoteFault, Notes, SetKind, Steps,
 };
 pub use fault::{DueFault, LineFault, NotesFault};
+pub use line::{read_before, read_fact};
 pub use questions::answer_lines;
-pub use reading::read_notes;
+pub use reading::{read_notes, without_end};
 pub use reports::due_lines;
-pub use scripts::answer_scripts;
+pub use scripts::{answer_scripts, cut};
 pub use session::{SessionNotes, notes_outlast_calls};

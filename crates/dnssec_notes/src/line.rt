@@ -73,9 +73,16 @@ fn first_kind<'a>(fields: Fields<'a>) -> Option<(SetKind, Fields<'a>)>
     Some((kind_named(name)?, fields))
 }
 
-/// What a line says, if it has the form of a fact's line.
+/// What a line says, if it has the form of a fact's line, as `published dnskey 12 3600 100`. A
+/// caller of `read_notes` may so look at the facts that it has read.
+///
+/// ```rust
+/// if let Some(fact) = read_fact(b"published dnskey 12 3600 100") {
+///     let (kind, news) = (fact.kind, fact.news);
+/// }
+/// ```
 #[tactic(auto, unfolding(crate::specs::Lines::as_fact))]
-pub(crate) fn read_fact(line: &[u8]) -> Option<Fact>
+pub fn read_fact(line: &[u8]) -> Option<Fact>
     ensures { option_map fact_says result ≡ as_fact line.now }
 {
     let (word, fields) = first_word(Fields::of(line))?;
@@ -118,9 +125,13 @@ fn everywhere(fields: Fields<'_>) -> Option<News>
     Some(News::Everywhere { moment })
 }
 
-/// What the first line says, if it has the form of one.
+/// What the first line says, if it has the form of one, as `before 3600 3600 3600`.
+///
+/// ```rust
+/// let before = read_before(b"before 3600 3600 3600");
+/// ```
 #[tactic(auto, unfolding(crate::specs::Lines::as_before))]
-pub(crate) fn read_before(line: &[u8]) -> Option<Before>
+pub fn read_before(line: &[u8]) -> Option<Before>
     ensures { option_map before_says result ≡ as_before line.now }
 {
     let (word, fields) = Fields::of(line).next()?;

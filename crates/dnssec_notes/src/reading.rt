@@ -1,14 +1,12 @@
 //! Notes as a text.
-ghost use Rattle.std.specs.Prelude.{◌≡◌, IfOk, IfErr, OnOk, map};
-ghost use denote.Bor.{now};
-ghost use Rattle.dnssec_script.specs.Script.{lines_of};
-ghost use Rattle.dnssec_notes.specs.Reading.{AreFacts, AreNotes, HasLine, IsFactFault};
-ghost use Rattle.dnssec_notes.specs.Reading.{IsFactsFault, IsLineFault, IsNotesFault};
+ghost use Rattle.std.specs.Prelude.{◌≡◌, IfOk, IfErr, OnOk};
+ghost use Rattle.dnssec_script.specs.Script.{lines_of, without_end};
+ghost use Rattle.dnssec_notes.specs.Reading.{AreNotes, HasLine, IsFactFault};
+ghost use Rattle.dnssec_notes.specs.Reading.{IsFaultOf, IsLineFault};
 
 use crate::fault::{LineFault, NotesFault};
 use crate::line::{read_before, read_fact};
-use dnssec_network::{Before, Moments, NoteFault, Notes};
-use dnssec_record::all_lines;
+use dnssec_network::{Moments, NoteFault, Notes};
 use std::alloc::Global;
 
 /// Reads notes, which stand beside a script. `moments` are those of the script's calls.
@@ -17,7 +15,7 @@ use std::alloc::Global;
 ///
 /// - `Malformed` with the number of the first line that isn't a line of notes.
 /// - `Refused` with the number of the first fact that can't follow those before it, and the cause.
-/// - `OutOfMemory` if memory runs out.
+/// - `OutOfMemory` if memory runs out for a fact that could be taken.
 ///
 /// ```rust
 /// let text = "before 3600 3600 3600\npublished dnskey 12 3600 100\neverywhere dnskey 130\n";
@@ -26,34 +24,33 @@ use std::alloc::Global;
 pub fn read_notes(alloc: Global, moments: &Moments, text: &[u8]) -> Result<Notes, NotesFault>
     ensures ok { IfOk result (λ notes.
         AreNotes moments.now (lines_of text.now) notes.before notes.facts) }
-    ensures err { IfErr result (IsNotesFault moments.now text.now) }
+    ensures err { IfErr result (IsFaultOf moments.now (lines_of text.now)) }
 {
-    let lines = all_lines(alloc, text)?;
-    let Some((first, rest)) = lines.split_first() else {
+    let mut lines = without_end(text).split(|byte| *byte == b'\n');
+    let Some(first) = lines.next() else {
         return Err(NotesFault::Malformed(1));
     };
     let Some(before) = read_before(first) else {
         return Err(NotesFault::Malformed(1));
     };
-    read_facts(alloc, moments, before, rest)
-}
-
-/// Notes the fact of each line, from line 2 on.
-fn read_facts(
-    alloc: Global,
-    moments: &Moments,
-    before: Before,
-    lines: &[&[u8]],
-) -> Result<Notes, NotesFault>
-    ensures before { IfOk result (λ notes. notes.before ≡ before) }
-    ensures ok { IfOk result (λ notes. AreFacts moments.now (map now lines.now) notes.facts) }
-    ensures err { IfErr result (IsFactsFault moments.now (map now lines.now)) }
-{
     let mut notes = Notes::new(alloc, before);
-    for (index, line) in lines.iter().enumerate() {
-        note_line(&mut notes, moments, line, index + 2)?;
+    let mut number = 1;
+    for line in lines {
+        number += 1;
+        note_line(&mut notes, moments, line, number)?;
     }
     Ok(notes)
+}
+
+/// A text without the line feed at its end.
+#[tactic(auto, using(dnssec_script::proofs::Judging::ends))]
+pub fn without_end(text: &[u8]) -> &[u8]
+    ensures { result.now ≡ without_end text.now }
+{
+    match text.split_last() {
+        Some((last, rest)) => { if *last == b'\n' { rest } else { text } }
+        None => text,
+    }
 }
 
 /// Notes the fact of a line of this number.

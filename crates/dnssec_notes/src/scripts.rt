@@ -42,7 +42,7 @@ pub fn answer_scripts(alloc: Global, text: &[u8]) -> Result<String, DueFault>
 }
 
 /// The parts of a text, which empty lines end.
-fn cut(alloc: Global, text: &[u8]) -> Result<Vec<&[u8]>, AllocError>
+pub fn cut(alloc: Global, text: &[u8]) -> Result<Vec<&[u8]>, AllocError>
     ensures { IfOk result (λ parts. map now parts.items ≡ parts_of text.now) }
 {
     let mut parts = Vec::new(alloc);

@@ -1,6 +1,7 @@
 //! Why the program did not do what it was asked to, and the status that it then ends with.
 
 use crate::words::Misuse;
+use dnssec_automatic::NextFault;
 use dnssec_notes::{DueFault, NotesFault};
 use dnssec_record::ScriptFault;
 use std::fmt;
@@ -14,6 +15,8 @@ pub enum Fault {
     Script(ScriptFault),
     /// The questions among notes were not answered.
     Due(DueFault),
+    /// It was not said what to do next.
+    Next(NextFault),
 }
 
 /// The status after a misuse, as `sysexits.h` has it. 1 to 3 are those of other faults.
@@ -27,6 +30,7 @@ impl Fault {
             Fault::Script(fault) | Fault::Due(DueFault::Script(fault)) => fault.status(),
             Fault::Due(DueFault::Notes(NotesFault::OutOfMemory)) => 3,
             Fault::Due(DueFault::Notes(_)) => 1,
+            Fault::Next(fault) => { if fault.lacks_memory() { 3 } else { 1 } }
         }
     }
 }
@@ -40,6 +44,7 @@ impl fmt::Display for Fault {
             }
             Fault::Script(fault) => write!(f, "{fault}"),
             Fault::Due(fault) => write!(f, "{fault}"),
+            Fault::Next(fault) => write!(f, "{fault}"),
         }
     }
 }
@@ -59,5 +64,11 @@ impl From<ScriptFault> for Fault {
 impl From<DueFault> for Fault {
     fn from(fault: DueFault) -> Self {
         Fault::Due(fault)
+    }
+}
+
+impl From<NextFault> for Fault {
+    fn from(fault: NextFault) -> Self {
+        Fault::Next(fault)
     }
 }

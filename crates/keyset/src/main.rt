@@ -1,8 +1,8 @@
 //! The program `keyset`: answers a script, or does what its word asks for.
 //!
 //! Its help says what it reads and writes, and with which status it ends: that of its fault, whose
-//! text goes to standard error. Before a fault of `status` or `notes` it writes nothing, unless the
-//! output fails.
+//! text goes to standard error. Before a fault of `status`, `notes` or `next` it writes nothing,
+//! unless the output fails.
 #![tactic(auto)]
 
 mod fault;
@@ -10,6 +10,7 @@ mod words;
 
 use crate::fault::Fault;
 use crate::words::{Task, task_of};
+use dnssec_automatic::{NextFault, answer_text};
 use dnssec_notes::answer_scripts;
 use dnssec_record::{ScriptFault, Session, Std, run_script};
 use dnssec_status::status;
@@ -29,13 +30,16 @@ Reads a script of a DNSSEC key set from standard input, and writes
   status          the status of the zone after the script, as JSON
   notes           the reports that are due, by notes: after the script come an
                   empty line, the notes and questions
+  next            what a policy says to do next: first comes the policy, then the
+                  script, then the notes and `next` with a second since 1970, with
+                  empty lines between these three
   --version       its name and version; it reads nothing
   --help          this text; it reads nothing
 
 Called as keyset_status or keyset_notes, it does as with that word. It ends with
 
   0   if all was answered
-  1   if the script or the notes are malformed, or the notes refused
+  1   if the policy, the script or the notes are malformed or refused
   2   if the input or the output fails
   3   if there is no memory
   64  if there is no such word, or more than one
@@ -73,6 +77,13 @@ fn run(rt: &HostRuntime) -> Result<(), Fault> {
                 rt.stdout(),
                 answer_scripts(alloc, &scripts)?.as_str().as_bytes(),
             )
+        }
+        Task::Next => {
+            let mut line = answer_text(alloc, &read_all(alloc, rt.stdin())?)?;
+            match line.push_str("\n") {
+                Ok(()) => write(rt.stdout(), line.as_str().as_bytes()),
+                Err(_) => Err(Fault::Next(NextFault::OutOfMemory)),
+            }
         }
         Task::Version => write(rt.stdout(), VERSION.as_bytes()),
         Task::Help => write(rt.stdout(), HELP.as_bytes()),

@@ -12,12 +12,18 @@ pub enum Task {
     Status,
     /// To say which reports are due, by scripts and their notes.
     Notes,
+    /// To say what a policy wants to be done next, by a script and its notes.
+    Next,
     Version,
     Help,
 }
 
 /// Each word with what it asks for. A link of the name `keyset_status` asks for what `status` does.
-const WORDS: [(&str, Task); 2] = [("status", Task::Status), ("notes", Task::Notes)];
+const WORDS: [(&str, Task); 3] = [
+    ("status", Task::Status),
+    ("notes", Task::Notes),
+    ("next", Task::Next),
+];
 
 /// What may be asked under each name.
 const OPTIONS: [(&str, Task); 2] = [("--version", Task::Version), ("--help", Task::Help)];

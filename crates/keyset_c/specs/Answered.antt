@@ -1,5 +1,5 @@
 -- What an answer that was written says of the run whose output it is, and what it leaves as it was.
-use Rattle.std.specs.Prelude.{◌≡◌, ◌≢◌, ◌<◌, ◌≤◌, ◌++◌, ℕ, List, codes, drop, length}
+use Rattle.std.specs.Prelude.{◌≡◌, ◌≢◌, ◌⊎◌, ◌<◌, ◌≤◌, ◌++◌, ℕ, List, codes, drop, length}
 use Rattle.dnssec_run.specs.Plain.{IsPlain, StaysSafe}
 use Rattle.dnssec_record.specs.Answer.{IsAnswerOf}
 
@@ -26,4 +26,13 @@ pub record Hands (status n line : ℕ) (old new : List ℕ) : Type 0 where
   pub short : status ≡ 4 → length old < n
   pub silent : status ≢ 0 → new ≡ old
   pub no_length : status ≢ 0 → status ≢ 4 → n ≡ 0
+  pub no_line : line ≡ 0
+
+-- The same where a refusal, with the status 13, is written as an answer is.
+pub record HandsText (status n line : ℕ) (old new : List ℕ) : Type 0 where
+  pub fits : (status ≡ 0) ⊎ (status ≡ 13) → n ≤ length new
+  pub rest : (status ≡ 0) ⊎ (status ≡ 13) → drop n new ≡ drop n old
+  pub short : status ≡ 4 → length old < n
+  pub silent : status ≢ 0 → status ≢ 13 → new ≡ old
+  pub no_length : status ≡ 3 → n ≡ 0
   pub no_line : line ≡ 0

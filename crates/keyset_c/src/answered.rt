@@ -30,16 +30,19 @@ pub(crate) const PUBLISHED_EARLY: u32 = 11;
 /// Memory ran out after a part of a call was made. The session is closed.
 pub(crate) const LOST: u32 = 12;
 
+/// What a policy says was not said, and the answer is why.
+pub(crate) const NOT_SAID: u32 = 13;
+
 /// How a call of the library was answered.
 #[repr(C)]
 #[derive(Drop)]
 pub struct Answered {
     /// 0 answered, 1 malformed, 3 out of memory: as the program `keyset` ends. 4 short of room, 5
-    /// for a closed session, 12 for a lost one. It is never 2, the program's status if a device has
-    /// failed.
+    /// for a closed session, 12 for a lost one, 13 if what a policy says is not said. It is never 2,
+    /// the program's status if a device has failed.
     pub status: u32,
-    /// Answered: how many bytes were written. Short of room: how many bytes the answer needs. Else
-    /// 0.
+    /// Answered, or not said: how many bytes were written. Short of room: how many bytes the answer
+    /// needs. Else 0.
     pub length: usize,
     /// Malformed script: the first malformed line, counted from 1. Else 0.
     pub line: usize,

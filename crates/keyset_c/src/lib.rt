@@ -2,6 +2,7 @@
 //!
 //! `keyset_answer` takes a script and writes its answers, and keeps nothing. A session keeps a zone
 //! between two calls, so that a call costs what the call costs, and shows the zone's status.
+//! `keyset_next` says what a policy wants to be done next.
 #![tactic(auto)]
 
 ghost use Rattle.std.specs.Prelude.{◌≡◌, ◌≢◌, ◌⊎◌, ◌↔◌, ℕ, ◌<◌, ◌≤◌, List, length, take, drop};
@@ -19,6 +20,7 @@ mod handle;
 mod kept;
 mod parts;
 mod place;
+mod policies;
 mod questions;
 mod sessions;
 mod texts;
@@ -27,6 +29,7 @@ pub use crate::answered::Answered;
 use crate::answered::{ANSWERED, CLOSED, IS_OPEN, LOST, MALFORMED, OUT_OF_MEMORY, fault, hand_out};
 pub use crate::handle::Handle;
 use crate::kept::Kept;
+pub use crate::policies::keyset_next;
 pub use crate::questions::{
     keyset_calls, keyset_closing, keyset_copy, keyset_due, keyset_status, keyset_told,
 };

@@ -12,7 +12,17 @@ if sys.version_info < (3, 9):
 __version__ = "1.1.0"
 
 if TYPE_CHECKING:
-    from .engine import Slow, answer, due, follow, open_session, refused, run, status
+    from .engine import (
+        Slow,
+        answer,
+        due,
+        follow,
+        next_line,
+        open_session,
+        refused,
+        run,
+        status,
+    )
     from .errors import (
         Closed,
         Damaged,
@@ -23,6 +33,7 @@ if TYPE_CHECKING:
         Malformed,
         Misnamed,
         NotKept,
+        NotSaid,
         OutOfMemory,
         Refusal,
         Refused,
@@ -46,6 +57,7 @@ if TYPE_CHECKING:
         Published,
         Role,
         Roll,
+        Todo,
     )
 
 __all__ = [
@@ -65,6 +77,7 @@ __all__ = [
     "Malformed",
     "Misnamed",
     "NotKept",
+    "NotSaid",
     "Notes",
     "OutOfMemory",
     "Published",
@@ -77,6 +90,7 @@ __all__ = [
     "Slow",
     "Stamps",
     "Status",
+    "Todo",
     "Torn",
     "Unavailable",
     "Wait",
@@ -86,6 +100,7 @@ __all__ = [
     "due",
     "follow",
     "locked",
+    "next_line",
     "open_session",
     "refused",
     "run",

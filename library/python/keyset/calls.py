@@ -93,7 +93,7 @@ class Calls(ABC):
             private,
             field("algorithm", "ALG", algorithm),
             field("key_tag", "TAG", key_tag),
-            field("creation", "TIME", _down(creation)),
+            field("creation", "TIME", down(creation)),
             _yes("available", available),
         )
 
@@ -107,7 +107,7 @@ class Calls(ABC):
 
     def set_present(self, pubref: str, value: bool, now: float | None = None) -> Accepted:
         """Sets whether the key is in the DNSKEY set."""
-        moment = field("now", "TIME", _down(now))
+        moment = field("now", "TIME", down(now))
         return self._make("set-present", reference("pubref", pubref), _yes("value", value), moment)
 
     def set_signer(self, pubref: str, value: bool) -> Accepted:
@@ -146,7 +146,7 @@ class Calls(ABC):
     ) -> Accepted:
         """Starts a roll from the old keys to the new ones."""
         lists = references("old", old), references("new", new)
-        return self._make("start", _roll(roll), *lists, field("now", "TIME", _down(now)))
+        return self._make("start", _roll(roll), *lists, field("now", "TIME", down(now)))
 
     def propagation1_complete(
         self, roll: RollType, ttl: int, now: float | None = None
@@ -157,7 +157,7 @@ class Calls(ABC):
 
     def cache_expired1(self, roll: RollType, now: float | None = None) -> Accepted:
         """Goes on, if old data has left the caches; else raises `Wait`."""
-        return self._make("wait1", _roll(roll), field("now", "TIME", _down(now)))
+        return self._make("wait1", _roll(roll), field("now", "TIME", down(now)))
 
     def propagation2_complete(
         self, roll: RollType, ttl: int, now: float | None = None
@@ -167,7 +167,7 @@ class Calls(ABC):
 
     def cache_expired2(self, roll: RollType, now: float | None = None) -> Accepted:
         """The same wait for the second report."""
-        return self._make("wait2", _roll(roll), field("now", "TIME", _down(now)))
+        return self._make("wait2", _roll(roll), field("now", "TIME", down(now)))
 
     def roll_done(self, roll: RollType) -> Accepted:
         """Ends the roll, once its last actions are done."""
@@ -224,7 +224,7 @@ def _yes(name: str, value: bool) -> str:
     return "yes" if value else "no"
 
 
-def _down(now: float | None) -> int:
+def down(now: float | None) -> int:
     return _whole(math.floor, time.time() if now is None else now)
 
 

@@ -11,12 +11,13 @@ from typing import Dict, Iterable, Iterator, List, Optional, Sequence, Tuple
 
 from . import programs
 from .errors import OutOfMemory, refusal_of
-from .library import LibrarySession, answer, library
+from .library import LibrarySession, answer, as_bytes, library
+from .library import next_line as said_next
 from .members import After, RoleMembers, Status, roles_of
 from .programs import ProgramSession
 from .session import Session
 
-__all__ = ["answer", "due", "follow", "open_session", "refused", "run", "status"]
+__all__ = ["answer", "due", "follow", "next_line", "open_session", "refused", "run", "status"]
 
 
 class Slow(RuntimeWarning):
@@ -97,6 +98,20 @@ def dues(
                 session.note(line)
             calls, facts = called, noted
             yield _ttls(session.due(moment))
+
+
+def next_line(
+    policy: Sequence[str], lines: Sequence[str], notes: Sequence[str], moment: int
+) -> str:
+    """What a policy says to do next at a second since 1970, by its lines, those of a script and
+    those of its notes. `NotSaid`: one of these is refused, or a lifetime is too short."""
+    if not _has_library():
+        return programs.next_line(policy, lines, notes, moment)
+    return said_next(_text(policy), _text(lines), _text(notes), moment)
+
+
+def _text(lines: Sequence[str]) -> bytes:
+    return as_bytes("".join(f"{line}\n" for line in lines))
 
 
 def follow(lines: Sequence[str]) -> Iterator[After]:

@@ -70,6 +70,11 @@ class Malformed(Error, ValueError):
         self.line, self.reason = line, reason
 
 
+class NotSaid(Error, ValueError):
+    """It isn't said what a policy wants to be done next, and why: the policy, the script or the
+    notes are refused, or a lifetime is shorter than its roll takes."""
+
+
 class WrongArgument(Error, ValueError):
     """An argument of a call can't stand in a line. No line was made of it."""
 

@@ -8,7 +8,7 @@ from pathlib import Path
 from typing import Iterator, Sequence
 
 from . import engine, file
-from .calls import Calls, up
+from .calls import Calls, down, up
 from .errors import Damaged, Locked, Lost, Malformed, OutOfMemory, Torn, WrongArgument, refusal_of
 from .file import Place, Writer
 from .lines import RollType
@@ -23,6 +23,7 @@ from .values import (
     Key,
     Published,
     Roll,
+    Todo,
 )
 
 
@@ -203,6 +204,18 @@ class KeySet(Calls):
         with self._guard.held():
             self._catch_up()
             return [Due.of(line) for line in self._session.due(moment).splitlines()]
+
+    def next(self, policy: str, now: float | None = None) -> Todo:
+        """What a policy says to do next at this moment, rounded down, by the notes. docs/POLICY.md
+        has the form of a policy. `NotSaid`: the policy is refused, or a lifetime is shorter than
+        its roll takes; or there are no notes."""
+        moment = down(now)
+        with self._guard.held():
+            # (A closed key set says so.)
+            self._session.closing()
+            self._catch_up()
+            lines = policy.removesuffix("\n").split("\n")
+            return Todo.of(engine.next_line(lines, self.lines, self.notes.lines, moment))
 
     def status(self) -> Status:
         """The status of the zone, read from its JSON: `keys` and `rolls` are taken from it."""

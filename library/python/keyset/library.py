@@ -15,13 +15,14 @@ import weakref
 from pathlib import Path
 from typing import Callable, Iterator, List, Optional, cast
 
-from .errors import Malformed, Unavailable, refusal_of
+from .errors import Malformed, NotSaid, Unavailable, refusal_of
 from .lines import why_malformed
 from .members import Status
 from .session import (
     ANSWERED,
     MALFORMED,
     NO_NOTES,
+    NOT_SAID,
     NOT_TAKEN,
     REFUSED,
     SHORT,
@@ -124,9 +125,11 @@ def _declare(made: ctypes.CDLL) -> None:
         "due": [handle, ctypes.c_uint64, *text],
     }
     statuses = {"open": [*text, handle], "note": [handle, *text], "copy": [handle, handle]}
-    # (An older library of this version lacks it.)
+    # (An older library of this version lacks these.)
     if hasattr(made, "keyset_accept"):
         statuses["accept"] = [handle, *text]
+    if hasattr(made, "keyset_next"):
+        answers["next"] = [*text, *text, *text, ctypes.c_uint64, *text]
     for names, restype in ((answers, _Answered), (statuses, ctypes.c_uint32)):
         for name, takes in names.items():
             function = getattr(made, f"keyset_{name}")
@@ -283,6 +286,26 @@ def answer(script: bytes) -> str:
             return out.raw[: told.length].decode()
         if told.status == MALFORMED:
             raise Malformed(told.line)
+        if told.status != SHORT:
+            raise fault(told.status)
+        room = told.length
+
+
+def next_line(policy: bytes, script: bytes, notes: bytes, moment: int) -> str:
+    """What a policy says to do next at a second since 1970, in the form in which the program
+    `keyset next` writes it."""
+    made, room = needed(), 4096
+    if not hasattr(made, "keyset_next"):
+        raise Unavailable("the library is of a release before keyset_next")
+    while True:
+        out = ctypes.create_string_buffer(room)
+        texts = (part for text in (policy, script, notes) for part in (text, len(text)))
+        told = made.keyset_next(*texts, moment, out, room)
+        text = out.raw[: told.length].decode()
+        if told.status == ANSWERED:
+            return text
+        if told.status == NOT_SAID:
+            raise NotSaid(text)
         if told.status != SHORT:
             raise fault(told.status)
         room = told.length

@@ -7,6 +7,7 @@ from typing import Dict, List, Literal, Optional, Protocol, Tuple, TypedDict, Un
 SetKind = Literal["ds", "dnskey", "zone"]
 CallWord = Literal["report1", "wait1", "report2", "wait2", "done"]
 ReportWord = Literal["report1", "report2"]
+TodoWord = Literal["call", "publish", "watch", "key", "until", "nothing"]
 KeyKind = Literal["ksk", "zsk", "csk", "public"]
 RoleName = Literal["ksk", "zsk", "public"]
 State = Literal["future", "incoming", "active", "leaving", "stale"]

@@ -11,13 +11,13 @@ import re
 from pathlib import Path
 from typing import List, Optional, Sequence, cast
 
-from .errors import Closed, Malformed, OutOfMemory, Unavailable, refusal_of
+from .errors import Closed, Malformed, NotSaid, OutOfMemory, Unavailable, refusal_of
 from .library import TREE
 from .lines import why_malformed
 from .members import Status
 from .session import MALFORMED, NO_NOTES, NOT_TAKEN, OUT_OF_MEMORY, Guard, Session
 
-PROGRAM = "keyset"
+PROGRAM, NEXT = "keyset", "next"
 
 
 class ProgramSession(Session):
@@ -105,6 +105,13 @@ def due(lines: Sequence[str], notes: Sequence[str], moment: int) -> str:
     return run("notes", [*lines, "", *notes, f"due {moment}"])
 
 
+def next_line(
+    policy: Sequence[str], lines: Sequence[str], notes: Sequence[str], moment: int
+) -> str:
+    """What `keyset next` says, by the lines of a policy, of a script and of its notes."""
+    return run(NEXT, [*policy, "", *lines, "", *notes, f"next {moment}"]).rstrip("\n")
+
+
 def find(word: str) -> List[str]:
     """The command that does what a word says. The program of release 1.0.0 takes no words, and has
     another program beside it for each. These are links today, so a link goes first."""
@@ -129,6 +136,8 @@ def run(word: str, lines: Sequence[str]) -> str:
     text = "".join(f"{line}\n" for line in lines).encode("utf-8", "surrogatepass")
     done = subprocess.run(find(word), input=text, capture_output=True)
     said = done.stderr.decode(errors="replace")
+    if word == NEXT and done.returncode == MALFORMED:
+        raise NotSaid(said.rstrip("\n"))
     if found := re.fullmatch(r"(?:script: )?line (\d+): malformed\n", said):
         number = int(found[1])
         line = lines[number - 1] if number <= len(lines) else ""

@@ -12,6 +12,7 @@ from .errors import Closed, Error, Forked, Lost, OutOfMemory, Unavailable
 from .members import Status
 
 ANSWERED, MALFORMED, OUT_OF_MEMORY, SHORT, CLOSED, REFUSED, LOST = 0, 1, 3, 4, 5, 10, 12
+NOT_SAID = 13
 # Why a line of notes isn't taken.
 NOT_TAKEN = {
     MALFORMED: "malformed",

@@ -18,10 +18,12 @@ from .members import (
     SetKind,
     Stamps,
     State,
+    TodoWord,
     WaitEnd,
     WaitsFor,
 )
 
+TODO_WORDS = ("publish", "watch", "key", "until", "nothing")
 NOT_YET = "not yet: "
 # References of keys. A text isn't a list of them.
 References = Union[List[str], Tuple[str, ...]]
@@ -102,6 +104,26 @@ class Due:
         if line.startswith(NOT_YET):
             return cls(call, RollType(roll), None, cast(SetKind, rest[-1]))
         return cls(call, RollType(roll), int(rest[0]))
+
+
+@dataclass(frozen=True)
+class Todo:
+    """What a policy says to do next. `word` is `call`, `publish`, `watch`, `key`, `until` or
+    `nothing`. `line` says it: of a call it is the line of a script, which `KeySet.call` takes."""
+
+    word: TodoWord
+    line: str
+
+    @classmethod
+    def of(cls, line: str) -> Todo:
+        """Reads the line that says it."""
+        word = line.split(" ")[0].rstrip(":")
+        return cls(cast(TodoWord, word if word in TODO_WORDS else "call"), line)
+
+    @property
+    def fields(self) -> list[str]:
+        """What follows the word."""
+        return self.line.split(" ")[1:]
 
 
 @dataclass(frozen=True)

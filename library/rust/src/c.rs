@@ -41,6 +41,7 @@ pub(crate) const MOMENT_FALLS: u32 = 9;
 pub(crate) const REFUSED: u32 = 10;
 pub(crate) const PUBLISHED_EARLY: u32 = 11;
 pub(crate) const LOST: u32 = 12;
+pub(crate) const NOT_SAID: u32 = 13;
 
 extern "C" {
     pub(crate) fn keyset_answer(
@@ -64,6 +65,17 @@ extern "C" {
     pub(crate) fn keyset_note(session: *mut Handle, line: *const u8, len: usize) -> u32;
     pub(crate) fn keyset_due(
         session: *const Handle,
+        seconds: u64,
+        out: *mut u8,
+        room: usize,
+    ) -> Answered;
+    pub(crate) fn keyset_next(
+        policy: *const u8,
+        policy_len: usize,
+        script: *const u8,
+        script_len: usize,
+        notes: *const u8,
+        notes_len: usize,
         seconds: u64,
         out: *mut u8,
         room: usize,

@@ -159,6 +159,8 @@ pub enum Error {
         /// Why it isn't taken.
         refusal: NoteRefusal,
     },
+    /// What a policy says isn't said: why, as `policy: line 2: said twice`.
+    NotSaid(String),
     /// There is no memory. The call may be made again.
     OutOfMemory,
     /// Memory ran out after a part of a call was made by [`Session::call`](crate::Session::call).
@@ -211,6 +213,7 @@ impl fmt::Display for Error {
             Error::NoNotes => f.write_str("no notes: a line `before` comes first"),
             Error::MalformedNote { line } => write!(f, "notes: line {line}: malformed"),
             Error::RefusedNote { line, refusal } => write!(f, "notes: line {line}: {refusal}"),
+            Error::NotSaid(why) => f.write_str(why),
             Error::OutOfMemory => f.write_str("out of memory"),
             Error::Lost => f.write_str("out of memory in a call: the session is closed"),
             Error::Locked => f.write_str("another program has the file"),

@@ -5,9 +5,10 @@ use crate::file::Lines;
 use crate::names::{Action, RollType};
 use crate::notes::{Due, Note};
 use crate::read;
-use crate::session::Session;
+use crate::session::{next, Session};
 use crate::status::{Broken, Key, Published, Roll, Status, WaitEnd};
 use crate::text::{append_line, collected, copied, push, text};
+use crate::todo::Todo;
 use std::path::Path;
 
 /// What an accepted call says.
@@ -40,6 +41,7 @@ pub struct RefusedLine {
 pub struct KeySet {
     session: Session,
     script: String,
+    notes: String,
     file: Option<Lines>,
     refused: Vec<RefusedLine>,
 }
@@ -57,6 +59,7 @@ impl KeySet {
         Ok(KeySet {
             session: opened(&first)?,
             script,
+            notes: String::new(),
             file: None,
             refused: Vec::new(),
         })
@@ -163,7 +166,24 @@ impl KeySet {
     /// [`Error::MalformedNote`] if the first one isn't [`Note::Before`], or another one is;
     /// [`Error::RefusedNote`]; [`Error::OutOfMemory`].
     pub fn note(&mut self, note: Note) -> Result<(), Error> {
-        self.session.note(&text(format_args!("{note}"))?)
+        let line = text(format_args!("{note}"))?;
+        self.notes.try_reserve(line.len() + 1)?;
+        self.session.note(&line)?;
+        append_line(&mut self.notes, &line)
+    }
+
+    /// What a policy says to do next at this moment, by the notes. The text of a policy has the form
+    /// that docs/POLICY.md has. It runs the script again.
+    ///
+    /// # Errors
+    ///
+    /// [`Error::NotSaid`] if the policy is refused, or a lifetime is shorter than its roll takes;
+    /// [`Error::NoNotes`]; [`Error::OutOfMemory`].
+    pub fn next(&self, policy: &str, now: u64) -> Result<Todo, Error> {
+        if self.notes.is_empty() {
+            return Err(Error::NoNotes);
+        }
+        Todo::read(&next(policy, &self.script, &self.notes, now)?)
     }
 
     /// The reports that the rolls wait for, as they would be made at this moment, by the notes.
@@ -346,6 +366,7 @@ impl OpenOptions {
         Ok(KeySet {
             session,
             script,
+            notes: String::new(),
             file,
             refused,
         })

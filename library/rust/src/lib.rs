@@ -47,6 +47,7 @@ mod read;
 mod session;
 mod status;
 mod text;
+mod todo;
 
 pub use self::keyset::{Accepted, KeySet, OpenOptions, RefusedLine};
 pub use algorithm::Algorithm;
@@ -56,5 +57,6 @@ pub use names::{
     Action, KeyKind, Next, Phase, RoleKind, RollType, SetKind, State, UnknownName, WaitsFor,
 };
 pub use notes::{Due, Note, Report};
-pub use session::{answer, version, Session};
+pub use session::{answer, next, version, Session};
 pub use status::{Broken, Ended, Key, Published, Role, Roll, Stamps, Status, WaitEnd};
+pub use todo::Todo;

@@ -235,6 +235,37 @@ pub fn answer(script: &str) -> Result<String, Error> {
     }
 }
 
+/// What a policy says to do next at this second since 1970, after the calls of a script and by the
+/// notes beside it: a line, in the form in which the program `keyset next` writes it.
+///
+/// # Errors
+///
+/// [`Error::NotSaid`] if one of the texts is refused; [`Error::OutOfMemory`].
+pub fn next(policy: &str, script: &str, notes: &str, seconds: u64) -> Result<String, Error> {
+    let mut out = room(ROOM)?;
+    loop {
+        // SAFETY: each pointer is that of a slice with its length, and only we use `out`.
+        let told = unsafe {
+            let (policy, script, notes) = (parts(policy), parts(script), parts(notes));
+            let (text, room) = (out.as_mut_ptr(), out.len());
+            c::keyset_next(
+                policy.0, policy.1, script.0, script.1, notes.0, notes.1, seconds, text, room,
+            )
+        };
+        match told.status {
+            c::ANSWERED => return text(out, told.length),
+            c::NOT_SAID => return Err(Error::NotSaid(text(out, told.length)?)),
+            c::SHORT => out = room(told.length)?,
+            _ => return Err(Error::OutOfMemory),
+        }
+    }
+}
+
+/// A text as C takes it.
+fn parts(text: &str) -> (*const u8, usize) {
+    (text.as_ptr(), text.len())
+}
+
 /// The version of the interface of the library that is linked.
 pub fn version() -> u32 {
     // SAFETY: it takes nothing.

@@ -1,8 +1,9 @@
 //! What a caller relies on, over the library that `make lib` has made.
 
 use keyset::{
-    version, Action, Algorithm, Due, Error, KeySet, NewKey, Next, Note, NoteRefusal, OpenOptions,
-    Phase, Refusal, Report, RoleKind, RollType, Session, SetKind, State, WaitEnd, WaitsFor,
+    next, version, Action, Algorithm, Due, Error, KeyKind, KeySet, NewKey, Next, Note, NoteRefusal,
+    OpenOptions, Phase, Refusal, Report, RoleKind, RollType, Session, SetKind, State, Todo,
+    WaitEnd, WaitsFor,
 };
 use std::error::Error as _;
 use std::fmt::Display;
@@ -315,5 +316,65 @@ fn values_have_names() {
         "everywhere soa 7",
     ] {
         assert!(line.parse::<Note>().is_err(), "{line}");
+    }
+}
+
+const POLICY: &str = "policy 13 ksk-roll zsk-roll\nzsk-lifetime 7776000\n";
+
+#[test]
+fn a_policy_says_what_to_do_next() -> Result<(), Error> {
+    let mut keys = KeySet::new("example.com")?;
+    assert!(matches!(keys.next(POLICY, 100), Err(Error::NoNotes)));
+    keys.note(Note::Before {
+        ds: 60,
+        dnskey: 60,
+        zone: 60,
+    })?;
+    let algorithm = Algorithm::ECDSAP256SHA256;
+    for (kind, line) in [(KeyKind::Ksk, FIRST[0]), (KeyKind::Zsk, FIRST[1])] {
+        assert_eq!(keys.next(POLICY, 100)?, Todo::Key { kind, algorithm });
+        keys.call(line)?;
+    }
+    let line = "start algorithm-roll - K1,Z1 100".to_owned();
+    assert_eq!(keys.next(POLICY, 100)?, Todo::Call(line.clone()));
+    keys.call(&line)?;
+    for kind in [SetKind::Dnskey, SetKind::Zone] {
+        assert_eq!(keys.next(POLICY, 101)?, Todo::Publish(kind));
+        let (call, ttl, moment) = (3, 60, 101);
+        keys.note(Note::Published {
+            kind,
+            call,
+            ttl,
+            moment,
+        })?;
+    }
+    assert_eq!(keys.next(POLICY, 102)?, Todo::Watch(SetKind::Dnskey));
+    for kind in [SetKind::Dnskey, SetKind::Zone] {
+        keys.note(Note::Everywhere { kind, moment: 103 })?;
+    }
+    keys.call("report1 algorithm-roll 61 103")?;
+    assert_eq!(keys.next(POLICY, 104)?, Todo::Until(164));
+    Ok(())
+}
+
+#[test]
+fn a_text_that_a_policy_says_nothing_by_is_named() {
+    let (script, notes) = ("zone example.com\n", "before 60 60 60\n");
+    let short = "policy 13 ksk-roll zsk-roll\nzsk-lifetime 60\n";
+    for (policy, script, notes, why) in [
+        ("", script, notes, "policy: line 1: malformed"),
+        (POLICY, "", notes, "script: line 1: malformed"),
+        (POLICY, script, "", "notes: line 1: malformed"),
+        (
+            short,
+            script,
+            notes,
+            "policy: a lifetime of 60 seconds is shorter than a zsk-roll takes: 122",
+        ),
+    ] {
+        match next(policy, script, notes, 100) {
+            Err(Error::NotSaid(told)) => assert_eq!(told, why),
+            other => panic!("{other:?}"),
+        }
     }
 }

@@ -1,0 +1,34 @@
+-- The state is what is known.
+use Rattle.std.proofs.Common.{◌∙◌, ap, refl, subst, sym}
+use Rattle.std.proofs.lemmas.Result.{IfOk-weaker}
+use Rattle.dnssec_run.specs.Record.{world_at}
+use Rattle.dnssec_network.specs.{Facts.AreTrue, Notes.NotesParts}
+use Rattle.dnssec_policy.specs.Code.{view_of}
+use Rattle.dnssec_policy.specs.declared.state.State.{State}
+use Rattle.dnssec_automatic.proofs.zone.AutomaticZone.next.Goals as goal
+
+pub returns : goal.returns
+returns c =
+    let state : State = record {
+      keyset = c.keyset.result;
+      steps = c.steps.result;
+      last_waits = c.args.self.now.calls.last_waits;
+      notes = c.notes.result;
+      moment = c.args.moment;
+    } in
+    IfOk-weaker c.next.result _ _ (λ next said name calls entries so.
+    let stands = so.stands in
+    record {
+      view = view_of state said.0;
+      sees = λ network time are. record {
+        set = c.keyset.ensures ∙ stands.records.agrees.same
+            ∙ ap (λ k. (world_at name calls entries k).set) (sym stands.records.run.count);
+        step = λ roll. c.steps.ensures name calls entries stands roll;
+        last = so.lasts;
+        end = said.1;
+        are_true = subst (λ (n : NotesParts). AreTrue n.before n.facts network time)
+            (sym c.notes.ensures) are;
+      };
+      now = refl;
+      said = sym said.2;
+    }) c.next.ensures

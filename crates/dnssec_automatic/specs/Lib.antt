@@ -1,0 +1,7 @@
+pub mod Calls
+pub mod Noted
+pub mod Zone
+pub mod Lines
+pub mod Answer
+pub mod Asking
+pub mod Texts

@@ -1,0 +1,20 @@
+//! A zone that rolls by itself: each of its calls adds a key, or is what a policy said.
+#![tactic(auto)]
+
+mod answer;
+mod calls;
+mod fault;
+mod line;
+mod noted;
+mod text;
+mod zone;
+
+pub use answer::answer_next;
+pub use dnssec_policy::{KeyRole, KskMethod, Next, Policy, Renewal, Scheme, ZskMethod};
+pub use dnssec_policy_text::{
+    HighestTtls, PolicyFault, TooShort, policy_text, read_policy, too_short,
+};
+pub use fault::NextFault;
+pub use line::next_line;
+pub use text::answer_text;
+pub use zone::{AutomaticZone, is_add};

@@ -1,0 +1,110 @@
+/* Tests keyset_next at the library's border: its answers and its refusals, each in a buffer of each
+   length (only every STEP lengths, if a checker of memory makes it slow), and after each request for
+   memory has failed in turn.
+
+       policies [STEP] */
+
+#define _GNU_SOURCE
+#include "border.h"
+
+#include <keyset.h>
+
+#define ROOM 256
+#define POLICY "policy 13 ksk-roll zsk-roll\n"
+#define ZONE "zone example.com\n"
+#define BEFORE "before 60 60 60\n"
+#define KEYS "add-ksk K1 - 13 1 0 yes\nadd-zsk Z1 - 13 2 0 yes\n"
+
+/* What is handed in, with the status and the text that answer it. */
+static const struct row {
+    const char *policy, *script, *notes;
+    uint64_t seconds;
+    uint32_t status;
+    const char *text;
+} ROWS[] = {
+    {POLICY, ZONE, BEFORE, 100, KEYSET_ANSWERED, "key ksk 13"},
+    {POLICY, ZONE KEYS, BEFORE, UINT64_MAX, KEYSET_ANSWERED,
+     "start algorithm-roll - K1,Z1 18446744073709551615"},
+    {POLICY, ZONE KEYS "start algorithm-roll - K1,Z1 100\n", BEFORE, 101, KEYSET_ANSWERED,
+     "publish dnskey"},
+    {"", ZONE, BEFORE, 100, KEYSET_NOT_SAID, "policy: line 1: malformed"},
+    {POLICY "zsk-once 1\nzsk-once 2\n", ZONE, BEFORE, 100, KEYSET_NOT_SAID,
+     "policy: line 3: said twice"},
+    {POLICY "zsk-lifetime 121\n", ZONE, BEFORE, 100, KEYSET_NOT_SAID,
+     "policy: a lifetime of 121 seconds is shorter than a zsk-roll takes: 122"},
+    {POLICY, "", BEFORE, 100, KEYSET_NOT_SAID, "script: line 1: malformed"},
+    {POLICY, ZONE, "", 100, KEYSET_NOT_SAID, "notes: line 1: malformed"},
+    {POLICY, ZONE, BEFORE "published ds 9 5 9\n", 100, KEYSET_NOT_SAID,
+     "notes: line 2: no such call yet"},
+};
+
+static const uint8_t *bytes(const char *text)
+{
+    return *text != '\0' ? (const uint8_t *)text : NULL;
+}
+
+static struct keyset_answered next(const struct row *row, uint8_t *out, size_t room)
+{
+    requests.is_called = true;
+    struct keyset_answered told = keyset_next(
+        bytes(row->policy), strlen(row->policy), bytes(row->script), strlen(row->script),
+        bytes(row->notes), strlen(row->notes), row->seconds, room > 0 ? out : NULL, room);
+    requests.is_called = false;
+    return told;
+}
+
+static bool is_answer(struct keyset_answered told, uint32_t status, size_t length)
+{
+    return told.status == status && told.length == length && told.line == 0;
+}
+
+static void expect_next(const struct row *row, size_t room)
+{
+    size_t needed = strlen(row->text);
+    uint8_t *out = filled(room);
+    struct keyset_answered told = next(row, out, room);
+    if (room < needed) {
+        expect(is_answer(told, KEYSET_SHORT, needed), "short", row->text);
+        expect(is_filled(out, room), "nothing is written if it is short", row->text);
+    } else {
+        expect(is_answer(told, row->status, needed), "the status", row->text);
+        expect(memcmp(out, row->text, needed) == 0, "the text", row->text);
+        expect(is_filled(out + needed, room - needed), "what comes after it", row->text);
+    }
+    free(out);
+}
+
+/* Each request fails in turn. Gives how many failed. */
+static size_t fail_next(const struct row *row)
+{
+    uint8_t *out = filled(ROOM);
+    for (requests.failing = 1;; requests.failing++) {
+        requests.made = 0;
+        struct keyset_answered told = next(row, out, ROOM);
+        expect(requests.held == 0, "all is freed", row->text);
+        if (requests.made < requests.failing) {
+            expect(told.status == row->status, "answered in the end", row->text);
+            break;
+        }
+        expect(is_answer(told, KEYSET_OUT_OF_MEMORY, 0), "out of memory", row->text);
+        expect(is_filled(out, ROOM), "nothing is written", row->text);
+    }
+    size_t failed = requests.failing - 1;
+    requests.failing = 0;
+    free(out);
+    return failed;
+}
+
+int main(int count, char **arguments)
+{
+    size_t step = count > 1 ? strtoul(arguments[1], NULL, 10) : 1, failed = 0;
+    size_t rows = sizeof ROWS / sizeof *ROWS;
+    for (size_t i = 0; i < rows; i++) {
+        for (size_t room = 0; room < ROOM; room += step)
+            expect_next(&ROWS[i], room);
+        failed += fail_next(&ROWS[i]);
+    }
+    printf("%zu rows of what a policy says, in buffers of each length; %zu requests for memory "
+           "failed\n", rows, failed);
+    return EXIT_SUCCESS;
+}
