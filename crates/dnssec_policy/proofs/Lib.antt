@@ -29,4 +29,5 @@ pub mod InTime
 pub mod Rests
 pub mod Growing
 pub mod InOrder
+pub mod Highest
 pub mod Loops

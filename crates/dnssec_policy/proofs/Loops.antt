@@ -19,7 +19,7 @@ use Rattle.dnssec_zone.specs.Keys.{Keys, some_key}
 use Rattle.dnssec_zone.proofs.Quantified.{list_any-map}
 use Rattle.dnssec_policy.specs.Code.{entry_of, passing}
 use Rattle.dnssec_policy.specs.Keys.{earlier, first_over, over_from, serves, with_key}
-use Rattle.dnssec_policy.specs.declared.policy.Renewal.{Renewal}
+use Rattle.dnssec_policy.specs.declared.policy.Term.{Term}
 use Rattle.dnssec_policy.specs.Next.{deletion, deletions, once_ended}
 use Rattle.dnssec_policy.specs.Todo.{Rest, Todo, sooner}
 use Rattle.dnssec_policy.specs.View.{View}
@@ -35,11 +35,11 @@ abbrev pub Lent : Type 0
 Lent = Bor (String Global) × Bor KeyParts
 
 -- the first moment so far, after one more key
-abbrev pub aged_key : KeyRole → Renewal → Option ℕ → KeyParts → Option ℕ
+abbrev pub aged_key : KeyRole → Term → Option ℕ → KeyParts → Option ℕ
 aged_key role renewal best k = if serves role k.keytype
     then earlier best (over_from renewal k.timestamps.published) else best
 
-abbrev pub aged_entry : KeyRole → Renewal → Option ℕ → Lent → Option ℕ
+abbrev pub aged_entry : KeyRole → Term → Option ℕ → Lent → Option ℕ
 aged_entry role renewal best e = aged_key role renewal best e.1.now
 
 -- the references of lent keys that pass
@@ -138,7 +138,7 @@ module _ (policy : Policy) (all : Keys) (roles : List KeyRole) (i : ℕ) (d : Ke
       ∙ onto-one qs q rest ∙ sym (ap (λ r. onto qs (with_key r rest)) one) ∙ sym opened
 
 -- the first moment of the keys of a set, of them as they are lent
-pub over-lent : (role : KeyRole) (renewal : Renewal) (all : Keys) (es : List Lent)
+pub over-lent : (role : KeyRole) (renewal : Term) (all : Keys) (es : List Lent)
     → entries all ≡ map {A = Lent} entry_of es
     → first_over role renewal (values all)
     ≡ first_over role renewal (map (λ (e : Lent). e.1.now) es)

@@ -34,7 +34,7 @@ use Rattle.dnssec_policy.specs.declared.policy.KeyRole.{KeyRole}
 use Rattle.dnssec_policy.specs.declared.policy.KskMethod.{KskMethod}
 use Rattle.dnssec_policy.specs.declared.policy.KskMethod.TheVariants as ksks
 use Rattle.dnssec_policy.specs.declared.policy.Policy.{Policy}
-use Rattle.dnssec_policy.specs.declared.policy.Renewal.{Renewal}
+use Rattle.dnssec_policy.specs.declared.policy.Term.{Term}
 use Rattle.dnssec_policy.specs.declared.policy.Scheme.{Scheme}
 use Rattle.dnssec_policy.specs.declared.policy.Scheme.TheVariants.{Split, SingleType}
 use Rattle.dnssec_policy.specs.declared.policy.ZskMethod.{ZskMethod}
@@ -280,7 +280,7 @@ module _ (policy : Policy) (v : View) where
       start c AlgorithmRoll news (and_parts (may_begin v AlgorithmRoll) _ x.0).0
       (λ qs is. inl (record { roll_is = refl; news_are = is })) x.1
 
-  module _ (role : KeyRole) (renewal : Renewal) where
+  module _ (role : KeyRole) (renewal : Term) where
     step-aged : (k : KeyParts) (best : Option ℕ)
         → ((m : ℕ) × ((if serves role k.keytype
         then earlier best (over_from renewal k.timestamps.published) else best) ≡ Some m))

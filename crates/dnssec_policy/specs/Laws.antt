@@ -40,6 +40,7 @@ use Rattle.dnssec_policy.specs.Keys.{first_over, is_rolled, is_unwanted, new_key
 use Rattle.dnssec_policy.specs.Keys.{role_of, roles_of, rolls_of, wants_others}
 use Rattle.dnssec_policy.specs.Next.{may_begin, next_of}
 use Rattle.dnssec_policy.specs.Todo.{Todo, Make, NotBefore, Rest, rank}
+use Rattle.dnssec_policy.specs.Ttls.{AreHighest}
 use Rattle.dnssec_policy.specs.View.{View}
 
 -- ---- what automatic calls are
@@ -215,6 +216,7 @@ pub record Knows (name : List ℕ) (calls : List Call) (entries : List Entry) (n
   pub set : s.keyset.now ≡ (world_at name calls entries (length entries)).set
   pub steps : AreStepsOf entries s.steps
   pub lasts : AreLastsOf calls entries s.last_waits
+  pub highest : AreHighest s.notes.now.before s.notes.now.facts s.highest
   pub are_true : AreTrue s.notes.now.before s.notes.now.facts network time
 
 -- then a call that `next` answers is said

@@ -1,7 +1,10 @@
 pub mod Todo
+pub mod Ttls
 pub mod View
 pub mod InProgress
 pub mod Keys
+pub mod Stuck
+pub mod Texts
 pub mod Next
 pub mod Automatic
 pub mod Code

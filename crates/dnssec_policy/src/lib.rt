@@ -13,6 +13,9 @@ mod policy;
 mod starts;
 mod state;
 mod todo;
+mod ttls;
+mod unmet;
+mod why;
 
 pub use choose::next;
 pub use last_waits::LastWaits;
@@ -22,6 +25,9 @@ pub use laws::{
     automatic_runs_reach_resolvers, next_goes_on, next_is_accepted, rest_is_as_wanted,
     starts_are_in_time,
 };
-pub use policy::{KeyRole, KskMethod, Policy, Renewal, Scheme, ZskMethod};
+pub use policy::{KeyRole, KskMethod, Policy, Scheme, Term, ZskMethod};
 pub use state::State;
-pub use todo::Next;
+pub use todo::{Cds, Next};
+pub use ttls::HighestTtls;
+pub use unmet::stuck;
+pub use why::Why;
