@@ -7,5 +7,6 @@ pub mod Stuck
 pub mod Texts
 pub mod Next
 pub mod Automatic
+pub mod Kept
 pub mod Code
 pub mod Laws

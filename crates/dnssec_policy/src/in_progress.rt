@@ -8,7 +8,8 @@ ghost use Rattle.dnssec_zone.specs.Rolls.{phase_of};
 ghost use Rattle.dnssec_policy.specs.Code.{end_of, last_of, todo_of, view_of};
 ghost use Rattle.dnssec_policy.specs.InProgress.{awaited, end_next, ends_with, is_wait_for};
 ghost use Rattle.dnssec_policy.specs.InProgress.{later, once_settled, once_there, report_next};
-ghost use Rattle.dnssec_policy.specs.InProgress.{report_with, wait_next};
+ghost use Rattle.dnssec_policy.specs.InProgress.{report_or, report_with, wait_next};
+ghost use Rattle.dnssec_run.specs.WholeRolls.{is_second};
 ghost use Rattle.dnssec_policy.specs.Next.{phase_next, rolls_next};
 
 use crate::state::{Ends, State};
@@ -16,7 +17,7 @@ use crate::todo::Next;
 use crate::why::Why;
 use dnssec_key::Half;
 use dnssec_keyset::{Action, RollState, RollType, UnixTime, WaitEnd};
-use dnssec_network::Reach;
+use dnssec_network::{Origins, Reach};
 use dnssec_run::SetKind;
 use dnssec_zone::all_rolls;
 use std::time::Duration;
@@ -68,32 +69,57 @@ fn report_with<'a>(state: &State<'a>, roll: RollType, half: Half, ttl: u64) -> N
     }
 }
 
-/// A report that lasts longer than the TTL that is due, or what it still waits for.
+/// Whether it is the second half of a roll.
+fn is_second(half: Half) -> bool
+    ensures { result ≡ is_second (which half) }
+{
+    match half {
+        Half::First => false,
+        Half::Second => true,
+    }
+}
+
+/// A report that lasts longer than the TTL that is due, or what it waits for of the sets that came
+/// at these positions.
+fn report_or<'a>(
+    state: &State<'a>,
+    roll: RollType,
+    half: Half,
+    origins: Origins,
+    due: Result<u32, SetKind>,
+) -> Next<'a>
+    ensures { (end : AnyRoll → Option AnyEnd) → todo_of state.now.moment result
+        ≡ report_or (view_of state.now end) roll (which half) origins due }
+{
+    match due {
+        Ok(due) => {
+            let second = is_second(half);
+            let ttl = state.highest.lasting(roll, second, u64::from(due));
+            report_with(state, roll, half, ttl)
+        }
+        Err(kind) => {
+            let reach = state.notes.reach(kind, origins.of(kind), state.moment);
+            awaited(reach, kind, state.moment)
+        }
+    }
+}
+
+/// A report, or what it still waits for, by the last step of its roll.
 fn report_next<'a>(state: &State<'a>, roll: RollType, half: Half) -> Next<'a>
     ensures { (end : AnyRoll → Option AnyEnd) → todo_of state.now.moment result
         ≡ report_next (view_of state.now end) roll (which half) (step_of state.now.steps roll) }
 {
-    let second = match half {
-        Half::First => false,
-        Half::Second => true,
-    };
     match state.steps.of(roll) {
         None => Next::Stuck {
             why: Why::NoStep { roll },
         },
-        Some(step) => match state
-            .notes
-            .ttl_due(roll, second, step.origins, state.moment)
-        {
-            Ok(due) => {
-                let ttl = state.highest.lasting(roll, second, u64::from(due));
-                report_with(state, roll, half, ttl)
-            }
-            Err(kind) => {
-                let reach = state.notes.reach(kind, step.origins.of(kind), state.moment);
-                awaited(reach, kind, state.moment)
-            }
-        },
+        Some(step) => {
+            let second = is_second(half);
+            let due = state
+                .notes
+                .ttl_due(roll, second, step.origins, state.moment);
+            report_or(state, roll, half, step.origins, due)
+        }
     }
 }
 

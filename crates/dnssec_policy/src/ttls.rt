@@ -100,7 +100,8 @@ impl HighestTtls {
         ensures { result ≡ lasting (ttl_in self.now) roll second due }
     {
         if retires(roll, second, SetKind::Ds) {
-            (due + self.keeps()).max(u64::from(self.zone) + 1)
+            let cds = u64::from(self.of(SetKind::ZoneSigners)) + 1;
+            (due + self.keeps()).max(cds)
         } else {
             due
         }
@@ -119,7 +120,8 @@ impl HighestTtls {
 
     /// The highest TTL that may be due, and a second.
     fn at_most_due(&self, roll: RollType, second: bool) -> u64
-        ensures { result ≡ at_most_due (ttl_in self.now) roll second }
+        ensures due { result ≡ at_most_due (ttl_in self.now) roll second }
+        ensures at_most { result ≤ 4_294_967_296 }
     {
         let ds = self.if_retired(roll, second, SetKind::Ds);
         let dnskey = self.if_retired(roll, second, SetKind::Dnskey);
