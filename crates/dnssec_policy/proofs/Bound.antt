@@ -20,11 +20,11 @@ use Rattle.dnssec_network.specs.declared.{fact.Before.Before, fact.Fact.Fact, fa
 use Rattle.dnssec_network.specs.declared.fact.News.TheVariants.{Published, Everywhere}
 use Rattle.dnssec_network.specs.declared.reach.Reach.{Reach}
 use Rattle.dnssec_network.specs.declared.reach.Reach.TheVariants as reach
-use Rattle.dnssec_network.specs.declared.spread.Spread.{Spread}
 use Rattle.dnssec_network.specs.Facts.{moment_of, news_of, ttl_before}
 use Rattle.dnssec_network.specs.Reach.{reach_of}
 use Rattle.dnssec_network.specs.Reports.{due, due_of, due_or, higher}
-use Rattle.dnssec_network.specs.Spread.{after, due_for, end_of, first_spread, is_none_older, known}
+use Rattle.dnssec_network.specs.Spread.{after, due_for, end_of, expired_after, first_spread}
+use Rattle.dnssec_network.specs.Spread.{is_none_older, known}
 use Rattle.dnssec_network.specs.Spread.{seconds_left, seconds_until}
 use Rattle.dnssec_policy.specs.InProgress.{end_next, once_settled, once_there, later, report_next}
 use Rattle.dnssec_policy.specs.InProgress.{ends_with, once, report_or, report_with}
@@ -35,7 +35,7 @@ use Rattle.dnssec_policy.specs.Todo.{Make, Todo, rank}
 use Rattle.dnssec_policy.specs.Ttls.{at_most_due, higher_with, highest_of, if_retired, keeps, lasting}
 use Rattle.dnssec_policy.specs.Ttls.{report_takes}
 use Rattle.dnssec_policy.specs.View.{View, reach_in}
-use Rattle.dnssec_policy.proofs.{InTime.by-rank, Said.may}
+use Rattle.dnssec_policy.proofs.{InTime.by-rank, Said.may, Spreads.Spread}
 use Rattle.dnssec_policy.proofs.Order.{rank-le, roll-said}
 
 -- ---- by the notes of a kind
@@ -54,7 +54,7 @@ module _ (now : ℕ) where
 
   seen-within : (h moment expired : ℕ) (o : Option ℕ) → moment ≤ now → unwrap_or o 0 ≤ h
       → expired ≤ end_of now h
-      → Rattle.dnssec_network.specs.Spread.expired_after moment o expired ≤ end_of now h
+      → expired_after moment o expired ≤ end_of now h
   seen-within h moment expired None le less was = was
   seen-within h moment expired (Some ttl) le less was = omega (arith, le, less, was)
 

@@ -11,29 +11,29 @@ use Rattle.dnssec_run.specs.declared.caches.SetKind.TheVariants as code
 use Rattle.dnssec_run.specs.Safe.{SetKind, Ds, Dnskey, ZoneSigners, kind_of, retires}
 use Rattle.dnssec_network.specs.declared.fact.{Before.Before, Fact.Fact, News.News}
 use Rattle.dnssec_network.specs.declared.fact.News.TheVariants.{Published, Everywhere}
-use Rattle.dnssec_network.specs.declared.spread.Spread.{Spread}
 use Rattle.dnssec_network.specs.Facts.{AreTrue, AreTrueFrom, news_of, ttl_before}
 use Rattle.dnssec_network.specs.Network.{Network}
 use Rattle.dnssec_network.specs.Reports.{due, due_of, due_or, higher}
 use Rattle.dnssec_network.specs.Spread.{after, due_for, end_of, expired_after, first_spread}
 use Rattle.dnssec_network.specs.Spread.{is_none_older, known, seconds_left, seconds_until}
 use Rattle.dnssec_policy.specs.Kept.{keeping}
+use Rattle.dnssec_policy.proofs.Spreads.{Spread}
 
 -- ---- the same notes, with a higher TTL for each DS set
 
-raise : ℕ → News → News
+abbrev raise : ℕ → News → News
 raise s (Published position ttl moment) = Published position (ttl + s) moment
 raise s (Everywhere moment) = Everywhere moment
 
-raise_of : ℕ → Kind → News → News
+abbrev raise_of : ℕ → Kind → News → News
 raise_of s code.Ds news = raise s news
 raise_of s code.Dnskey news = news
 raise_of s code.ZoneSigners news = news
 
-pub kept_fact : ℕ → Fact → Fact
+abbrev pub kept_fact : ℕ → Fact → Fact
 kept_fact s fact = record { kind = fact.kind; news = raise_of s fact.kind fact.news }
 
-pub kept_before : ℕ → Before → Before
+abbrev pub kept_before : ℕ → Before → Before
 kept_before s b = record { ds = b.ds + s; dnskey = b.dnskey; zone = b.zone }
 
 module _ (s : ℕ) where
@@ -122,11 +122,11 @@ module _ (s : ℕ) where
 
   -- ---- what is due by them
 
-  raised : Option ℕ → Option ℕ
+  abbrev raised : Option ℕ → Option ℕ
   raised None = None
   raised (Some ttl) = Some (ttl + s)
 
-  higher-spread : ℕ → Spread → Spread
+  abbrev higher-spread : ℕ → Spread → Spread
   higher-spread expired a = record {
     position = a.position;
     ttl = a.ttl + s;

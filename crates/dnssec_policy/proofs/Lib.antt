@@ -14,7 +14,7 @@
 -- | `next_goes_on`                    | `prompt`, `ahead`                     | Prompt    |
 -- | `rolls_are_in_time`               | `no-longer`, `in-time`                | Bound     |
 -- | `starts_are_in_time`              | `renewals-in-time`, `changes-in-time` | InTime    |
--- | `nothing_is_silent`               | `outspoken`                           | Unmet     |
+-- | `nothing_is_silent`               | `outspoken`                           | Silence   |
 -- | `rest_is_as_wanted`               | `as-wanted`                           | Rests     |
 -- | `automatic_runs_grow`             | `grows`                               | Growing   |
 pub mod May
@@ -33,7 +33,8 @@ pub mod Rests
 pub mod Growing
 pub mod InOrder
 pub mod Highest
-pub mod Unmet
+pub mod Silence
+pub mod Spreads
 pub mod Kept
 pub mod Keepers
 pub mod Bound

@@ -1,14 +1,11 @@
 //! Keys that have left are deleted.
 ghost use Rattle.std.specs.Prelude.{◌≡◌, ℕ, Option, Some, string_bytes};
 ghost use Rattle.std.specs.List.{list_any};
-ghost use Rattle.std.specs.Option.{option_map_or};
-ghost use Rattle.std.specs.Prelude.{false};
-ghost use Rattle.dnssec_key.specs.State.{is_leaving};
 ghost use Rattle.dnssec_key.specs.declared.roll.RollType.{RollType as AnyRoll};
 ghost use Rattle.dnssec_keyset.specs.declared.wait.WaitEnd.{WaitEnd as AnyEnd};
 ghost use Rattle.dnssec_policy.specs.Code.{AreKeysOf, last_of, todo_of, view_of};
 ghost use Rattle.dnssec_keyset.specs.Step.{DeleteKey};
-ghost use Rattle.dnssec_policy.specs.Keys.{has_left, is_left_over, is_rolled, leaves_from};
+ghost use Rattle.dnssec_policy.specs.Keys.{has_left, is_rolled, leaves_from};
 ghost use Rattle.dnssec_policy.specs.Next.{at_moment, deletion, deletions, once_all_ended};
 ghost use Rattle.dnssec_policy.specs.Next.{once_ended};
 ghost use Rattle.dnssec_policy.specs.Todo.{Make};
@@ -19,11 +16,11 @@ use crate::policy::Policy;
 use crate::state::State;
 use crate::todo::Next;
 use dnssec_key::side_of;
-use dnssec_keyset::{Key, KeyState, KeyType, RollType, UnixTime};
+use dnssec_keyset::{Key, KeyType, RollType, UnixTime};
 use dnssec_zone::all_rolls;
 
 /// Whether a roll is in progress that may change such a key.
-fn is_rolled(state: &State<'_>, kind: KeyType) -> bool
+pub(crate) fn is_rolled(state: &State<'_>, kind: KeyType) -> bool
     ensures { result ≡ is_rolled state.now.keyset.now.rolls kind }
 {
     all_rolls().iter().any(|roll| is_in_progress(state, *roll) && is_of_side(side_of(*roll), kind))
@@ -34,21 +31,6 @@ fn has_left(state: &State<'_>, key: &Key) -> bool
     ensures { result ≡ has_left state.now.keyset.now.rolls key.now }
 {
     key.is_stale() && !is_rolled(state, key.keytype())
-}
-
-/// A role that is on its way out, and in use.
-fn is_leaving(role: Option<KeyState>) -> bool
-    ensures { result ≡ option_map_or is_leaving role false }
-{
-    role.is_some_and(|s| s.old() && (s.signer() || s.present() || s.at_parent()))
-}
-
-/// Whether a key is on its way out and in use, and no roll of its side is in progress.
-pub(crate) fn is_left_over(state: &State<'_>, key: &Key) -> bool
-    ensures { result ≡ is_left_over state.now.keyset.now.rolls key.now }
-{
-    let kind = key.keytype();
-    (is_leaving(kind.ksk_role()) || is_leaving(kind.zsk_role())) && !is_rolled(state, kind)
 }
 
 /// The moment from which a key may be deleted that was withdrawn then.

@@ -1,5 +1,7 @@
 //! What a policy wants and doesn't get, and why.
-ghost use Rattle.std.specs.Prelude.{◌≡◌, ℕ, IfOk, Option};
+ghost use Rattle.std.specs.Prelude.{◌≡◌, ℕ, IfOk, Option, false};
+ghost use Rattle.std.specs.Option.{option_map_or};
+ghost use Rattle.dnssec_key.specs.State.{is_leaving};
 ghost use Rattle.std.specs.List.{list_any};
 ghost use Rattle.dnssec_key.specs.declared.roll.RollType.{RollType as AnyRoll};
 ghost use Rattle.dnssec_keyset.specs.WaitEnd.{TellsEnd};
@@ -10,7 +12,7 @@ ghost use Rattle.dnssec_policy.specs.Keys.{is_left_over};
 ghost use Rattle.dnssec_policy.specs.Stuck.{barred_if, is_over, keys_why, phase_why, renewal_why};
 ghost use Rattle.dnssec_policy.specs.Stuck.{renewals_why, rolls_why, starts_why, stuck_of, why_of};
 
-use crate::deletions::is_left_over;
+use crate::deletions::is_rolled;
 use crate::in_progress::{nanos, phase_next};
 use crate::keys::in_order;
 use crate::policy::{Policy, Scheme};
@@ -18,7 +20,7 @@ use crate::starts::{first_due, may_begin, wants_others};
 use crate::state::{Ends, State};
 use crate::todo::Next;
 use crate::why::Why;
-use dnssec_keyset::{Key, RollState, RollType};
+use dnssec_keyset::{Key, KeyState, RollState, RollType};
 use dnssec_zone::all_rolls;
 use std::alloc::{AllocError, Global};
 
@@ -123,6 +125,21 @@ fn starts_why(policy: &Policy, state: &State<'_>, keys: &[(&String, &Key)]) -> O
 }
 
 // ---- keys
+
+/// A role that is on its way out, and in use.
+fn is_leaving(role: Option<KeyState>) -> bool
+    ensures { result ≡ option_map_or is_leaving role false }
+{
+    role.is_some_and(|s| s.old() && (s.signer() || s.present() || s.at_parent()))
+}
+
+/// Whether a key is on its way out and in use, and no roll of its side is in progress.
+fn is_left_over(state: &State<'_>, key: &Key) -> bool
+    ensures { result ≡ is_left_over state.now.keyset.now.rolls key.now }
+{
+    let kind = key.keytype();
+    (is_leaving(kind.ksk_role()) || is_leaving(kind.zsk_role())) && !is_rolled(state, kind)
+}
 
 /// Whether a key is on its way out and in use, and no roll takes it out.
 fn some_left_over(state: &State<'_>, keys: &[(&String, &Key)]) -> bool

@@ -13,6 +13,3 @@ returns c end =
     c.loop-roll.invariant
     ∙ ap so_far (take_all c.loop-roll.roll-index items.result.now c.loop-roll-test.false)
     ∙ ap so_far items.ensures
-
-pub loop-roll-preserved : goal.loop-roll-preserved
-loop-roll-preserved c = ?

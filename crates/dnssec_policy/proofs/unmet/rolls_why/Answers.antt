@@ -2,7 +2,7 @@
 use Rattle.std.proofs.Common.{◌∙◌, ap}
 use Rattle.std.proofs.lemmas.List.{take_all}
 use Rattle.dnssec_policy.specs.Code.{end_of, view_of}
-use Rattle.dnssec_policy.proofs.Unmet.{first_why}
+use Rattle.dnssec_policy.proofs.Silence.{first_why}
 use Rattle.dnssec_policy.proofs.unmet.rolls_why.Goals as goal
 
 pub returns : goal.returns
