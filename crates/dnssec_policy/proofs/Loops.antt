@@ -156,13 +156,13 @@ no_end roll = None
 abbrev pub ended_so_far : View → Todo → List RollType → Todo
 ended_so_far v todo rs = fold (λ todo roll. once_ended v roll (v.last roll) todo) todo rs
 
-pub ended-more : (v : View) (todo : Todo) (rs : List RollType) (i : ℕ) (r : RollType)
-    → i < length rs → r ≡ get_or rs i r → ended_so_far v todo (take (i + 1) rs)
-    ≡ once_ended v r (v.last r) (ended_so_far v todo (take i rs))
-ended-more v todo rs i r lt is =
-    ap (ended_so_far v todo)
-    (take_more rs i r lt ∙ ap (λ (r : RollType). take i rs ++ r ∷ []) (sym is))
-    ∙ fold-append (λ todo roll. once_ended v roll (v.last roll) todo) todo (take i rs) (r ∷ [])
+pub ended-more : (v : View) (todo : Todo) (rs : List RollType) (i : ℕ) (d : RollType)
+    → i < length rs → ended_so_far v todo (take (i + 1) rs)
+    ≡ once_ended v (get_or rs i d) (v.last (get_or rs i d)) (ended_so_far v todo (take i rs))
+ended-more v todo rs i d lt =
+    ap (ended_so_far v todo) (take_more rs i d lt)
+    ∙ fold-append (λ todo roll. once_ended v roll (v.last roll) todo) todo (take i rs)
+    (get_or rs i d ∷ [])
 
 abbrev entry_next : Policy → View → Todo → List ℕ × KeyParts → Todo
 entry_next policy v best e = sooner best (deletion policy v e.0 e.1)
