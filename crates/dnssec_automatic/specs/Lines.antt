@@ -9,6 +9,8 @@ use Rattle.dnssec_notes.specs.Due.{first_second}
 use Rattle.dnssec_notes.specs.Lines.{kind_name}
 use Rattle.dnssec_policy.specs.declared.policy.KeyRole.{KeyRole}
 use Rattle.dnssec_policy.specs.declared.policy.KeyRole.TheVariants.{Ksk, Zsk, Csk}
+use Rattle.dnssec_policy.specs.declared.why.Why.{Why}
+use Rattle.dnssec_policy.specs.Texts.{why_text}
 use Rattle.dnssec_policy.specs.Todo.{Make, NeedKey, NotBefore, Publish, Rest, Stuck, Todo, Watch}
 
 abbrev pub role_name : KeyRole → List ℕ
@@ -46,9 +48,9 @@ call_line (keyset.StartRoll roll old new t) seconds =
 call_line (keyset.DeleteKey q) seconds = codes "delete " ++ q
 call_line _ seconds = []
 
--- why nothing is done: a wait of a roll is never over, or the zone is as the policy wants it
-abbrev pub stuck_text : RollType → List ℕ
-stuck_text roll = codes "nothing: a wait of " ++ roll_name roll ++ codes " ends after all time"
+-- why nothing is done: something is in the way, or the zone is as the policy wants it
+abbrev pub stuck_text : Why → List ℕ
+stuck_text why = codes "nothing: " ++ why_text why
 
 abbrev pub wanted_text : List ℕ
 wanted_text = codes "nothing: the zone is as the policy wants it"
@@ -62,5 +64,5 @@ todo_line algorithm (NeedKey role) seconds =
 todo_line algorithm (Watch kind) seconds = codes "watch " ++ kind_name kind
 -- the first second that isn't before the moment
 todo_line algorithm (NotBefore moment) seconds = codes "until " ++ decimal (first_second moment)
-todo_line algorithm (Stuck roll) seconds = stuck_text roll
+todo_line algorithm (Stuck why) seconds = stuck_text why
 todo_line algorithm Rest seconds = wanted_text

@@ -84,7 +84,7 @@ fn said(
 ) -> Result<String, AllocError>
     ensures { IfOk result (λ text.
         (name : List ℕ) (calls : List AnyCall) (entries : List Entry) →
-        IsAfter name calls entries zone.now.calls →
+        IsAfter name calls entries zone.now.calls → HasHighest zone.now.noted →
         SaysLine name calls entries policy.now seconds zone.now (string_bytes text)) }
 {
     let next = zone.next(alloc, policy, moment_of(seconds))?;

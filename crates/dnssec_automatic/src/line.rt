@@ -13,7 +13,7 @@ ghost use Rattle.dnssec_automatic.specs.Lines.{stuck_text, todo_line, wait_name,
 use dnssec_key::{Half, roll_name};
 use dnssec_keyset::{RollType, SecurityAlgorithm};
 use dnssec_network::SetKind;
-use dnssec_policy::{KeyRole, Next};
+use dnssec_policy::{KeyRole, Next, Why};
 use std::alloc::{AllocError, Global};
 
 /// What to do next as a line without its line feed, which owns what it names:
@@ -21,7 +21,7 @@ use std::alloc::{AllocError, Global};
 /// - the line of a script whose call is to be made, as `report1 ksk-roll 3600 1700000000`;
 /// - `publish KIND`, `watch KIND`, with `ds`, `dnskey` or `zone`; `key ROLE ALGORITHM`, as `key zsk
 ///   13`; `until SECOND`;
-/// - `nothing: ` and why: the zone is as the policy wants it, or a wait ends after all time.
+/// - `nothing: ` and why: the zone is as the policy wants it, or what is in the way of that.
 ///
 /// `seconds` is the second since 1970 at which it was said, and `algorithm` that of the policy.
 ///
@@ -94,18 +94,17 @@ fn push_next(
             text.push_str("until ")?;
             push_number(text, first_second(*moment))
         }
-        Next::Stuck { roll } => push_stuck(text, *roll),
+        Next::Stuck { why } => push_stuck(text, *why),
         Next::Rest => push_as_wanted(text),
     }
 }
 
-/// Writes that a wait of a roll ends after all time.
-fn push_stuck(text: &mut String, roll: RollType) -> Result<(), AllocError>
-    ensures { OnOk result (string_bytes text.new ≡ string_bytes text.old ++ stuck_text roll) }
+/// Writes what is in the way of what the policy wants.
+fn push_stuck(text: &mut String, why: Why) -> Result<(), AllocError>
+    ensures { OnOk result (string_bytes text.new ≡ string_bytes text.old ++ stuck_text why) }
 {
-    text.push_str("nothing: a wait of ")?;
-    text.push_str(roll_name(roll))?;
-    text.push_str(" ends after all time")
+    text.push_str("nothing: ")?;
+    write!(text, "{why}")
 }
 
 /// Writes that the zone is as the policy wants it.

@@ -11,7 +11,7 @@ ghost use Rattle.dnssec_automatic.specs.Noted.{HasHighest, TakesFact};
 
 use dnssec_network::{Before, Moments, News, NoteFault, Notes, SetKind};
 use dnssec_notes::{NotesFault, read_before, read_fact, read_notes};
-use dnssec_policy_text::HighestTtls;
+use dnssec_policy::HighestTtls;
 use dnssec_record::all_lines;
 use std::alloc::Global;
 

@@ -96,7 +96,7 @@ impl AutomaticZone {
         Ok(AutomaticZone { calls, noted })
     }
 
-    /// What the policy says to do next. It is `Stuck` only if a roll's wait is over after all time.
+    /// What the policy says to do next.
     ///
     /// # Errors
     ///
@@ -109,7 +109,7 @@ impl AutomaticZone {
     ) -> Result<Next<'a>, AllocError>
         ensures { IfOk result (λ next.
             (name : List ℕ) (calls : List AnyCall) (entries : List Entry) →
-            IsAfter name calls entries self.now.calls →
+            IsAfter name calls entries self.now.calls → HasHighest self.now.noted →
             Says name calls entries policy.now moment self.now (todo_of moment next)) }
     {
         let state = State {
@@ -117,6 +117,7 @@ impl AutomaticZone {
             steps: self.calls.session.steps(),
             last_waits: self.calls.last_waits,
             notes: self.noted.notes(),
+            highest: *self.noted.highest(),
             moment,
         };
         next(alloc, policy, &state)
@@ -156,7 +157,7 @@ impl AutomaticZone {
     ) -> Result<Option<Made>, AllocError>
         ensures { IfOk result (λ made.
             (name : List ℕ) (calls : List AnyCall) (entries : List Entry) →
-            IsAfter name calls entries self.now.calls →
+            IsAfter name calls entries self.now.calls → HasHighest self.now.noted →
             Makes name calls entries policy.now moment self.now made) }
     {
         let todo = self.next(alloc, policy, moment)?;

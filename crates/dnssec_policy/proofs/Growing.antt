@@ -76,6 +76,7 @@ module _ (cs ds : List Call) (es fs : List Entry) where
       step = λ roll. s.at.step roll ∙ sym (step-front es fs roll n le);
       last = λ roll. s.at.last roll ∙ sym (last-front roll n lc le);
       end = s.at.end;
+      highest = s.at.highest;
       are_true = s.at.are_true;
     };
     clock = s.clock;

@@ -13,7 +13,7 @@ use Rattle.dnssec_policy.specs.Todo.{NotBefore, Rest, Todo, rank}
 use Rattle.dnssec_policy.proofs.Order.{change-said, rank-le, renewal-said}
 
 -- nothing is more urgent than a call
-by-rank : (t x : Todo) → rank t ≤ rank x → rank x ≡ 0 → rank t ≡ 0
+pub by-rank : (t x : Todo) → rank t ≤ rank x → rank x ≡ 0 → rank t ≡ 0
 by-rank t x le zero = omega (arith, le, zero)
 
 pub renewals-in-time : RenewalsStartInTime

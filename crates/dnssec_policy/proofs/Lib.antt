@@ -7,11 +7,14 @@
 -- | the same, clause `whole`          | `automatic-whole`                     | Whole     |
 -- | `automatic_reports_are_by_notes`  | `by-notes`, `none-ahead`              | Notes     |
 -- | `automatic_runs_reach_resolvers`  | those, and the network's              | Notes     |
+-- | `automatic_runs_serve_keepers`    | `serves-keepers`, `kept-sign`         | Keepers   |
 -- | `next_is_accepted`                | `clear`                               | Clear     |
 -- | `automatic_ends_follow`           | `follows`                             | Ends      |
 -- | `automatic_deletions_follow`      | `leaves`                              | Ends      |
 -- | `next_goes_on`                    | `prompt`, `ahead`                     | Prompt    |
+-- | `rolls_are_in_time`               | `no-longer`, `in-time`                | Bound     |
 -- | `starts_are_in_time`              | `renewals-in-time`, `changes-in-time` | InTime    |
+-- | `nothing_is_silent`               | `outspoken`                           | Silence   |
 -- | `rest_is_as_wanted`               | `as-wanted`                           | Rests     |
 -- | `automatic_runs_grow`             | `grows`                               | Growing   |
 pub mod May
@@ -29,4 +32,10 @@ pub mod InTime
 pub mod Rests
 pub mod Growing
 pub mod InOrder
+pub mod Highest
+pub mod Silence
+pub mod Spreads
+pub mod Kept
+pub mod Keepers
+pub mod Bound
 pub mod Loops

@@ -19,7 +19,7 @@ use Rattle.dnssec_zone.specs.Keys.{Keys, some_key}
 use Rattle.dnssec_zone.proofs.Quantified.{list_any-map}
 use Rattle.dnssec_policy.specs.Code.{entry_of, passing}
 use Rattle.dnssec_policy.specs.Keys.{earlier, first_over, over_from, serves, with_key}
-use Rattle.dnssec_policy.specs.declared.policy.Renewal.{Renewal}
+use Rattle.dnssec_policy.specs.declared.policy.Term.{Term}
 use Rattle.dnssec_policy.specs.Next.{deletion, deletions, once_ended}
 use Rattle.dnssec_policy.specs.Todo.{Rest, Todo, sooner}
 use Rattle.dnssec_policy.specs.View.{View}
@@ -35,11 +35,11 @@ abbrev pub Lent : Type 0
 Lent = Bor (String Global) × Bor KeyParts
 
 -- the first moment so far, after one more key
-abbrev pub aged_key : KeyRole → Renewal → Option ℕ → KeyParts → Option ℕ
+abbrev pub aged_key : KeyRole → Term → Option ℕ → KeyParts → Option ℕ
 aged_key role renewal best k = if serves role k.keytype
     then earlier best (over_from renewal k.timestamps.published) else best
 
-abbrev pub aged_entry : KeyRole → Renewal → Option ℕ → Lent → Option ℕ
+abbrev pub aged_entry : KeyRole → Term → Option ℕ → Lent → Option ℕ
 aged_entry role renewal best e = aged_key role renewal best e.1.now
 
 -- the references of lent keys that pass
@@ -138,7 +138,7 @@ module _ (policy : Policy) (all : Keys) (roles : List KeyRole) (i : ℕ) (d : Ke
       ∙ onto-one qs q rest ∙ sym (ap (λ r. onto qs (with_key r rest)) one) ∙ sym opened
 
 -- the first moment of the keys of a set, of them as they are lent
-pub over-lent : (role : KeyRole) (renewal : Renewal) (all : Keys) (es : List Lent)
+pub over-lent : (role : KeyRole) (renewal : Term) (all : Keys) (es : List Lent)
     → entries all ≡ map {A = Lent} entry_of es
     → first_over role renewal (values all)
     ≡ first_over role renewal (map (λ (e : Lent). e.1.now) es)
@@ -155,6 +155,14 @@ no_end roll = None
 
 abbrev pub ended_so_far : View → Todo → List RollType → Todo
 ended_so_far v todo rs = fold (λ todo roll. once_ended v roll (v.last roll) todo) todo rs
+
+pub ended-more : (v : View) (todo : Todo) (rs : List RollType) (i : ℕ) (d : RollType)
+    → i < length rs → ended_so_far v todo (take (i + 1) rs)
+    ≡ once_ended v (get_or rs i d) (v.last (get_or rs i d)) (ended_so_far v todo (take i rs))
+ended-more v todo rs i d lt =
+    ap (ended_so_far v todo) (take_more rs i d lt)
+    ∙ fold-append (λ todo roll. once_ended v roll (v.last roll) todo) todo (take i rs)
+    (get_or rs i d ∷ [])
 
 abbrev entry_next : Policy → View → Todo → List ℕ × KeyParts → Todo
 entry_next policy v best e = sooner best (deletion policy v e.0 e.1)

@@ -24,6 +24,7 @@ use Rattle.dnssec_policy.specs.Keys.{goes, has_left, is_unwanted}
 use Rattle.dnssec_policy.specs.Keys.{new_keys, references_where}
 use Rattle.dnssec_policy.specs.Keys.{role_of, roles_of, serves}
 use Rattle.dnssec_policy.specs.Next.{may_begin}
+use Rattle.dnssec_policy.specs.Ttls.{lasting}
 use Rattle.dnssec_policy.specs.View.{View, reach_in}
 
 -- a roll that renews keys
@@ -69,7 +70,9 @@ May policy v (keyset.StartRoll roll olds news now) = (now ≡ v.now)
 May policy v (keyset.Report roll half ttl now) = (now ≡ v.now)
     × (phase_of v.set.rolls roll ≡ Some (propagation half))
     × (step : LastStep) × (v.step roll ≡ Some step)
-    × (due v.before v.facts roll (is_second half) (origin_in step.origins) v.now ≡ Ok ttl)
+    × (least : ℕ)
+    × (due v.before v.facts roll (is_second half) (origin_in step.origins) v.now ≡ Ok least)
+    × (ttl ≡ lasting v.highest roll (is_second half) least) × (ttl ≤ 4_294_967_295)
 May policy v (keyset.Wait roll half now) = (now ≡ v.now)
     × (ttl : ℕ) × (phase_of v.set.rolls roll ≡ Some (cache_expire half ttl))
     × (end : ℕ) × (v.end roll ≡ Some (At end)) × (end ≤ v.now)

@@ -4,6 +4,7 @@ use Rattle.std.proofs.Common.{None, Some, length, refl, sym, ap, subst, ◌∙�
 use Rattle.std.proofs.lemmas.Bool.{cases_lt}
 use Rattle.std.proofs.lemmas.Option.{none-some, slice_get_past}
 use Rattle.std.specs.Option.{option_map}
+use Rattle.std.specs.Prelude.{◌+◌, ◌≤◌, ◌⊎◌, false, if◌then◌else◌, max, slice_get}
 use Rattle.dnssec_key.specs.declared.roll.RollType.{RollType}
 use Rattle.dnssec_key.specs.RollTable.{First, Second}
 use Rattle.dnssec_keyset.specs.Step as keyset
@@ -11,9 +12,9 @@ use Rattle.dnssec_run.specs.declared.call.Call.{Call}
 use Rattle.dnssec_run.specs.declared.record.Entry.{Entry}
 use Rattle.dnssec_run.specs.declared.record.Mark.TheVariants.{Other, Report}
 use Rattle.dnssec_run.specs.declared.steps.LastStep.{LastStep}
-use Rattle.dnssec_run.specs.{Origins.origin, Steps.origin_in, Steps.step_at}
+use Rattle.dnssec_run.specs.{Origins.origin, Steps.last_step, Steps.origin_in, Steps.step_at}
 use Rattle.dnssec_run.specs.Record.{IsRun, call_moment, call_of}
-use Rattle.dnssec_run.specs.Safe.{base_below, position_at}
+use Rattle.dnssec_run.specs.Safe.{SetKind, Ds, ZoneSigners, base_below, position_at, retires}
 use Rattle.dnssec_run.specs.WholeRolls.{is_second}
 use Rattle.dnssec_run.proofs.Chain.Trust.{mark, moment, plainly}
 use Rattle.dnssec_run.proofs.Laws.{made-at}
@@ -24,10 +25,21 @@ use Rattle.dnssec_network.specs.Network.{Network, NoneLiesAhead}
 use Rattle.dnssec_network.specs.Reports.{IsByNotes, ReportsAreByNotes}
 use Rattle.dnssec_policy.specs.declared.policy.Policy.{Policy}
 use Rattle.dnssec_policy.specs.Automatic.{IsAutomatic, is_add}
+use Rattle.dnssec_policy.specs.Ttls.{keeps, lasting}
 use Rattle.dnssec_policy.specs.View.{View}
 use Rattle.dnssec_policy.proofs.{Automatic.said, May.May}
 
 -- ---- one call
+
+-- a report lasts no less than what is due
+pub longer : (h : SetKind → ℕ) (roll : RollType) (second : Bool) (least : ℕ)
+    → least ≤ lasting h roll second least
+longer h roll second least = by (retires roll second Ds)
+  where
+    by : (t : Bool)
+        → least ≤ (if t then max (least + keeps h) (h ZoneSigners + 1) else least)
+    by true = omega arith
+    by false = omega arith
 
 -- a report is by the notes by which it was said
 by-view : (policy : Policy) (v : View) (network : Network) (time : ℕ)
@@ -47,9 +59,10 @@ by-view policy v network time are (keyset.Report r half t now) m roll second ste
       before = v.before;
       facts = v.facts;
       are_true = are;
-      least = t;
-      is_due = rw (sym roll-is, sym half-is, sym step-is, sym at-is) m.4;
-      enough = omega (arith, ttl-is);
+      least = m.4;
+      is_due = rw (sym roll-is, sym half-is, sym step-is, sym at-is) m.5;
+      enough = (let long = longer v.highest r (is_second half) m.4 in let is = m.6 in
+          omega (arith, ttl-is, long, is));
     }
 by-view policy v network time are (keyset.Wait r First now) m roll second step at ttl there mk mo =
     absurd (cc)
@@ -75,8 +88,16 @@ add-mark c h = grind arith
 
 -- ---- the run
 
+-- a report after position n is by notes of this network
+abbrev pub IsReported : List Entry → Network → ℕ → ℕ → keyset.Call → Type 0
+IsReported entries network time n c = (roll : RollType) (second : Bool) (step : LastStep)
+    (at ttl : ℕ) → last_step entries roll (suc n) ≡ Some step → mark c ≡ Report roll second ttl
+    → moment c ≡ Some at → IsByNotes network roll second (origin_in step.origins) at ttl time
+
 module _ {name : List ℕ} {calls : List Call} {entries : List Entry} {network : Network} {time : ℕ}
-    (run : IsRun name calls entries) (auto : IsAutomatic name calls entries network time) where
+    (run : IsRun name calls entries)
+    (each : (n : ℕ) (c : Call) → slice_get calls n ≡ Some c
+    → (is_add c ≡ true) ⊎ IsReported entries network time n (call_of c)) where
   -- a position that is marked or timed is that of a call
   marked : (at moment ttl base : ℕ) (roll : RollType) (second : Bool)
       → (position_at entries at).mark ≡ Report roll second ttl
@@ -90,14 +111,13 @@ module _ {name : List ℕ} {calls : List Call} {entries : List Entry} {network :
         let x = made-at run n (omega (arith, lt)) in
         elim (outcome run n x.0 x.1 x.2 x.3) [
           | inl y ↦ let nope : Other ≡ Report roll second ttl = sym y.2 ∙ mk in absurd (cc)
-          | inr d ↦ elim (said run auto n x.0 x.2) [
+          | inr d ↦ elim (each n x.0 x.2) [
             | inl a ↦ let nope : Other ≡ Report roll second ttl =
                 sym (add-mark x.0 a) ∙ sym d.5 ∙ mk in absurd (cc)
             | inr s ↦ subst (λ from. IsByNotes network roll second from at ttl time)
                 (λ i kind. origin-of entries base kind i)
-                (by-view s.0.policy s.0.view network time s.0.at.are_true (call_of x.0) s.1 roll
-                second (step_at entries base) at ttl
-                (s.0.at.step roll ∙ ap (option_map (step_at entries)) b) (sym d.5 ∙ mk)
+                (s roll second (step_at entries base) at ttl (ap (option_map (step_at entries)) b)
+                (sym d.5 ∙ mk)
                 (sym (plainly x.0).moment_is ∙ sym (position-is run n x.0 x.1 x.2 x.3).1 ∙ mo))
           ]
         ]
@@ -105,8 +125,18 @@ module _ {name : List ℕ} {calls : List Call} {entries : List Entry} {network :
         sym (rw (slice_get_past entries n out) refl) ∙ mo in absurd (none-some at none)
   ]
 
+  pub all-by-notes : ReportsAreByNotes entries network time
+  all-by-notes r =
+      marked r.at r.moment r.ttl r.base r.roll r.second r.mark r.moment_is r.base_is
+
+module _ {name : List ℕ} {calls : List Call} {entries : List Entry} {network : Network} {time : ℕ}
+    (run : IsRun name calls entries) (auto : IsAutomatic name calls entries network time) where
   pub by-notes : ReportsAreByNotes entries network time
-  by-notes r = marked r.at r.moment r.ttl r.base r.roll r.second r.mark r.moment_is r.base_is
+  by-notes = all-by-notes run (λ n c ci. elim (said run auto n c ci) [
+    | inl a ↦ inl a
+    | inr s ↦ inr (λ roll second step at ttl there. by-view s.0.policy s.0.view network time
+        s.0.at.are_true (call_of c) s.1 roll second step at ttl (s.0.at.step roll ∙ there))
+  ])
 
   pub none-ahead : NoneLiesAhead entries network time
   unfolding position_at

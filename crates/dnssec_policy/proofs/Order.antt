@@ -20,6 +20,7 @@ use Rattle.dnssec_policy.specs.declared.policy.Scheme.TheVariants.{Split, Single
 use Rattle.dnssec_policy.specs.Keys.{ksk_roll, rolls_of, zsk_roll}
 use Rattle.dnssec_policy.specs.Next.{change, deletion, deletions, next_of, phase_next, renewal}
 use Rattle.dnssec_policy.specs.Next.{renewals, rolls_next}
+use Rattle.dnssec_policy.specs.Stuck.{stuck, stuck_of}
 use Rattle.dnssec_policy.specs.Todo.{Todo, Rest, is_sooner, moment_of, rank, sooner}
 use Rattle.dnssec_policy.specs.View.{View}
 
@@ -120,12 +121,25 @@ module _ (policy : Policy) (v : View) where
   abbrev renewed : Todo
   renewed = renewals policy v policy.scheme
 
+  -- all but the causes for which nothing is done
+  abbrev wanted : Todo
+  wanted = sooner (sooner (sooner rolls gone) other) renewed
+
+  abbrev cause : Todo
+  cause = stuck (stuck_of policy v)
+
+  wanted-said : (x : Todo) → NotLater wanted x → NotLater (next_of policy v) x
+  wanted-said x le = follows (sooner wanted cause) wanted x (first wanted cause) le
+
+  pub cause-said : NotLater (next_of policy v) (stuck (stuck_of policy v))
+  cause-said = second wanted cause
+
   -- the rolls and the deletions
   early-said : (x : Todo) → NotLater (sooner rolls gone) x → NotLater (next_of policy v) x
-  early-said x le = follows (next_of policy v) (sooner (sooner rolls gone) other) x
+  early-said x le = wanted-said x (follows wanted (sooner (sooner rolls gone) other) x
       (first (sooner (sooner rolls gone) other) renewed)
       (follows (sooner (sooner rolls gone) other) (sooner rolls gone) x
-      (first (sooner rolls gone) other) le)
+      (first (sooner rolls gone) other) le))
 
   pub roll-said : (roll : RollType)
       → NotLater (next_of policy v) (phase_next v roll (phase_of v.set.rolls roll))
@@ -172,11 +186,11 @@ module _ (policy : Policy) (v : View) where
       deletions-said (keys-said (entries v.set.keys) Rest q k f)
 
   pub change-said : NotLater (next_of policy v) other
-  change-said = follows (next_of policy v) (sooner (sooner rolls gone) other) other
-      (first (sooner (sooner rolls gone) other) renewed) (second (sooner rolls gone) other)
+  change-said = wanted-said other (follows wanted (sooner (sooner rolls gone) other) other
+      (first (sooner (sooner rolls gone) other) renewed) (second (sooner rolls gone) other))
 
   pub renewals-said : NotLater (next_of policy v) renewed
-  renewals-said = second (sooner (sooner rolls gone) other) renewed
+  renewals-said = wanted-said renewed (second (sooner (sooner rolls gone) other) renewed)
 
   -- a roll by which the scheme renews keys
   among-scheme : (scheme : Scheme) (roll : RollType)

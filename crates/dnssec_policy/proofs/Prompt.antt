@@ -42,15 +42,20 @@ use Rattle.dnssec_policy.specs.declared.policy.Scheme.{Scheme}
 use Rattle.dnssec_policy.specs.declared.policy.Scheme.TheVariants.{Split, SingleType}
 use Rattle.dnssec_policy.specs.Automatic.{IsAutomatic, IsViewAt}
 use Rattle.dnssec_policy.specs.InProgress.{awaited, end_next, ends_with, once, once_settled}
-use Rattle.dnssec_policy.specs.InProgress.{once_there, report_next, report_or, roll_next, wait_next}
+use Rattle.dnssec_policy.specs.declared.why.Why.{Why}
+use Rattle.dnssec_policy.specs.declared.why.Why.TheVariants as why
+use Rattle.dnssec_policy.specs.InProgress.{later, once_there, report_next, report_or, report_with}
+use Rattle.dnssec_policy.specs.InProgress.{roll_next, wait_next}
 use Rattle.dnssec_policy.specs.Keys.{first_over, has_left, is_unwanted, ksk_roll, leaves_from}
 use Rattle.dnssec_policy.specs.Keys.{new_keys, renewal_of, role_of, roles_of, wants_others, zsk_roll}
 use Rattle.dnssec_policy.specs.Laws.{IsPrompt, IsSoon, UntilOver}
 use Rattle.dnssec_policy.specs.Next.{at_moment, change, deletion, deletions, may_begin, next_of}
 use Rattle.dnssec_policy.specs.Next.{once_all_ended, once_ended, phase_next, renewal, renewals}
 use Rattle.dnssec_policy.specs.Next.{rolls_next, start_with}
+use Rattle.dnssec_policy.specs.Stuck.{stuck, stuck_of}
 use Rattle.dnssec_policy.specs.Todo.{Todo, Make, NotBefore, Rest, Stuck, is_sooner}
 use Rattle.dnssec_policy.specs.Todo.{rank, sooner}
+use Rattle.dnssec_policy.specs.Ttls.{lasting}
 use Rattle.dnssec_policy.specs.View.{View, reach_in}
 use Rattle.dnssec_policy.proofs.Automatic.{automatic-plain}
 use Rattle.dnssec_policy.proofs.Order.{NotLater, no-later, rank-le, roll-said}
@@ -98,10 +103,20 @@ none-is : {A : Type 0} (x : A) → ◌≡◌ {A = Option A} None (Some x) → �
 none-is x e = cc
 
 module _ (v : View) (roll : RollType) where
+  counted : (half : Half) (ttl : ℕ) (t : Todo) → NotLater t (report_with v roll half ttl)
+      → IsSoon v.now t
+  counted half ttl t le = by (nat_le ttl 4_294_967_295) le
+    where
+      by : (b : Bool)
+          → NotLater t (if b then Make (keyset.Report roll half ttl v.now) else later v.now)
+          → IsSoon v.now t
+      by true le = soon-by v.now t (Make (keyset.Report roll half ttl v.now)) le (omega arith)
+      by false le = soon-until v.now t le
+
   report-soon : (half : Half) (origins : Origins) (r : Result ℕ SetKind) (t : Todo)
       → NotLater t (report_or v roll half origins r) → IsSoon v.now t
   report-soon half origins (Ok ttl) t le =
-      soon-by v.now t (Make (keyset.Report roll half ttl v.now)) le (omega arith)
+      counted half (lasting v.highest roll (is_second half) ttl) t le
   report-soon half origins (Err kind) t le =
       soon-awaited v.now t (reach_in v kind (origin_in origins (kind_of kind))) kind le
 
@@ -163,7 +178,7 @@ module _ (v : View) (roll : RollType) where
   until : (half : Half) (t : Todo) (o : Option WaitEnd)
       → NotLater t (wait_next v roll half o) → (o ≡ None → ⊥) → UntilOver v.now t o
   until half t None le ends = absurd (ends refl)
-  until half t (Some PastTime) le ends = rank-le t (Stuck roll) le
+  until half t (Some PastTime) le ends = rank-le t (Stuck (why.PastTime roll)) le
   until half t (Some (At end)) le ends = (
     λ past. let r = rank-le t (Make (keyset.Wait roll half v.now))
         (subst (NotLater t) (wait-over half end past) le) in omega (arith, r),
@@ -255,7 +270,13 @@ module _ (v : View) where
 
   reports : (roll : RollType) (half : Half) (origins : Origins) (r : Result ℕ SetKind)
       → IsAhead (report_or v roll half origins r)
-  reports roll half origins (Ok ttl) = λ m e. absurd (cc)
+  reports roll half origins (Ok ttl) =
+      let long = lasting v.highest roll (is_second half) ttl in by long (nat_le long 4_294_967_295)
+    where
+      by : (ttl : ℕ) (b : Bool)
+          → IsAhead (if b then Make (keyset.Report roll half ttl v.now) else later v.now)
+      by ttl true = λ m e. absurd (cc)
+      by ttl false = λ m e. let same : v.now + 1_000_000_000 ≡ m = cc in omega (arith, same)
   reports roll half origins (Err kind) =
       reached (reach_in v kind (origin_in origins (kind_of kind))) kind
 
@@ -375,6 +396,10 @@ module _ (v : View) where
         (renewal-ahead (ksk_roll k)) (renewal-ahead (zsk_roll z))
     renewals-ahead SingleType = renewal-ahead CskRoll
 
+    stuck-ahead : (o : Option Why) → IsAhead (stuck o)
+    stuck-ahead None = λ m e. absurd (cc)
+    stuck-ahead (Some why) = λ m e. absurd (cc)
+
     pub ahead : IsAhead (next_of policy v)
     ahead =
         let a = rolls_next v in
@@ -382,9 +407,10 @@ module _ (v : View) where
         let c = change policy v in
         let d = renewals policy v policy.scheme in
         let news = new_keys policy v.set.keys (roles_of policy.scheme) in
-        both (sooner (sooner a b) c) d (both (sooner a b) c (both a b
+        both (sooner (sooner (sooner a b) c) d) (stuck (stuck_of policy v))
+        (both (sooner (sooner a b) c) d (both (sooner a b) c (both a b
         (rolls-ahead all_rolls Rest (λ m e. absurd (cc)))
         (deletions-ahead (entries v.set.keys) Rest (λ m e. absurd (cc))))
         (guard (may_begin v AlgorithmRoll && wants_others policy v.set.keys)
         (start_with v AlgorithmRoll news) (start-ahead AlgorithmRoll news)))
-        (renewals-ahead policy.scheme)
+        (renewals-ahead policy.scheme)) (stuck-ahead (stuck_of policy v))

@@ -28,16 +28,19 @@ use Rattle.dnssec_network.specs.Reports.{due}
 use Rattle.dnssec_policy.specs.declared.policy.KeyRole.{KeyRole}
 use Rattle.dnssec_policy.specs.declared.policy.Policy.{Policy}
 use Rattle.dnssec_policy.specs.InProgress.{awaited, end_next, report_next, report_or, roll_next}
-use Rattle.dnssec_policy.specs.InProgress.{wait_next}
+use Rattle.dnssec_policy.specs.InProgress.{later, wait_next}
+use Rattle.dnssec_policy.specs.declared.why.Why.{Why}
 use Rattle.dnssec_policy.specs.Keys.{first_over, has_left, is_rolled, is_unwanted, leaves_from}
 use Rattle.dnssec_policy.specs.Keys.{new_keys, renewal_of, role_of, roles_of, rolls_of}
 use Rattle.dnssec_policy.specs.Keys.{wants_others}
 use Rattle.dnssec_policy.specs.Laws.{RestIsAsWanted}
 use Rattle.dnssec_policy.specs.Next.{at_moment, change, deletion, may_begin, next_of}
 use Rattle.dnssec_policy.specs.Next.{once_all_ended, once_ended, phase_next, renewal, start_with}
+use Rattle.dnssec_policy.specs.Stuck.{stuck, stuck_of}
 use Rattle.dnssec_policy.specs.Todo.{Make, NotBefore, Rest, Todo, rank}
+use Rattle.dnssec_policy.specs.Ttls.{lasting}
 use Rattle.dnssec_policy.specs.View.{View, reach_in}
-use Rattle.dnssec_policy.proofs.Order.{NotLater, change-said, rank-le}
+use Rattle.dnssec_policy.proofs.Order.{NotLater, cause-said, change-said, rank-le}
 use Rattle.dnssec_policy.proofs.Order.{entry-said, renewal-said, roll-said}
 use Rattle.dnssec_policy.proofs.Prompt.{settled-rank}
 
@@ -49,7 +52,13 @@ awaited-rank r kind now = grind arith
 module _ (v : View) where
   report-rank : (roll : RollType) (half : Half) (origins : Origins) (r : Result ℕ SetKind)
       → rank (report_or v roll half origins r) ≤ 5
-  report-rank roll half origins (Ok ttl) = omega arith
+  report-rank roll half origins (Ok ttl) =
+      let long = lasting v.highest roll (is_second half) ttl in by long (nat_le long 4_294_967_295)
+    where
+      by : (ttl : ℕ) (b : Bool)
+          → rank (if b then Make (keyset.Report roll half ttl v.now) else later v.now) ≤ 5
+      by ttl true = omega arith
+      by ttl false = omega arith
   report-rank roll half origins (Err kind) =
       awaited-rank (reach_in v kind (origin_in origins (kind_of kind))) kind v.now
 
@@ -214,10 +223,21 @@ module _ (policy : Policy) (v : View) (rests : next_of policy v ≡ Rest) where
       (subst (λ x. 6 ≤ rank x) said
       (part (renewal policy v roll) (renewal-said policy v roll e)))
 
+  none-stuck : stuck_of policy v ≡ None
+  none-stuck = by (stuck_of policy v) refl
+    where
+      by : (o : Option Why) → stuck_of policy v ≡ o → stuck_of policy v ≡ None
+      by None is = is
+      by (Some why) is =
+          let big = subst (λ o. 6 ≤ rank (stuck o)) is
+          (part (stuck (stuck_of policy v)) (cause-said policy v)) in
+          absurd (omega (arith, big))
+
 pub as-wanted : RestIsAsWanted
 as-wanted policy v rests = record {
   rolls = none-rolls policy v rests;
   gone = none-gone policy v rests;
   others = none-wanted policy v rests;
   renewals = none-over policy v rests;
+  stuck = none-stuck policy v rests;
 }

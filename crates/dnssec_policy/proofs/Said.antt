@@ -34,12 +34,13 @@ use Rattle.dnssec_policy.specs.declared.policy.KeyRole.{KeyRole}
 use Rattle.dnssec_policy.specs.declared.policy.KskMethod.{KskMethod}
 use Rattle.dnssec_policy.specs.declared.policy.KskMethod.TheVariants as ksks
 use Rattle.dnssec_policy.specs.declared.policy.Policy.{Policy}
-use Rattle.dnssec_policy.specs.declared.policy.Renewal.{Renewal}
+use Rattle.dnssec_policy.specs.declared.policy.Term.{Term}
 use Rattle.dnssec_policy.specs.declared.policy.Scheme.{Scheme}
 use Rattle.dnssec_policy.specs.declared.policy.Scheme.TheVariants.{Split, SingleType}
 use Rattle.dnssec_policy.specs.declared.policy.ZskMethod.{ZskMethod}
 use Rattle.dnssec_policy.specs.declared.policy.ZskMethod.TheVariants as zsks
-use Rattle.dnssec_policy.specs.InProgress.{awaited, end_next, ends_with, once, once_settled}
+use Rattle.dnssec_policy.specs.declared.why.Why.{Why}
+use Rattle.dnssec_policy.specs.InProgress.{awaited, end_next, ends_with, later, once, once_settled}
 use Rattle.dnssec_policy.specs.InProgress.{once_there, report_next, report_or, wait_next}
 use Rattle.dnssec_policy.specs.Keys.{earlier, first_from, first_over, goes, has_left, is_unwanted}
 use Rattle.dnssec_policy.specs.Keys.{ksk_roll, leaves_from, new_keys, over_from, references_where}
@@ -47,7 +48,9 @@ use Rattle.dnssec_policy.specs.Keys.{renewal_of, role_of, roles_of, serves, want
 use Rattle.dnssec_policy.specs.Next.{at_moment, change, deletion, deletions, may_begin, next_of}
 use Rattle.dnssec_policy.specs.Next.{once_all_ended, once_ended, phase_next, renewal, renewals}
 use Rattle.dnssec_policy.specs.Next.{rolls_next, start_with}
+use Rattle.dnssec_policy.specs.Stuck.{stuck, stuck_of}
 use Rattle.dnssec_policy.specs.Todo.{Todo, Make, NotBefore, Rest, is_sooner, sooner}
+use Rattle.dnssec_policy.specs.Ttls.{lasting}
 use Rattle.dnssec_policy.specs.View.{View, reach_in}
 use Rattle.dnssec_policy.proofs.May.{IsChange, IsRenewal, IsSettled, May, is_renewal}
 
@@ -75,6 +78,11 @@ unmade Unpublished kind now c e = cc
 unmade Spreading kind now c e = cc
 unmade Everywhere kind now c e = cc
 
+-- nor by a cause
+uncaused : (o : Option Why) (c : keyset.Call) → stuck o ≡ Make c → ⊥
+uncaused None c e = cc
+uncaused (Some why) c e = cc
+
 pub ksk-renews : (k : KskMethod) → is_renewal (ksk_roll k) ≡ true
 ksk-renews ksks.DoubleSignature = refl
 ksk-renews ksks.DoubleDs = refl
@@ -91,13 +99,25 @@ module _ (policy : Policy) (v : View) where
   -- ---- rolls in progress
 
   module _ (c : keyset.Call) (roll : RollType) where
+    counted : (half : Half) (step : LastStep) (least long : ℕ)
+        → phase_of v.set.rolls roll ≡ Some (propagation half) → v.step roll ≡ Some step
+        → due v.before v.facts roll (is_second half) (origin_in step.origins) v.now ≡ Ok least
+        → long ≡ lasting v.highest roll (is_second half) least
+        → (t : Bool) → nat_le long 4_294_967_295 ≡ t
+        → (if t then Make (keyset.Report roll half long v.now) else later v.now) ≡ Make c
+        → May policy v c
+    counted half step least long phase there is lasts true fits e =
+        subst (May policy v) (made (keyset.Report roll half long v.now) c e)
+        (refl, phase, step, there, least, is, lasts, leb-true long 4_294_967_295 fits)
+    counted half step least long phase there is lasts false fits e = absurd (cc)
+
     reported : (half : Half) (step : LastStep) (r : Result ℕ SetKind)
         → phase_of v.set.rolls roll ≡ Some (propagation half) → v.step roll ≡ Some step
         → due v.before v.facts roll (is_second half) (origin_in step.origins) v.now ≡ r
         → report_or v roll half step.origins r ≡ Make c → May policy v c
-    reported half step (Ok ttl) phase there is e =
-        subst (May policy v) (made (keyset.Report roll half ttl v.now) c e)
-        (refl, phase, step, there, is)
+    reported half step (Ok least) phase there is e =
+        let long = lasting v.highest roll (is_second half) least in
+        counted half step least long phase there is refl (nat_le long 4_294_967_295) refl e
     reported half step (Err kind) phase there is e = absurd (unmade
         (reach_in v kind (origin_in step.origins (kind_of kind))) kind v.now c e)
 
@@ -280,7 +300,7 @@ module _ (policy : Policy) (v : View) where
       start c AlgorithmRoll news (and_parts (may_begin v AlgorithmRoll) _ x.0).0
       (λ qs is. inl (record { roll_is = refl; news_are = is })) x.1
 
-  module _ (role : KeyRole) (renewal : Renewal) where
+  module _ (role : KeyRole) (renewal : Term) where
     step-aged : (k : KeyParts) (best : Option ℕ)
         → ((m : ℕ) × ((if serves role k.keytype
         then earlier best (over_from renewal k.timestamps.published) else best) ≡ Some m))
@@ -355,13 +375,17 @@ module _ (policy : Policy) (v : View) where
       let a = rolls_next v in
       let b = deletions policy v in
       let d = change policy v in
-      elim (of_two (sooner (sooner a b) d) (renewals policy v policy.scheme) c e) [
-        | inl e ↦ elim (of_two (sooner a b) d c e) [
-          | inl e ↦ elim (of_two a b c e) [
-            | inl e ↦ elim (rolls c all_rolls Rest e) [ inl n ↦ absurd (cc) | inr m ↦ m ]
-            | inr e ↦ deletes c e
+      let r = renewals policy v policy.scheme in
+      elim (of_two (sooner (sooner (sooner a b) d) r) (stuck (stuck_of policy v)) c e) [
+        | inl e ↦ elim (of_two (sooner (sooner a b) d) r c e) [
+          | inl e ↦ elim (of_two (sooner a b) d c e) [
+            | inl e ↦ elim (of_two a b c e) [
+              | inl e ↦ elim (rolls c all_rolls Rest e) [ inl n ↦ absurd (cc) | inr m ↦ m ]
+              | inr e ↦ deletes c e
+            ]
+            | inr e ↦ changed c e
           ]
-          | inr e ↦ changed c e
+          | inr e ↦ all policy.scheme c e
         ]
-        | inr e ↦ all policy.scheme c e
+        | inr e ↦ absurd (uncaused (stuck_of policy v) c e)
       ]

@@ -9,12 +9,14 @@ use Rattle.dnssec_run.specs.declared.call.Call.TheVariants.{AddKeyKsk, AddKeyZsk
 use Rattle.dnssec_run.specs.declared.call.Call.TheVariants.{AddPublicKey, CacheExpired2}
 use Rattle.dnssec_run.specs.declared.record.Entry.{Entry}
 use Rattle.dnssec_run.specs.Record.{call_of, is_accepted, world_at}
+use Rattle.dnssec_run.specs.Safe.{SetKind}
 use Rattle.dnssec_run.specs.Steps.{last_step}
 use Rattle.dnssec_network.specs.Facts.{AreTrue}
 use Rattle.dnssec_network.specs.Network.{Network}
 use Rattle.dnssec_policy.specs.declared.policy.Policy.{Policy}
 use Rattle.dnssec_policy.specs.Next.{next_of}
 use Rattle.dnssec_policy.specs.Todo.{Make}
+use Rattle.dnssec_policy.specs.Ttls.{highest_of}
 use Rattle.dnssec_policy.specs.View.{View}
 
 -- ---- the last second wait of a roll
@@ -41,6 +43,7 @@ pub record IsViewAt (name : List ℕ) (calls : List Call) (entries : List Entry)
   pub step : (roll : RollType) → v.step roll ≡ last_step entries roll (suc n)
   pub last : (roll : RollType) → v.last roll ≡ last_below calls entries roll n
   pub end : (roll : RollType) → TellsEnd roll v.set (v.end roll)
+  pub highest : (kind : SetKind) → v.highest kind ≡ highest_of v.before v.facts kind
   pub are_true : AreTrue v.before v.facts network time
 
 -- the call after position n is what some policy said to do next, at a moment that the clock had

@@ -29,6 +29,7 @@ use Rattle.dnssec_policy.specs.declared.state.State.{State}
 use Rattle.dnssec_policy.specs.declared.todo.Next.{Next}
 use Rattle.dnssec_policy.specs.declared.todo.Next.TheVariants as code
 use Rattle.dnssec_policy.specs.Keys.{goes, is_new}
+use Rattle.dnssec_policy.specs.Ttls.{ttl_in}
 use Rattle.dnssec_policy.specs.Todo.{Make, NeedKey, NotBefore, Publish, Rest, Stuck, Todo, Watch}
 use Rattle.dnssec_policy.specs.View.{View}
 
@@ -61,6 +62,7 @@ view_of s end = record {
   step = step_of s.steps;
   last = last_of s.last_waits;
   end = end;
+  highest = ttl_in s.highest;
   before = s.notes.now.before;
   facts = s.notes.now.facts;
   now = s.moment;
@@ -102,5 +104,5 @@ todo_of now (code.Publish kind) = Publish kind
 todo_of now (code.NeedKey role) = NeedKey role
 todo_of now (code.Watch kind) = Watch kind
 todo_of now (code.NotBefore moment) = NotBefore moment
-todo_of now (code.Stuck roll) = Stuck roll
+todo_of now (code.Stuck why) = Stuck why
 todo_of now code.Rest = Rest

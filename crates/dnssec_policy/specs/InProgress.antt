@@ -13,7 +13,7 @@ use Rattle.dnssec_key.specs.declared.roll.RollType.{RollType}
 use Rattle.dnssec_key.specs.RollTable.{Half, First, Second, actions_of}
 use Rattle.dnssec_keyset.specs.Step.{Report, RollDone, Wait}
 use Rattle.dnssec_keyset.specs.declared.wait.WaitEnd.{WaitEnd}
-use Rattle.dnssec_keyset.specs.declared.wait.WaitEnd.TheVariants.{At}
+use Rattle.dnssec_keyset.specs.declared.wait.WaitEnd.TheVariants as end
 use Rattle.dnssec_run.specs.declared.caches.SetKind.{SetKind}
 use Rattle.dnssec_run.specs.declared.caches.SetKind.TheVariants.{Ds, Dnskey, ZoneSigners}
 use Rattle.dnssec_run.specs.declared.steps.LastStep.{LastStep}
@@ -25,27 +25,38 @@ use Rattle.dnssec_network.specs.declared.reach.Reach.{Reach}
 use Rattle.dnssec_network.specs.declared.reach.Reach.TheVariants.{Unpublished, Spreading}
 use Rattle.dnssec_network.specs.declared.reach.Reach.TheVariants.{Everywhere}
 use Rattle.dnssec_network.specs.Reports.{due}
+use Rattle.dnssec_policy.specs.Ttls.{lasting}
 use Rattle.dnssec_policy.specs.Todo.{Todo, Make, Publish, Watch, NotBefore, Stuck}
+use Rattle.dnssec_policy.specs.declared.why.Why.TheVariants.{NoStep, NoStamp, PastTime, NoLastWait}
 use Rattle.dnssec_policy.specs.View.{View, reach_in}
 
 -- ---- reports
 
--- What a report waits for of a kind. Of sets that are on all servers it is a TTL that 32 bits can
--- hold: there is one a second later.
+-- a second later, as the TTL of a report is one that 32 bits can hold
+abbrev pub later : ℕ → Todo
+later now = NotBefore (now + 1_000_000_000)
+
+-- what a report waits for of a kind
 abbrev pub awaited : Reach → SetKind → ℕ → Todo
 awaited Unpublished kind now = Publish kind
 awaited Spreading kind now = Watch kind
-awaited Everywhere kind now = NotBefore (now + 1_000_000_000)
+awaited Everywhere kind now = later now
 
--- a report with the TTL that is due, or what it waits for of the sets that came at these positions
+abbrev pub report_with : View → RollType → Half → ℕ → Todo
+report_with v roll half ttl =
+    if nat_le ttl 4_294_967_295 then Make (Report roll half ttl v.now) else later v.now
+
+-- a report that lasts longer than the TTL that is due, or what it waits for of the sets that came at
+-- these positions
 abbrev pub report_or : View → RollType → Half → Origins → Result ℕ SetKind → Todo
-report_or v roll half origins (Ok ttl) = Make (Report roll half ttl v.now)
+report_or v roll half origins (Ok ttl) =
+    report_with v roll half (lasting v.highest roll (is_second half) ttl)
 report_or v roll half origins (Err kind) =
     awaited (reach_in v kind (origin_in origins (kind_of kind))) kind v.now
 
 -- it speaks of the sets that the roll's last step left
 abbrev pub report_next : View → RollType → Half → Option LastStep → Todo
-report_next v roll half None = Stuck roll
+report_next v roll half None = Stuck (NoStep roll)
 report_next v roll half (Some step) =
     report_or v roll half step.origins
     (due v.before v.facts roll (is_second half) (origin_in step.origins) v.now)
@@ -54,9 +65,10 @@ report_next v roll half (Some step) =
 
 -- a wait that is over, or the moment from which it is
 abbrev pub wait_next : View → RollType → Half → Option WaitEnd → Todo
-wait_next v roll half (Some (At end)) =
+wait_next v roll half (Some (end.At end)) =
     if nat_le end v.now then Make (Wait roll half v.now) else NotBefore end
-wait_next v roll half _ = Stuck roll
+wait_next v roll half (Some end.PastTime) = Stuck (PastTime roll)
+wait_next v roll half None = Stuck (NoStamp roll)
 
 -- ---- ends
 
@@ -88,7 +100,7 @@ once_settled v roll base todo =
     (once_there v roll base Dnskey (once_there v roll base ZoneSigners todo))
 
 abbrev pub end_next : View → RollType → Option ℕ → Todo
-end_next v roll None = Stuck roll
+end_next v roll None = Stuck (NoLastWait roll)
 end_next v roll (Some base) = once_settled v roll base (Make (RollDone roll))
 
 -- ---- by its phase

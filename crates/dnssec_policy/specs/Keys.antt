@@ -11,7 +11,7 @@ use Rattle.dnssec_key.specs.declared.roll.RollType.TheVariants.{ZskDoubleSignatu
 use Rattle.dnssec_key.specs.declared.roll.RollType.TheVariants.{AlgorithmRoll}
 use Rattle.dnssec_key.specs.Key.{KeyParts, all_states, either, ksk, zsk, ksk_role, zsk_role}
 use Rattle.dnssec_key.specs.State.{Flags, is_active_ksk, is_active_zsk, is_any, is_fresh, is_kept}
-use Rattle.dnssec_key.specs.State.{is_stale, is_used}
+use Rattle.dnssec_key.specs.State.{is_leaving, is_stale, is_used}
 use Rattle.dnssec_key.specs.Sides.{side_of}
 use Rattle.dnssec_zone.specs.Keys.{Keys, some_key}
 use Rattle.dnssec_zone.specs.Rolls.{Rolls, all_rolls, phase_of}
@@ -24,7 +24,7 @@ use Rattle.dnssec_policy.specs.declared.policy.ZskMethod.{ZskMethod}
 use Rattle.dnssec_policy.specs.declared.policy.ZskMethod.TheVariants as zsks
 use Rattle.dnssec_policy.specs.declared.policy.Scheme.{Scheme}
 use Rattle.dnssec_policy.specs.declared.policy.Scheme.TheVariants.{Split, SingleType}
-use Rattle.dnssec_policy.specs.declared.policy.Renewal.{Renewal}
+use Rattle.dnssec_policy.specs.declared.policy.Term.{Term}
 use Rattle.dnssec_policy.specs.declared.policy.Policy.{Policy}
 
 -- the references of the keys that pass, in their order
@@ -129,7 +129,7 @@ role_of CskRoll = Csk
 role_of AlgorithmRoll = Csk
 
 -- when keys of a role are renewed
-abbrev pub renewal_of : Policy → KeyRole → Renewal
+abbrev pub renewal_of : Policy → KeyRole → Term
 renewal_of policy Zsk = policy.zsk
 renewal_of policy _ = policy.ksk
 
@@ -153,18 +153,18 @@ over_on_demand (Some moment) published = if nat_lt published moment then Some mo
 
 -- The moment from which a key's time is over, if ever. One without the stamp of its publication
 -- counts as old.
-abbrev pub over_from : Renewal → Option ℕ → Option ℕ
+abbrev pub over_from : Term → Option ℕ → Option ℕ
 over_from renewal published =
     earlier (over_by_age renewal.lifetime (unwrap_or published 0))
     (over_on_demand renewal.once (unwrap_or published 0))
 
 -- the first such moment of the keys at work, and of the best so far
-abbrev pub first_from : KeyRole → Renewal → Option ℕ → List KeyParts → Option ℕ
+abbrev pub first_from : KeyRole → Term → Option ℕ → List KeyParts → Option ℕ
 first_from role renewal best keys =
     fold (λ best (k : KeyParts). if serves role k.keytype
     then earlier best (over_from renewal k.timestamps.published) else best) best keys
 
-abbrev pub first_over : KeyRole → Renewal → List KeyParts → Option ℕ
+abbrev pub first_over : KeyRole → Term → List KeyParts → Option ℕ
 first_over role renewal keys = first_from role renewal None keys
 
 -- ---- keys that have left
@@ -177,6 +177,11 @@ is_rolled rolls k =
 -- it has left, and no roll of its side is in progress
 abbrev pub has_left : Rolls → KeyParts → Bool
 has_left rolls k = all_states is_stale k.keytype && not (is_rolled rolls k.keytype)
+
+-- it is on its way out and in use, and no roll of its side is in progress
+abbrev pub is_left_over : Rolls → KeyParts → Bool
+is_left_over rolls k =
+    either (ksk_role is_leaving) (zsk_role is_leaving) k.keytype && not (is_rolled rolls k.keytype)
 
 -- the moment from which it may be deleted
 abbrev pub leaves_from : ℕ → Option ℕ → ℕ

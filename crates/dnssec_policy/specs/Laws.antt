@@ -1,9 +1,12 @@
 -- What holds of calls that a zone makes by itself.
 use Rattle.std.specs.Prelude.{◌≡◌, ◌⊎◌, ◌++◌, ◌∷◌, ℕ, suc, ◌+◌, ◌<◌, ◌≤◌, true, false, List, []}
 use Rattle.std.specs.Prelude.{length, slice_get, Option, None, Some, Ok}
-use Rattle.std.specs.{FinMap.get, FinMap.values, List.list_any}
+use Rattle.std.specs.Prelude.{nat_le}
+use Rattle.std.specs.{FinMap.get, FinMap.values, List.list_all, List.list_any}
 use Rattle.dnssec_key.specs.declared.roll.RollState.{RollState}
 use Rattle.dnssec_key.specs.declared.roll.RollState.TheVariants.{CacheExpire1, CacheExpire2}
+use Rattle.dnssec_key.specs.declared.roll.RollState.TheVariants.{Done}
+use Rattle.dnssec_key.specs.RollTable.{Half}
 use Rattle.dnssec_key.specs.declared.roll.RollType.{RollType}
 use Rattle.dnssec_key.specs.declared.roll.RollType.TheVariants.{AlgorithmRoll}
 use Rattle.dnssec_key.specs.Key.{KeyParts, all_states}
@@ -22,13 +25,17 @@ use Rattle.dnssec_run.specs.declared.caches.SetKind.{SetKind}
 use Rattle.dnssec_run.specs.ByAlgorithm.{KeepsWhole}
 use Rattle.dnssec_run.specs.Plain.{IsPlain}
 use Rattle.dnssec_run.specs.Record.{IsRun, call_of, world_at}
-use Rattle.dnssec_run.specs.Safe.{kind_of}
+use Rattle.dnssec_run.specs.Safe.{SetKind as AnyKind, kind_of, retires}
+use Rattle.dnssec_run.specs.declared.steps.LastStep.{LastStep}
+use Rattle.dnssec_run.specs.Steps.{origin_in}
+use Rattle.dnssec_run.specs.WholeRolls.{is_second, propagation}
 use Rattle.dnssec_run.specs.Steps.{AreStepsOf}
 use Rattle.dnssec_network.specs.ByAlgorithm.{FindChainByEach}
-use Rattle.dnssec_network.specs.Facts.{AreTrue}
+use Rattle.dnssec_network.specs.Facts.{AreTrue, moment_of, news_of}
 use Rattle.dnssec_network.specs.Network.{FindChain, IsNetworkOf, Network, NeverGoesBack}
 use Rattle.dnssec_network.specs.Network.{NoneLiesAhead}
 use Rattle.dnssec_network.specs.Reach.{AllGive}
+use Rattle.dnssec_network.specs.declared.reach.Reach.TheVariants.{Everywhere}
 use Rattle.dnssec_network.specs.Reports.{NoneGoesBack, ReportsAreByNotes}
 use Rattle.dnssec_policy.specs.declared.last_waits.LastWaits.{LastWaits}
 use Rattle.dnssec_policy.specs.declared.policy.Policy.{Policy}
@@ -36,11 +43,16 @@ use Rattle.dnssec_policy.specs.declared.state.State.{State}
 use Rattle.dnssec_policy.specs.Automatic.{IsAutomatic, IsSaid, IsViewAt, is_add, last_below}
 use Rattle.dnssec_policy.specs.Code.{last_of, second_wait_of, view_of}
 use Rattle.dnssec_policy.specs.InProgress.{ends_with}
-use Rattle.dnssec_policy.specs.Keys.{first_over, is_rolled, is_unwanted, new_keys, renewal_of}
+use Rattle.dnssec_policy.specs.InProgress.{roll_next}
+use Rattle.dnssec_policy.specs.Keys.{first_over, is_left_over, is_rolled, is_unwanted, new_keys}
+use Rattle.dnssec_policy.specs.Keys.{renewal_of}
+use Rattle.dnssec_policy.specs.Stuck.{is_over, why_of}
+use Rattle.dnssec_policy.specs.declared.why.Why.{Why}
 use Rattle.dnssec_policy.specs.Keys.{role_of, roles_of, rolls_of, wants_others}
-use Rattle.dnssec_policy.specs.Next.{may_begin, next_of}
+use Rattle.dnssec_policy.specs.Next.{may_begin, next_of, stuck_of}
 use Rattle.dnssec_policy.specs.Todo.{Todo, Make, NotBefore, Rest, rank}
-use Rattle.dnssec_policy.specs.View.{View}
+use Rattle.dnssec_policy.specs.Ttls.{AreHighest, highest_of, report_takes}
+use Rattle.dnssec_policy.specs.View.{View, reach_in}
 
 -- ---- what automatic calls are
 
@@ -167,7 +179,75 @@ ChangesStartInTime = (policy : Policy) (v : View) (news : List (List ℕ)) →
     new_keys policy v.set.keys (roles_of policy.scheme) ≡ Ok news →
     rank (next_of policy v) ≡ 0
 
--- the zone is as the policy wants it, for good
+-- ---- how long it takes
+
+-- no noted moment lies ahead of that at which it is said
+abbrev pub NoneLiesAheadOf : View → Type 0
+NoneLiesAheadOf v = (kind : AnyKind) →
+    list_all (λ news. nat_le (moment_of news) v.now) (news_of kind v.facts) ≡ true
+
+-- a report counts no longer than the highest TTLs noted say
+abbrev pub ReportsCountNoLonger : Type 0
+ReportsCountNoLonger =
+    (policy : Policy) (v : View) (roll : RollType) (half : Half) (ttl now : ℕ) →
+    NoneLiesAheadOf v →
+    ((kind : AnyKind) → v.highest kind ≡ highest_of v.before v.facts kind) →
+    next_of policy v ≡ Make (keyset.Report roll half ttl now) →
+    ttl ≤ report_takes v.highest roll (is_second half)
+
+-- Once all servers have the sets of each kind that it speaks of, by the notes, a report is said, or
+-- another call; if 32 bits can hold its TTL.
+abbrev pub ReportsAreInTime : Type 0
+ReportsAreInTime =
+    (policy : Policy) (v : View) (roll : RollType) (half : Half) (step : LastStep) →
+    NoneLiesAheadOf v →
+    ((kind : AnyKind) → v.highest kind ≡ highest_of v.before v.facts kind) →
+    phase_of v.set.rolls roll ≡ Some (propagation half) →
+    v.step roll ≡ Some step →
+    ((kind : SetKind) → retires roll (is_second half) (kind_of kind) ≡ true →
+    reach_in v kind (origin_in step.origins (kind_of kind)) ≡ Everywhere) →
+    report_takes v.highest roll (is_second half) ≤ 4_294_967_295 →
+    rank (next_of policy v) ≡ 0
+
+-- and once they have what its last actions wait for, the end of a roll, or another call
+abbrev pub EndsAreInTime : Type 0
+EndsAreInTime = (policy : Policy) (v : View) (roll : RollType) (base : ℕ) →
+    phase_of v.set.rolls roll ≡ Some Done →
+    v.last roll ≡ Some base →
+    ((kind : SetKind) → ends_with roll kind ≡ true → reach_in v kind base ≡ Everywhere) →
+    rank (next_of policy v) ≡ 0
+
+-- ---- what is wanted is done, or it is said why not
+
+-- a cause is said
+abbrev pub IsStuck : Policy → View → Type 0
+IsStuck policy v = (why : Why) × (stuck_of policy v ≡ Some why)
+
+-- a call is said or what the operator has to do, or why nothing is done
+abbrev pub IsUnderWay : Policy → View → Type 0
+IsUnderWay policy v = (rank (next_of policy v) ≤ 2) ⊎ IsStuck policy v
+
+-- nothing that the policy wants is passed over in silence
+pub record IsOutspoken (policy : Policy) (v : View) : Type 0 where
+  -- a roll that doesn't go on
+  pub rolls : (roll : RollType) (phase : RollState) (why : Why) →
+      phase_of v.set.rolls roll ≡ Some phase →
+      why_of roll phase (roll_next v roll phase) ≡ Some why → IsStuck policy v
+  -- the first keys, another algorithm or another scheme
+  pub change : wants_others policy v.set.keys ≡ true → IsUnderWay policy v
+  -- a key whose time is over
+  pub renewals : (roll : RollType) → list_any (same_roll roll) (rolls_of policy.scheme) ≡ true →
+      is_over policy v roll ≡ true → IsUnderWay policy v
+  -- a key that no roll takes out
+  pub keys : (q : List ℕ) (k : KeyParts) → get v.set.keys q ≡ Some k →
+      is_left_over v.set.rolls k ≡ true → IsStuck policy v
+
+abbrev pub NothingIsSilent : Type 0
+NothingIsSilent = (policy : Policy) (v : View) → IsOutspoken policy v
+
+-- ---- rest
+
+-- the zone is as the policy wants it, for good, and nothing is stuck
 pub record IsAsWanted (policy : Policy) (v : View) : Type 0 where
   pub rolls : (roll : RollType) → phase_of v.set.rolls roll ≡ None
   pub gone : (q : List ℕ) (k : KeyParts) → get v.set.keys q ≡ Some k →
@@ -175,6 +255,7 @@ pub record IsAsWanted (policy : Policy) (v : View) : Type 0 where
   pub others : wants_others policy v.set.keys ≡ false
   pub renewals : (roll : RollType) → list_any (same_roll roll) (rolls_of policy.scheme) ≡ true →
       first_over (role_of roll) (renewal_of policy (role_of roll)) (values v.set.keys) ≡ None
+  pub stuck : stuck_of policy v ≡ None
 
 -- only then nothing is said
 abbrev pub RestIsAsWanted : Type 0
@@ -215,6 +296,7 @@ pub record Knows (name : List ℕ) (calls : List Call) (entries : List Entry) (n
   pub set : s.keyset.now ≡ (world_at name calls entries (length entries)).set
   pub steps : AreStepsOf entries s.steps
   pub lasts : AreLastsOf calls entries s.last_waits
+  pub highest : AreHighest s.notes.now.before s.notes.now.facts s.highest
   pub are_true : AreTrue s.notes.now.before s.notes.now.facts network time
 
 -- then a call that `next` answers is said

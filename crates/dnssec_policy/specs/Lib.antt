@@ -1,8 +1,12 @@
 pub mod Todo
+pub mod Ttls
 pub mod View
 pub mod InProgress
 pub mod Keys
+pub mod Stuck
+pub mod Texts
 pub mod Next
 pub mod Automatic
+pub mod Kept
 pub mod Code
 pub mod Laws

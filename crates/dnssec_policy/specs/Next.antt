@@ -1,7 +1,8 @@
 -- What a policy says to do next: rolls in progress go on, keys that have left are deleted, and
--- rolls start that the policy wants. The most urgent of all that is said.
+-- rolls start that the policy wants. The most urgent of all that is said; and if nothing can be done,
+-- why.
 use Rattle.std.specs.Prelude.{ℕ, ◌&&◌, not, Bool, List, ◌∷◌, [], nat_le, Option, None, Some}
-use Rattle.std.specs.Prelude.{if◌then◌else◌, is_none, Result, Ok, Err}
+use Rattle.std.specs.Prelude.{if◌then◌else◌, Result, Ok, Err}
 use Rattle.std.specs.List.{fold}
 use Rattle.std.specs.FinMap.{entries, values}
 use Rattle.dnssec_key.specs.declared.roll.RollState.{RollState}
@@ -10,7 +11,6 @@ use Rattle.dnssec_key.specs.declared.roll.RollType.TheVariants.{AlgorithmRoll, C
 use Rattle.dnssec_key.specs.Key.{KeyParts}
 use Rattle.dnssec_zone.specs.Keys.{some_key}
 use Rattle.dnssec_zone.specs.Rolls.{all_rolls, phase_of}
-use Rattle.dnssec_zone.specs.Start.{conflict}
 use Rattle.dnssec_keyset.specs.Step.{DeleteKey, StartRoll}
 use Rattle.dnssec_policy.specs.declared.policy.KeyRole.{KeyRole}
 use Rattle.dnssec_policy.specs.declared.policy.Policy.{Policy}
@@ -20,6 +20,7 @@ use Rattle.dnssec_policy.specs.InProgress.{once_settled, roll_next}
 use Rattle.dnssec_policy.specs.Keys.{first_over, goes, has_left, is_unwanted, ksk_roll, leaves_from}
 use Rattle.dnssec_policy.specs.Keys.{new_keys, references_where, renewal_of, role_of, roles_of}
 use Rattle.dnssec_policy.specs.Keys.{wants_others, zsk_roll}
+pub use Rattle.dnssec_policy.specs.Stuck.{may_begin, stuck, stuck_of}
 use Rattle.dnssec_policy.specs.Todo.{Todo, Make, NeedKey, NotBefore, Rest, sooner}
 use Rattle.dnssec_policy.specs.View.{View}
 
@@ -62,10 +63,6 @@ deletions policy v =
 
 -- ---- starts
 
--- the roll may begin beside the rolls in progress
-abbrev pub may_begin : View → RollType → Bool
-may_begin v roll = is_none (conflict roll v.set.rolls)
-
 -- a start with these new keys, or the role for which there is none
 abbrev pub start_with : View → RollType → Result (List (List ℕ)) KeyRole → Todo
 start_with v roll (Err role) = NeedKey role
@@ -96,5 +93,5 @@ renewals policy v SingleType = renewal policy v CskRoll
 
 abbrev pub next_of : Policy → View → Todo
 next_of policy v =
-    sooner (sooner (sooner (rolls_next v) (deletions policy v)) (change policy v))
-    (renewals policy v policy.scheme)
+    sooner (sooner (sooner (sooner (rolls_next v) (deletions policy v)) (change policy v))
+    (renewals policy v policy.scheme)) (stuck (stuck_of policy v))

@@ -1,9 +1,13 @@
 -- What there is to do, and what of it comes first.
 use Rattle.std.specs.Prelude.{ℕ, Bool, ◌&&◌, ◌||◌, nat_eq, nat_lt, if◌then◌else◌}
-use Rattle.dnssec_key.specs.declared.roll.RollType.{RollType}
+use Rattle.std.specs.Prelude.{Option, None, Some}
 use Rattle.dnssec_keyset.specs.Step.{Call}
 use Rattle.dnssec_run.specs.declared.caches.SetKind.{SetKind}
+use Rattle.dnssec_run.specs.declared.caches.SetKind.TheVariants.{Ds}
 use Rattle.dnssec_policy.specs.declared.policy.KeyRole.{KeyRole}
+use Rattle.dnssec_policy.specs.declared.todo.Cds.{Cds}
+use Rattle.dnssec_policy.specs.declared.todo.Cds.TheVariants.{In, Out}
+use Rattle.dnssec_policy.specs.declared.why.Why.{Why}
 
 -- what to do next
 pub data Todo : Type 0 where
@@ -17,10 +21,17 @@ pub data Todo : Type 0 where
   Watch : SetKind → Todo
   -- nothing before this moment
   NotBefore : ℕ → Todo
-  -- nothing, though this roll is in progress: its wait is over after all time, or its step unknown
-  Stuck : RollType → Todo
+  -- nothing, though the policy wants something: why
+  Stuck : Why → Todo
   -- nothing
   Rest : Todo
+
+-- What is asked of CDS and CDNSKEY beside it. They are in the zone while the DS set changes. They leave
+-- once all servers of the parent give it, and that is noted only once no server gives them.
+abbrev pub cds_with : Todo → Option Cds
+cds_with (Publish Ds) = Some In
+cds_with (Watch Ds) = Some Out
+cds_with _ = None
 
 -- the smaller, the more urgent: a call, then what the operator has to do, then what to wait for
 abbrev pub rank : Todo → ℕ
@@ -29,7 +40,7 @@ rank (Publish kind) = 1
 rank (NeedKey role) = 2
 rank (Watch kind) = 3
 rank (NotBefore moment) = 4
-rank (Stuck roll) = 5
+rank (Stuck why) = 5
 rank Rest = 6
 
 -- the moment before which there is nothing to do

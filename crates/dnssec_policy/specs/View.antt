@@ -5,7 +5,7 @@ use Rattle.dnssec_keyset.specs.KeySet.{KeySetParts}
 use Rattle.dnssec_keyset.specs.declared.wait.WaitEnd.{WaitEnd}
 use Rattle.dnssec_run.specs.declared.caches.SetKind.{SetKind}
 use Rattle.dnssec_run.specs.declared.steps.LastStep.{LastStep}
-use Rattle.dnssec_run.specs.Safe.{kind_of}
+use Rattle.dnssec_run.specs.Safe.{SetKind as SafeKind, kind_of}
 use Rattle.dnssec_network.specs.declared.fact.Before.{Before}
 use Rattle.dnssec_network.specs.declared.fact.Fact.{Fact}
 use Rattle.dnssec_network.specs.declared.reach.Reach.{Reach}
@@ -18,6 +18,7 @@ pub record View : Type 0 where
   pub step : RollType → Option LastStep  -- a roll's last start or first wait
   pub last : RollType → Option ℕ  -- the position of its last second wait
   pub end : RollType → Option WaitEnd  -- when its wait is over
+  pub highest : SafeKind → ℕ  -- the highest TTL noted of a kind
   pub before : Before
   pub facts : List Fact
   pub now : ℕ

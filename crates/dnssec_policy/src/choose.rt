@@ -13,6 +13,7 @@ use crate::policy::Policy;
 use crate::starts::{change, renewals};
 use crate::state::{Ends, State};
 use crate::todo::Next;
+use crate::unmet::stuck_of;
 use dnssec_keyset::Key;
 use std::alloc::{AllocError, Global};
 
@@ -48,5 +49,7 @@ fn of_keys<'a>(
     let renewals = renewals(alloc, policy, state, keys)?;
     let one = rolls_next(state, ends).or(deletions(policy, state, keys));
     let two = one.or(change);
-    Ok(two.or(renewals))
+    let three = two.or(renewals);
+    let why = stuck_of(policy, state, ends, keys);
+    Ok(three.or(Next::without(why)))
 }

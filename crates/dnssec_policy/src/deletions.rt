@@ -20,7 +20,7 @@ use dnssec_keyset::{Key, KeyType, RollType, UnixTime};
 use dnssec_zone::all_rolls;
 
 /// Whether a roll is in progress that may change such a key.
-fn is_rolled(state: &State<'_>, kind: KeyType) -> bool
+pub(crate) fn is_rolled(state: &State<'_>, kind: KeyType) -> bool
     ensures { result ≡ is_rolled state.now.keyset.now.rolls kind }
 {
     all_rolls().iter().any(|roll| is_in_progress(state, *roll) && is_of_side(side_of(*roll), kind))

@@ -7,14 +7,17 @@ ghost use Rattle.dnssec_run.specs.Steps.{step_of};
 ghost use Rattle.dnssec_zone.specs.Rolls.{phase_of};
 ghost use Rattle.dnssec_policy.specs.Code.{end_of, last_of, todo_of, view_of};
 ghost use Rattle.dnssec_policy.specs.InProgress.{awaited, end_next, ends_with, is_wait_for};
-ghost use Rattle.dnssec_policy.specs.InProgress.{once_settled, once_there, report_next, wait_next};
+ghost use Rattle.dnssec_policy.specs.InProgress.{later, once_settled, once_there, report_next};
+ghost use Rattle.dnssec_policy.specs.InProgress.{report_or, report_with, wait_next};
+ghost use Rattle.dnssec_run.specs.WholeRolls.{is_second};
 ghost use Rattle.dnssec_policy.specs.Next.{phase_next, rolls_next};
 
 use crate::state::{Ends, State};
 use crate::todo::Next;
+use crate::why::Why;
 use dnssec_key::Half;
 use dnssec_keyset::{Action, RollState, RollType, UnixTime, WaitEnd};
-use dnssec_network::Reach;
+use dnssec_network::{Origins, Reach};
 use dnssec_run::SetKind;
 use dnssec_zone::all_rolls;
 use std::time::Duration;
@@ -35,41 +38,88 @@ pub(crate) fn is_in_progress(state: &State<'_>, roll: RollType) -> bool
 
 // ---- reports
 
-/// What a report waits for of a kind. Of sets that are on all servers it is a TTL that 32 bits can
-/// hold: there is one a second later.
+/// Nothing for a second: the TTL of a report is one that 32 bits can hold.
+fn later<'a>(now: UnixTime) -> Next<'a>
+    ensures { todo_of now result ≡ later now }
+{
+    Next::NotBefore {
+        moment: nanos(now) + 1_000_000_000,
+    }
+}
+
+/// What a report waits for of a kind.
 fn awaited<'a>(reach: Reach, kind: SetKind, now: UnixTime) -> Next<'a>
     ensures { todo_of now result ≡ awaited reach kind now }
 {
     match reach {
         Reach::Unpublished => Next::Publish { kind },
         Reach::Spreading => Next::Watch { kind },
-        Reach::Everywhere => Next::NotBefore {
-            moment: nanos(now) + 1_000_000_000,
-        },
+        Reach::Everywhere => later(now),
     }
 }
 
-/// A report with the TTL that is due, or what it still waits for.
+/// A report with this TTL.
+fn report_with<'a>(state: &State<'a>, roll: RollType, half: Half, ttl: u64) -> Next<'a>
+    ensures { (end : AnyRoll → Option AnyEnd) → todo_of state.now.moment result
+        ≡ report_with (view_of state.now end) roll (which half) ttl }
+{
+    match u32::try_from(ttl) {
+        Ok(ttl) => Next::Report { roll, half, ttl },
+        Err(_) => later(state.moment),
+    }
+}
+
+/// Whether it is the second half of a roll.
+fn is_second(half: Half) -> bool
+    ensures { result ≡ is_second (which half) }
+{
+    match half {
+        Half::First => false,
+        Half::Second => true,
+    }
+}
+
+/// A report that lasts longer than the TTL that is due, or what it waits for of the sets that came
+/// at these positions.
+fn report_or<'a>(
+    state: &State<'a>,
+    roll: RollType,
+    half: Half,
+    origins: Origins,
+    due: Result<u32, SetKind>,
+) -> Next<'a>
+    ensures { (end : AnyRoll → Option AnyEnd) → todo_of state.now.moment result
+        ≡ report_or (view_of state.now end) roll (which half) origins due }
+{
+    match due {
+        Ok(due) => {
+            let second = is_second(half);
+            let ttl = state.highest.lasting(roll, second, u64::from(due));
+            report_with(state, roll, half, ttl)
+        }
+        Err(kind) => {
+            let reach = state.notes.reach(kind, origins.of(kind), state.moment);
+            awaited(reach, kind, state.moment)
+        }
+    }
+}
+
+/// A report, or what it still waits for, by the last step of its roll.
 fn report_next<'a>(state: &State<'a>, roll: RollType, half: Half) -> Next<'a>
     ensures { (end : AnyRoll → Option AnyEnd) → todo_of state.now.moment result
         ≡ report_next (view_of state.now end) roll (which half) (step_of state.now.steps roll) }
 {
-    let second = match half {
-        Half::First => false,
-        Half::Second => true,
-    };
     match state.steps.of(roll) {
-        None => Next::Stuck { roll },
-        Some(step) => match state
-            .notes
-            .ttl_due(roll, second, step.origins, state.moment)
-        {
-            Ok(ttl) => Next::Report { roll, half, ttl },
-            Err(kind) => {
-                let reach = state.notes.reach(kind, step.origins.of(kind), state.moment);
-                awaited(reach, kind, state.moment)
-            }
+        None => Next::Stuck {
+            why: Why::NoStep { roll },
         },
+        Some(step) => {
+            let second = is_second(half);
+            let due = state
+                .notes
+                .ttl_due(roll, second, step.origins, state.moment);
+            report_or(state, roll, half, step.origins, due)
+        }
     }
 }
 
@@ -89,7 +139,12 @@ fn wait_next<'a>(state: &State<'a>, roll: RollType, half: Half, end: &Option<Wai
                 Next::NotBefore { moment }
             }
         }
-        _ => Next::Stuck { roll },
+        Some(WaitEnd::PastTime) => Next::Stuck {
+            why: Why::PastTime { roll },
+        },
+        None => Next::Stuck {
+            why: Why::NoStamp { roll },
+        },
     }
 }
 
@@ -158,7 +213,9 @@ fn end_next<'a>(state: &State<'a>, roll: RollType) -> Next<'a>
         ≡ end_next (view_of state.now end) roll (last_of state.now.last_waits roll) }
 {
     match state.last_waits.of(roll) {
-        None => Next::Stuck { roll },
+        None => Next::Stuck {
+            why: Why::NoLastWait { roll },
+        },
         Some(base) => once_settled(state, roll, base, Next::Done { roll }),
     }
 }
@@ -166,7 +223,7 @@ fn end_next<'a>(state: &State<'a>, roll: RollType) -> Next<'a>
 // ---- by their phases
 
 /// A roll in its phase; nothing if it isn't in progress.
-fn phase_next<'a>(state: &State<'a>, ends: &Ends, roll: RollType) -> Next<'a>
+pub(crate) fn phase_next<'a>(state: &State<'a>, ends: &Ends, roll: RollType) -> Next<'a>
     ensures { todo_of state.now.moment result
         ≡ phase_next (view_of state.now (end_of ends.now)) roll
         (phase_of state.now.keyset.now.rolls roll) }

@@ -5,7 +5,10 @@ ghost use Rattle.dnssec_policy.specs.Laws.{AutomaticEndsFollow, AutomaticReports
 ghost use Rattle.dnssec_policy.specs.Laws.{AutomaticRunsArePlain, AutomaticRunsGrow};
 ghost use Rattle.dnssec_policy.specs.Laws.{AutomaticRunsKeepWhole, AutomaticRunsReachResolvers};
 ghost use Rattle.dnssec_policy.specs.Laws.{ChangesStartInTime, NextGoesOn, NextIsAccepted};
-ghost use Rattle.dnssec_policy.specs.Laws.{RenewalsStartInTime, RestIsAsWanted};
+ghost use Rattle.dnssec_policy.specs.Laws.{NothingIsSilent};
+ghost use Rattle.dnssec_policy.specs.Laws.{EndsAreInTime, RenewalsStartInTime, ReportsAreInTime};
+ghost use Rattle.dnssec_policy.specs.Laws.{ReportsCountNoLonger, RestIsAsWanted};
+ghost use Rattle.dnssec_policy.specs.Kept.{AutomaticRunsServeKeepers, KeptAlgorithmsSign};
 
 /// If each call adds a key or was said by `next`, the list of calls is plain, and keeps the sets
 /// whole.
@@ -26,6 +29,13 @@ pub fn automatic_runs_reach_resolvers()
     ensures { AutomaticRunsReachResolvers }
 {}
 
+/// So do validators that ask for a chain by each algorithm of a DS set, and keep its algorithms with
+/// a DNSKEY set that they checked by it.
+pub fn automatic_runs_serve_keepers()
+    ensures chain { AutomaticRunsServeKeepers }
+    ensures sign { KeptAlgorithmsSign }
+{}
+
 /// A call that `next` says isn't refused, memory aside.
 pub fn next_is_accepted()
     ensures { NextIsAccepted }
@@ -35,6 +45,16 @@ pub fn next_is_accepted()
 /// moment that is to come: at the latest that at which a wait is over.
 pub fn next_goes_on()
     ensures { NextGoesOn }
+{}
+
+/// A report counts no longer than the highest TTLs noted say. Once all servers have what it speaks of,
+/// by the notes, it is said, or another call; and so is the end of a roll, once they have what its
+/// last actions wait for. So a roll takes the time until servers have the sets of its three steps, and
+/// its two waits: these last no longer than `HighestTtls::roll_takes` counts.
+pub fn rolls_are_in_time()
+    ensures counts { ReportsCountNoLonger }
+    ensures reports { ReportsAreInTime }
+    ensures ends { EndsAreInTime }
 {}
 
 /// A roll that is ended, as `next` said, has left nothing that isn't on all servers yet.
@@ -54,7 +74,12 @@ pub fn starts_are_in_time()
     ensures changes { ChangesStartInTime }
 {}
 
-/// If nothing is said, the zone is as the policy wants it.
+/// Whatever the policy wants is done, or what is in its way is said by `stuck`.
+pub fn nothing_is_silent()
+    ensures { NothingIsSilent }
+{}
+
+/// If nothing is said, the zone is as the policy wants it, and nothing is stuck.
 pub fn rest_is_as_wanted()
     ensures { RestIsAsWanted }
 {}

@@ -13,15 +13,21 @@ mod policy;
 mod starts;
 mod state;
 mod todo;
+mod ttls;
+mod unmet;
+mod why;
 
 pub use choose::next;
 pub use last_waits::LastWaits;
 pub use laws::{
     answers_are_said, automatic_deletions_follow, automatic_ends_follow,
     automatic_reports_are_by_notes, automatic_runs_are_plain, automatic_runs_grow,
-    automatic_runs_reach_resolvers, next_goes_on, next_is_accepted, rest_is_as_wanted,
-    starts_are_in_time,
+    automatic_runs_reach_resolvers, automatic_runs_serve_keepers, next_goes_on, next_is_accepted,
+    nothing_is_silent, rest_is_as_wanted, rolls_are_in_time, starts_are_in_time,
 };
-pub use policy::{KeyRole, KskMethod, Policy, Renewal, Scheme, ZskMethod};
+pub use policy::{KeyRole, KskMethod, Policy, Scheme, Term, ZskMethod};
 pub use state::State;
-pub use todo::Next;
+pub use todo::{Cds, Next};
+pub use ttls::HighestTtls;
+pub use unmet::stuck;
+pub use why::Why;

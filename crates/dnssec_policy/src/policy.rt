@@ -1,5 +1,8 @@
 //! What an operator wants of a zone's keys.
-use dnssec_keyset::{SecurityAlgorithm, UnixTime};
+ghost use Rattle.std.specs.Prelude.{◌≡◌};
+ghost use Rattle.dnssec_policy.specs.Keys.{ksk_roll, zsk_roll};
+
+use dnssec_keyset::{RollType, SecurityAlgorithm, UnixTime};
 
 /// The role of a key.
 #[derive(Clone, Copy, Debug, PartialEq)]
@@ -18,6 +21,18 @@ pub enum KskMethod {
     DoubleDs,
 }
 
+impl KskMethod {
+    /// The roll by which KSKs are rolled so.
+    pub fn roll(self) -> RollType
+        ensures { result ≡ ksk_roll self }
+    {
+        match self {
+            KskMethod::DoubleSignature => RollType::KskRoll,
+            KskMethod::DoubleDs => RollType::KskDoubleDsRoll,
+        }
+    }
+}
+
 /// How ZSKs are rolled.
 #[derive(Clone, Copy, Debug, PartialEq)]
 pub enum ZskMethod {
@@ -25,6 +40,18 @@ pub enum ZskMethod {
     PrePublish,
     /// By a `zsk-double-signature-roll`: both keys sign the zone for a while.
     DoubleSignature,
+}
+
+impl ZskMethod {
+    /// The roll by which ZSKs are rolled so.
+    pub fn roll(self) -> RollType
+        ensures { result ≡ zsk_roll self }
+    {
+        match self {
+            ZskMethod::PrePublish => RollType::ZskRoll,
+            ZskMethod::DoubleSignature => RollType::ZskDoubleSignatureRoll,
+        }
+    }
 }
 
 /// Which keys sign a zone (RFC 6781, section 3.1), and how they are rolled.
@@ -38,7 +65,7 @@ pub enum Scheme {
 
 /// When keys of a role are renewed. None of both: never.
 #[derive(Clone, Copy, Debug)]
-pub struct Renewal {
+pub struct Term {
     /// By itself: so many seconds after the key was published.
     pub lifetime: Option<u64>,
     /// On demand: from this moment on, if the key was published before it.
@@ -52,9 +79,9 @@ pub struct Policy {
     pub algorithm: SecurityAlgorithm,
     pub scheme: Scheme,
     /// When KSKs or CSKs are renewed.
-    pub ksk: Renewal,
+    pub ksk: Term,
     /// When ZSKs are renewed.
-    pub zsk: Renewal,
+    pub zsk: Term,
     /// For how many seconds a key stays in the key set after it was withdrawn.
     pub delete_after: u64,
 }

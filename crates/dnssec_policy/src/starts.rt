@@ -8,14 +8,14 @@ ghost use Rattle.dnssec_zone.specs.Keys.{Keys, some_key};
 ghost use Rattle.dnssec_zone.specs.Start.{are_apart, conflict, has_conflict, texts, together};
 ghost use Rattle.dnssec_keyset.specs.declared.wait.WaitEnd.{WaitEnd as AnyEnd};
 ghost use Rattle.dnssec_policy.specs.Code.{AreKeysOf, entry_of, news_of, todo_of, view_of};
-ghost use Rattle.dnssec_policy.specs.Keys.{earlier, first_over, is_unwanted, ksk_roll, new_keys};
+ghost use Rattle.dnssec_policy.specs.Keys.{earlier, first_over, is_unwanted, new_keys};
 ghost use Rattle.dnssec_policy.specs.Keys.{over_by_age, over_from, over_on_demand, renewal_of};
-ghost use Rattle.dnssec_policy.specs.Keys.{role_of, roles_of, serves, wants_others, zsk_roll};
+ghost use Rattle.dnssec_policy.specs.Keys.{role_of, roles_of, serves, wants_others};
 ghost use Rattle.dnssec_policy.specs.Next.{change, may_begin, renewal, renewals, start_with};
 
 use crate::in_progress::{is_in_progress, nanos};
 use crate::keys::{Pick, is_unwanted, references, roles_of, serves};
-use crate::policy::{KeyRole, KskMethod, Policy, Renewal, Scheme, ZskMethod};
+use crate::policy::{KeyRole, Policy, Scheme, Term};
 use crate::state::State;
 use crate::todo::Next;
 use dnssec_key::{Side, side_of};
@@ -28,7 +28,7 @@ use std::time::Duration;
 
 /// Whether a roll may begin beside the rolls in progress.
 #[tactic(auto, unfolding(dnssec_zone::specs::Start::conflict))]
-fn may_begin(state: &State<'_>, roll: RollType) -> bool
+pub(crate) fn may_begin(state: &State<'_>, roll: RollType) -> bool
     ensures { (end : AnyRoll → Option AnyEnd) → result ≡ may_begin (view_of state.now end) roll }
 {
     !is_in_progress(state, roll) && !has_conflict(state, roll)
@@ -129,7 +129,7 @@ fn some_unwanted(policy: &Policy, keys: &[(&String, &Key)]) -> bool
 }
 
 /// Whether some role has no key at work, or a key is in use that the policy doesn't want.
-fn wants_others(policy: &Policy, keys: &[(&String, &Key)]) -> bool
+pub(crate) fn wants_others(policy: &Policy, keys: &[(&String, &Key)]) -> bool
     ensures { (all : Keys) → fin.entries all ≡ map entry_of keys.now
         → result ≡ wants_others policy.now all }
 {
@@ -166,26 +166,6 @@ pub(crate) fn change<'a>(
 
 // ---- keys whose time is over
 
-/// The roll by which KSKs are renewed.
-fn ksk_roll(method: KskMethod) -> RollType
-    ensures { result ≡ ksk_roll method }
-{
-    match method {
-        KskMethod::DoubleSignature => RollType::KskRoll,
-        KskMethod::DoubleDs => RollType::KskDoubleDsRoll,
-    }
-}
-
-/// The roll by which ZSKs are renewed.
-fn zsk_roll(method: ZskMethod) -> RollType
-    ensures { result ≡ zsk_roll method }
-{
-    match method {
-        ZskMethod::PrePublish => RollType::ZskRoll,
-        ZskMethod::DoubleSignature => RollType::ZskDoubleSignatureRoll,
-    }
-}
-
 /// The role of the keys that such a roll renews.
 fn role_of(roll: RollType) -> KeyRole
     ensures { result ≡ role_of roll }
@@ -198,7 +178,7 @@ fn role_of(roll: RollType) -> KeyRole
 }
 
 /// When keys of a role are renewed.
-fn renewal_of(policy: &Policy, role: KeyRole) -> Renewal
+fn renewal_of(policy: &Policy, role: KeyRole) -> Term
     ensures { result ≡ renewal_of policy.now role }
 {
     match role {
@@ -252,7 +232,7 @@ fn start() -> UnixTime
 
 /// The moment from which a key's time is over, if ever. One without the stamp of its publication
 /// counts as old.
-fn over_from(renewal: &Renewal, published: Option<UnixTime>) -> Option<u128>
+fn over_from(renewal: &Term, published: Option<UnixTime>) -> Option<u128>
     ensures { result ≡ over_from renewal.now published }
 {
     let published = match published {
@@ -264,7 +244,7 @@ fn over_from(renewal: &Renewal, published: Option<UnixTime>) -> Option<u128>
 }
 
 /// The first such moment of the keys at work.
-fn first_over(role: KeyRole, renewal: &Renewal, keys: &[(&String, &Key)]) -> Option<u128>
+fn first_over(role: KeyRole, renewal: &Term, keys: &[(&String, &Key)]) -> Option<u128>
     ensures { result ≡ first_over role renewal.now (map (λ e. e.1.now) keys.now) }
 {
     let mut best = None;
@@ -277,7 +257,7 @@ fn first_over(role: KeyRole, renewal: &Renewal, keys: &[(&String, &Key)]) -> Opt
 }
 
 /// The first such moment of the keys that a roll renews.
-fn first_due(policy: &Policy, roll: RollType, keys: &[(&String, &Key)]) -> Option<u128>
+pub(crate) fn first_due(policy: &Policy, roll: RollType, keys: &[(&String, &Key)]) -> Option<u128>
     ensures { result ≡ first_over (role_of roll) (renewal_of policy.now (role_of roll))
         (map (λ e. e.1.now) keys.now) }
 {
@@ -337,10 +317,8 @@ pub(crate) fn renewals<'a>(
 {
     match policy.scheme {
         Scheme::Split(ksk, zsk) => {
-            let roll = ksk_roll(ksk);
-            let one = renewal(alloc, policy, state, keys, roll)?;
-            let other = zsk_roll(zsk);
-            let two = renewal(alloc, policy, state, keys, other)?;
+            let one = renewal(alloc, policy, state, keys, ksk.roll())?;
+            let two = renewal(alloc, policy, state, keys, zsk.roll())?;
             Ok(one.or(two))
         }
         Scheme::SingleType => {

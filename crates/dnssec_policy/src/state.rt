@@ -5,6 +5,7 @@ ghost use Rattle.dnssec_keyset.specs.WaitEnd.{TellsEnd};
 ghost use Rattle.dnssec_policy.specs.Code.{end_of};
 
 use crate::last_waits::LastWaits;
+use crate::ttls::HighestTtls;
 use dnssec_keyset::{KeySet, RollType, UnixTime, WaitEnd};
 use dnssec_network::{Notes, Steps};
 
@@ -17,6 +18,8 @@ pub struct State<'a> {
     /// The last second waits of that record.
     pub last_waits: LastWaits,
     pub notes: &'a Notes,
+    /// The highest TTLs of these notes.
+    pub highest: HighestTtls,
     pub moment: UnixTime,
 }
 

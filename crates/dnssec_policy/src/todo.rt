@@ -3,12 +3,23 @@ ghost use Rattle.std.specs.Prelude.{◌≡◌, ◌≢◌, ℕ, IfNone, IfSome};
 ghost use Rattle.dnssec_keyset.specs.Step.{Call as AnyCall};
 ghost use Rattle.dnssec_run.specs.Record.{call_of};
 ghost use Rattle.dnssec_policy.specs.Code.{todo_of};
-ghost use Rattle.dnssec_policy.specs.Todo.{Make, is_sooner, moment_of, rank, sooner};
+ghost use Rattle.dnssec_policy.specs.Stuck.{stuck};
+ghost use Rattle.dnssec_policy.specs.Todo.{Make, cds_with, is_sooner, moment_of, rank, sooner};
 
 use crate::policy::KeyRole;
+use crate::why::Why;
 use dnssec_key::Half;
 use dnssec_keyset::{RollType, UnixTime};
 use dnssec_run::{Call, SetKind};
+
+/// What is asked of CDS and CDNSKEY.
+#[derive(Clone, Copy, Debug, PartialEq)]
+pub enum Cds {
+    /// They go into the zone, for the keys that have to have a DS.
+    In,
+    /// They leave the zone.
+    Out,
+}
 
 /// What to do next. A call is to be made with the moment at which it was said.
 #[derive(Drop)]
@@ -38,7 +49,8 @@ pub enum Next<'a> {
     Delete {
         reference: &'a str,
     },
-    /// Note that the sets of this kind are published as they are due now, and publish them.
+    /// Note that the sets of this kind are published as they are due now, and publish them. With a
+    /// DS set CDS goes in, until all servers of the parent give it.
     Publish {
         kind: SetKind,
     },
@@ -46,7 +58,8 @@ pub enum Next<'a> {
     NeedKey {
         role: KeyRole,
     },
-    /// See whether all servers give what was published of this kind, and note it.
+    /// See whether all servers give what was published of this kind, and note it. Once they give a
+    /// DS set CDS goes out, and it is noted only once no server gives CDS any more.
     Watch {
         kind: SetKind,
     },
@@ -54,10 +67,9 @@ pub enum Next<'a> {
     NotBefore {
         moment: u128,
     },
-    /// Do nothing, though this roll is in progress: its wait is over after all time, or its step is
-    /// unknown.
+    /// Do nothing, though the policy wants something.
     Stuck {
-        roll: RollType,
+        why: Why,
     },
     /// Do nothing.
     Rest,
@@ -111,6 +123,28 @@ impl<'a> Next<'a> {
             }),
             Next::Delete { reference } => Some(Call::DeleteKey { pubref: *reference }),
             _ => None,
+        }
+    }
+
+    /// What is asked of CDS and CDNSKEY beside it, if anything: they are in the zone while the DS set
+    /// changes, and leave before it is noted that all servers of the parent give it.
+    pub fn cds(&self) -> Option<Cds>
+        ensures { (now : ℕ) → result ≡ cds_with (todo_of now self.now) }
+    {
+        match self {
+            Next::Publish { kind: SetKind::Ds } => Some(Cds::In),
+            Next::Watch { kind: SetKind::Ds } => Some(Cds::Out),
+            _ => None,
+        }
+    }
+
+    /// Nothing, for this cause if there is one.
+    pub(crate) fn without(why: Option<Why>) -> Next<'a>
+        ensures { (now : ℕ) → todo_of now result ≡ stuck why }
+    {
+        match why {
+            None => Next::Rest,
+            Some(why) => Next::Stuck { why },
         }
     }
 

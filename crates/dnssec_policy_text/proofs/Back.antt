@@ -5,7 +5,7 @@ use Rattle.std.proofs.Common.{Bool, decimal, refl, sym, true}
 use Rattle.std.proofs.lemmas.List.Folds.{list_all-append}
 use Rattle.std.specs.List.{list_all}
 use Rattle.dnssec_script.specs.Script.{lines_of}
-use Rattle.dnssec_policy.specs.declared.policy.{KeyRole.KeyRole, Policy.Policy, Renewal.Renewal}
+use Rattle.dnssec_policy.specs.declared.policy.{KeyRole.KeyRole, Policy.Policy, Term.Term}
 use Rattle.dnssec_policy.specs.declared.policy.KeyRole.TheVariants.{Ksk, Zsk, Csk}
 use Rattle.dnssec_policy.specs.declared.policy.{KskMethod.KskMethod, Scheme.Scheme}
 use Rattle.dnssec_policy.specs.declared.policy.Scheme.TheVariants.{Split, SingleType}
@@ -38,7 +38,7 @@ lifetime_line role n = bare (word.Lifetime role) n
 abbrev once_line : KeyRole → ℕ → List ℕ
 once_line role t = bare (word.Once role) (t / 1_000_000_000)
 
-abbrev renewal_lines : KeyRole → Renewal → List (List ℕ)
+abbrev renewal_lines : KeyRole → Term → List (List ℕ)
 renewal_lines role r =
     said_lines (lifetime_line role) r.lifetime ++ said_lines (once_line role) r.once
 
@@ -64,7 +64,7 @@ once-text : (role : KeyRole) (o : Option ℕ)
 once-text role None = refl
 once-text role (Some t) = bare-text (word.Once role) (t / 1_000_000_000)
 
-renewal-text : (role : KeyRole) (r : Renewal) → renewal_text role r ≡ text_of (renewal_lines role r)
+renewal-text : (role : KeyRole) (r : Term) → renewal_text role r ≡ text_of (renewal_lines role r)
 renewal-text role r =
     (λ i. lifetime-text role r.lifetime i ++ once-text role r.once i)
     ∙ sym (text-append (said_lines (lifetime_line role) r.lifetime)
@@ -123,7 +123,7 @@ once-lacks role None so = refl
 once-lacks role (Some t) so =
     both (bare-lacks (word.Once role) (t / 1_000_000_000) (second-small t so)) refl
 
-renewal-lacks : (role : KeyRole) (r : Renewal) → IsSayableRenewal r
+renewal-lacks : (role : KeyRole) (r : Term) → IsSayableRenewal r
     → AllLack (renewal_lines role r)
 renewal-lacks role r so = all-append (said_lines (lifetime_line role) r.lifetime)
     (said_lines (once_line role) r.once) (lifetime-lacks role r.lifetime so.0)

@@ -4,10 +4,8 @@
 -- |----------------------|------------------------|-----------------------------|
 -- | `read_wishes`        | `one-more`, `faulty`   | Steps                       |
 -- | `policy_text`        | `text-back`            | Back, Wishing, Numbers, Cut |
--- | `HighestTtls::after` | `raised-by`            | Highest                     |
 pub mod Steps
 pub mod Cut
 pub mod Numbers
 pub mod Wishing
 pub mod Back
-pub mod Highest

@@ -9,7 +9,7 @@ use Rattle.dnssec_policy.specs.declared.policy.KeyRole.{KeyRole}
 use Rattle.dnssec_policy.specs.declared.policy.KeyRole.TheVariants.{Ksk, Zsk, Csk}
 use Rattle.dnssec_policy.specs.declared.policy.KskMethod.{KskMethod}
 use Rattle.dnssec_policy.specs.declared.policy.KskMethod.TheVariants as ksks
-use Rattle.dnssec_policy.specs.declared.policy.Renewal.{Renewal}
+use Rattle.dnssec_policy.specs.declared.policy.Term.{Term}
 use Rattle.dnssec_policy.specs.declared.policy.Scheme.{Scheme}
 use Rattle.dnssec_policy.specs.declared.policy.Scheme.TheVariants.{Split, SingleType}
 use Rattle.dnssec_policy.specs.declared.policy.ZskMethod.{ZskMethod}
@@ -137,18 +137,18 @@ abbrev pub unless_said : {A : Type 0} → Option ℕ → A → Option A
 unless_said None x = Some x
 unless_said (Some n) x = None
 
-abbrev pub with_lifetime : Renewal → ℕ → Option Renewal
+abbrev pub with_lifetime : Term → ℕ → Option Term
 with_lifetime r n = unless_said r.lifetime (record { lifetime = Some n; once = r.once })
 
-abbrev pub with_once : Renewal → ℕ → Option Renewal
+abbrev pub with_once : Term → ℕ → Option Term
 with_once r t = unless_said r.once (record { lifetime = r.lifetime; once = Some t })
 
 -- when keys of a role are renewed
-abbrev pub slot : Draft → KeyRole → Renewal
+abbrev pub slot : Draft → KeyRole → Term
 slot d Zsk = d.zsk
 slot d _ = d.ksk
 
-abbrev pub with_slot : Draft → KeyRole → Renewal → Draft
+abbrev pub with_slot : Draft → KeyRole → Term → Draft
 with_slot d Zsk r = record { ksk = d.ksk; zsk = r; delete_after = d.delete_after }
 with_slot d _ r = record { ksk = r; zsk = d.zsk; delete_after = d.delete_after }
 

@@ -6,7 +6,7 @@ use Rattle.dnssec_policy.specs.declared.policy.KeyRole.TheVariants.{Ksk, Zsk, Cs
 use Rattle.dnssec_policy.specs.declared.policy.KskMethod.{KskMethod}
 use Rattle.dnssec_policy.specs.declared.policy.KskMethod.TheVariants as ksks
 use Rattle.dnssec_policy.specs.declared.policy.Policy.{Policy}
-use Rattle.dnssec_policy.specs.declared.policy.Renewal.{Renewal}
+use Rattle.dnssec_policy.specs.declared.policy.Term.{Term}
 use Rattle.dnssec_policy.specs.declared.policy.Scheme.{Scheme}
 use Rattle.dnssec_policy.specs.declared.policy.Scheme.TheVariants.{Split, SingleType}
 use Rattle.dnssec_policy.specs.declared.policy.ZskMethod.{ZskMethod}
@@ -56,7 +56,7 @@ abbrev pub once_text : KeyRole → Option ℕ → List ℕ
 once_text role None = []
 once_text role (Some t) = number_line (word.Once role) (t / 1_000_000_000)
 
-abbrev pub renewal_text : KeyRole → Renewal → List ℕ
+abbrev pub renewal_text : KeyRole → Term → List ℕ
 renewal_text role r = lifetime_text role r.lifetime ++ once_text role r.once
 
 abbrev pub renewals_text : Policy → Scheme → List ℕ
@@ -79,7 +79,7 @@ IsNumber n = n ≤ 18446744073709551615
 abbrev pub IsSecond : ℕ → Type 0
 IsSecond t = (second : ℕ) × IsNumber second × (t ≡ second * 1_000_000_000)
 
-abbrev pub IsSayableRenewal : Renewal → Type 0
+abbrev pub IsSayableRenewal : Term → Type 0
 IsSayableRenewal r = IfSome r.lifetime IsNumber × IfSome r.once IsSecond
 
 -- CSKs alone say nothing of ZSKs

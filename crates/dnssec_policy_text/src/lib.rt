@@ -7,7 +7,8 @@ mod reading;
 mod wish;
 mod writing;
 
+pub use dnssec_policy::HighestTtls;
 pub use fault::PolicyFault;
-pub use lint::{HighestTtls, TooShort, too_short};
+pub use lint::{TooShort, too_short};
 pub use reading::read_policy;
 pub use writing::policy_text;

@@ -11,7 +11,7 @@ ghost use Rattle.dnssec_policy_text.specs.Reading.{line_after, policy_with, said
 
 use crate::fault::LineFault;
 use dnssec_keyset::{SecurityAlgorithm, UnixTime};
-use dnssec_policy::{KeyRole, KskMethod, Policy, Renewal, Scheme, ZskMethod};
+use dnssec_policy::{KeyRole, KskMethod, Policy, Scheme, Term, ZskMethod};
 use dnssec_script::Fields;
 
 // ---- the first line
@@ -212,7 +212,7 @@ fn is_for(scheme: Scheme, wish: &Wish) -> bool
 }
 
 /// Keys that are never renewed.
-const NEVER: Renewal = Renewal {
+const NEVER: Term = Term {
     lifetime: None,
     once: None,
 };
@@ -221,18 +221,18 @@ const NEVER: Renewal = Renewal {
 #[derive(Clone, Copy)]
 pub(crate) struct Draft {
     /// Of KSKs or CSKs.
-    ksk: Renewal,
-    zsk: Renewal,
+    ksk: Term,
+    zsk: Term,
     delete_after: Option<u64>,
 }
 
 /// The same with a lifetime, if it has none.
-fn with_lifetime(renewal: &Renewal, seconds: u64) -> Option<Renewal>
+fn with_lifetime(renewal: &Term, seconds: u64) -> Option<Term>
     ensures { result ≡ with_lifetime renewal.now seconds }
 {
     match renewal.lifetime {
         Some(_) => None,
-        None => Some(Renewal {
+        None => Some(Term {
             lifetime: Some(seconds),
             once: renewal.once,
         }),
@@ -240,12 +240,12 @@ fn with_lifetime(renewal: &Renewal, seconds: u64) -> Option<Renewal>
 }
 
 /// The same on demand, if it isn't yet.
-fn with_once(renewal: &Renewal, moment: UnixTime) -> Option<Renewal>
+fn with_once(renewal: &Term, moment: UnixTime) -> Option<Term>
     ensures { result ≡ with_once renewal.now moment }
 {
     match renewal.once {
         Some(_) => None,
-        None => Some(Renewal {
+        None => Some(Term {
             lifetime: renewal.lifetime,
             once: Some(moment),
         }),
@@ -265,7 +265,7 @@ impl Draft {
     }
 
     /// When keys of a role are renewed.
-    fn slot(&self, role: KeyRole) -> Renewal
+    fn slot(&self, role: KeyRole) -> Term
         ensures { result ≡ slot self.now role }
     {
         match role {
@@ -274,7 +274,7 @@ impl Draft {
         }
     }
 
-    fn with_slot(&self, role: KeyRole, renewal: &Renewal) -> Self
+    fn with_slot(&self, role: KeyRole, renewal: &Term) -> Self
         ensures { result ≡ with_slot self.now role renewal.now }
     {
         match role {

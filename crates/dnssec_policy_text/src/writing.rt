@@ -9,7 +9,7 @@ ghost use Rattle.dnssec_policy_text.specs.Writing.{word_name, zsk_name};
 
 use crate::wish::Word;
 use dnssec_keyset::UnixTime;
-use dnssec_policy::{KeyRole, KskMethod, Policy, Renewal, Scheme, ZskMethod};
+use dnssec_policy::{KeyRole, KskMethod, Policy, Scheme, Term, ZskMethod};
 use std::alloc::{AllocError, Global};
 use std::time::Duration;
 
@@ -83,7 +83,7 @@ fn push_renewals(text: &mut String, policy: &Policy) -> Result<(), AllocError>
 }
 
 /// Writes when keys of a role are renewed.
-fn push_renewal(text: &mut String, role: KeyRole, renewal: &Renewal) -> Result<(), AllocError>
+fn push_renewal(text: &mut String, role: KeyRole, renewal: &Term) -> Result<(), AllocError>
     ensures { OnOk result (string_bytes text.new ≡ string_bytes text.old
         ++ renewal_text role renewal.now) }
 {

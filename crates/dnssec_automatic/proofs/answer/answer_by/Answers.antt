@@ -8,7 +8,7 @@ returns c =
     let z = c.in_ok-zone.ensures in let r = z.resumes in
     let notes = c.in_ok-zone.zone.noted.notes in
     let policy = c.args.policy.now in
-    let said = c.in_ok-line.ensures r.name r.calls r.entries r.after in
+    let said = c.in_ok-line.ensures r.name r.calls r.entries r.after z.highest in
     record {
       name = r.name;
       calls = r.calls;

@@ -11,6 +11,7 @@ returns c = λ name calls entries network time s end policy call knows tells is 
     step = λ roll. knows.steps roll;
     last = knows.lasts;
     end = tells;
+    highest = knows.highest;
     are_true = knows.are_true;
   };
   clock = clock;

@@ -13,9 +13,9 @@ returns-in_ok-two-in-Split c end same =
     let v = view_of a.state.now end in
     let policy = a.policy.now in
     let one = c.in_ok-one-in-Split.ensures end same
-    ∙ ap (λ (r : RollType). renewal policy v r) c.ksk_roll-roll.ensures in
+    ∙ ap (λ (r : RollType). renewal policy v r) c.roll.ensures in
     let two = c.in_ok-two-in-Split.ensures end same
-    ∙ ap (λ (r : RollType). renewal policy v r) c.zsk_roll-other.ensures in
+    ∙ ap (λ (r : RollType). renewal policy v r) c.roll-in-Split.ensures in
     c.or.ensures a.state.now.moment ∙ (λ i. sooner (one i) (two i))
     ∙ ap (λ (s : Scheme). renewals policy v s) (sym c.in-Split.is)
 

@@ -5,6 +5,8 @@ use Rattle.dnssec_run.specs.Record.{world_at}
 use Rattle.dnssec_network.specs.{Facts.AreTrue, Notes.NotesParts}
 use Rattle.dnssec_policy.specs.Code.{view_of}
 use Rattle.dnssec_policy.specs.declared.state.State.{State}
+use Rattle.dnssec_policy.specs.declared.ttls.HighestTtls.{HighestTtls}
+use Rattle.dnssec_policy.specs.Ttls.{highest_of, ttl_in}
 use Rattle.dnssec_automatic.proofs.zone.AutomaticZone.next.Goals as goal
 
 pub returns : goal.returns
@@ -14,9 +16,10 @@ returns c =
       steps = c.steps.result;
       last_waits = c.args.self.now.calls.last_waits;
       notes = c.notes.result;
+      highest = c.highest.result.now;
       moment = c.args.moment;
     } in
-    IfOk-weaker c.next.result _ _ (λ next said name calls entries so.
+    IfOk-weaker c.next.result _ _ (λ next said name calls entries so high.
     let stands = so.stands in
     record {
       view = view_of state said.0;
@@ -26,6 +29,8 @@ returns c =
         step = λ roll. c.steps.ensures name calls entries stands roll;
         last = so.lasts;
         end = said.1;
+        highest = λ kind. ap (λ (h : HighestTtls). ttl_in h kind) c.highest.ensures ∙ high kind
+            ∙ ap (λ (n : NotesParts). highest_of n.before n.facts kind) (sym c.notes.ensures);
         are_true = subst (λ (n : NotesParts). AreTrue n.before n.facts network time)
             (sym c.notes.ensures) are;
       };

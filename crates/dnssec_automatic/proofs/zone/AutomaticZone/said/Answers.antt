@@ -4,13 +4,13 @@ use Rattle.dnssec_automatic.specs.Zone.{Says}
 use Rattle.dnssec_automatic.proofs.zone.AutomaticZone.said.Goals as goal
 
 pub returns-in-None : goal.returns-in-None
-returns-in-None c name calls entries so =
-    (_, c.in_ok-todo.ensures name calls entries so, c.in-None.ensures.none)
+returns-in-None c name calls entries so high =
+    (_, c.in_ok-todo.ensures name calls entries so high, c.in-None.ensures.none)
 
 pub returns : goal.returns
-returns c name calls entries so = (
+returns c name calls entries so high = (
   c.in-Some.call,
   subst (Says name calls entries c.args.policy.now c.args.moment c.args.self.now)
-      c.in-Some.ensures.some (c.in_ok-todo.ensures name calls entries so),
+      c.in-Some.ensures.some (c.in_ok-todo.ensures name calls entries so high),
   c.in_ok-made-in-Some.ensures name calls entries so,
 )

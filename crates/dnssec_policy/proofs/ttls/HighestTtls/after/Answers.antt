@@ -1,8 +1,8 @@
 -- The fact counts for its kind.
 use Rattle.std.proofs.Common.{◌∙◌, ap}
-use Rattle.dnssec_policy_text.specs.Lint.{ttl_in}
-use Rattle.dnssec_policy_text.proofs.Highest.{raised-by}
-use Rattle.dnssec_policy_text.proofs.lint.HighestTtls.after.Goals as goal
+use Rattle.dnssec_policy.specs.Ttls.{ttl_in}
+use Rattle.dnssec_policy.proofs.Highest.{raised-by}
+use Rattle.dnssec_policy.proofs.ttls.HighestTtls.after.Goals as goal
 
 pub returns : goal.returns
 returns c = λ before facts are kind.

@@ -9,8 +9,8 @@ use Rattle.dnssec_network.specs.declared.fact.{Before.Before, Fact.Fact, News.Ne
 use Rattle.dnssec_network.specs.declared.fact.News.TheVariants.{Published, Everywhere}
 use Rattle.dnssec_network.specs.Facts.{news_of, same_kind, ttl_before}
 use Rattle.dnssec_network.proofs.Passed.{after_fact, passed}
-use Rattle.dnssec_policy_text.specs.declared.lint.HighestTtls.{HighestTtls}
-use Rattle.dnssec_policy_text.specs.Lint.{AreHighest, after_news, higher_with, highest_of, ttl_in}
+use Rattle.dnssec_policy.specs.declared.ttls.HighestTtls.{HighestTtls}
+use Rattle.dnssec_policy.specs.Ttls.{AreHighest, after_news, higher_with, highest_of, ttl_in}
 
 -- the fact counts only for its kind
 grown : (before : Before) (facts : List Fact) (fact : Fact) (kind : SetKind)

@@ -1,0 +1,162 @@
+-- Validators that keep algorithms find keys of each in what they hold.
+use Rattle.std.proofs.Common.{◌≡◌, ℕ, suc, ◌+◌, ◌*◌, ◌<◌, ◌≤◌, ◌⊎◌, inl, inr, Bool, true, false, List}
+use Rattle.std.proofs.Common.{None, Some, map, max, length, refl, sym, ap, subst, ◌∙◌, arith}
+use Rattle.std.proofs.lemmas.Option.{none-some}
+use Rattle.std.specs.Prelude.{if◌then◌else◌, slice_get}
+use Rattle.dnssec_key.specs.declared.roll.RollType.{RollType}
+use Rattle.dnssec_key.specs.RollTable.{First, Second}
+use Rattle.dnssec_keyset.specs.Step as keyset
+use Rattle.dnssec_run.specs.declared.call.Call.{Call}
+use Rattle.dnssec_run.specs.declared.record.Entry.{Entry}
+use Rattle.dnssec_run.specs.declared.record.Mark.TheVariants.{Report}
+use Rattle.dnssec_run.specs.declared.steps.LastStep.{LastStep}
+use Rattle.dnssec_run.specs.{ByAlgorithm.algorithm_of, Origins.origin, Steps.origin_in}
+use Rattle.dnssec_run.specs.Record.{IsRun, call_of}
+use Rattle.dnssec_run.specs.Safe.{SetKind, Ds, Dnskey, ZoneSigners, position_at, retires}
+use Rattle.dnssec_run.specs.WholeRolls.{is_second}
+use Rattle.dnssec_run.proofs.Chain.Trust.{each-holds, mark, moment}
+use Rattle.dnssec_network.specs.ByAlgorithm.{FindChainByEach}
+use Rattle.dnssec_network.specs.Facts.{AreTrue}
+use Rattle.dnssec_network.specs.Network.{IsNetworkOf, MayBeHeld, Network, NeverGoesBack}
+use Rattle.dnssec_network.specs.Network.{NoneLiesAhead, ReportsAreTrue}
+use Rattle.dnssec_network.specs.Reports.{IsByNotes, NoneGoesBack}
+use Rattle.dnssec_network.proofs.Held.{held-cached, held-each}
+use Rattle.dnssec_network.proofs.Noted.{notes_make_reports_true}
+use Rattle.dnssec_policy.specs.declared.policy.Policy.{Policy}
+use Rattle.dnssec_policy.specs.Automatic.{IsAutomatic, IsSaid, is_add}
+use Rattle.dnssec_policy.specs.Kept.{AutomaticRunsServeKeepers, IsAutomaticKeeping, IsHeldBy}
+use Rattle.dnssec_policy.specs.Kept.{KeptAlgorithmsSign, keeping}
+use Rattle.dnssec_policy.specs.Ttls.{keeps, lasting}
+use Rattle.dnssec_policy.specs.View.{View}
+use Rattle.dnssec_policy.proofs.{Automatic.automatic-plain, May.May, Said.may, Whole.automatic-whole}
+use Rattle.dnssec_policy.proofs.Kept.{kept_before, kept_fact, still-due, still-true}
+use Rattle.dnssec_policy.proofs.Notes.{all-by-notes, none-ahead}
+
+-- ---- one call
+
+module _ (s : ℕ) where
+  -- a report that speaks of DS sets counts as long as algorithms are kept
+  counts : (h : SetKind → ℕ) (roll : RollType) (second : Bool) (least ttl : ℕ) → s ≤ keeps h
+      → ttl ≡ lasting h roll second least → (t : Bool) → retires roll second Ds ≡ t
+      → (if t then least + s else least) ≤ ttl
+  counts h roll second least ttl le is true e =
+      let long : ttl ≡ max (least + keeps h) (h ZoneSigners + 1) =
+      is ∙ ap (λ (b : Bool). if b then max (least + keeps h) (h ZoneSigners + 1) else least) e in
+      omega (arith, le, long)
+  counts h roll second least ttl le is false e =
+      let same : ttl ≡ least =
+      is ∙ ap (λ (b : Bool). if b then max (least + keeps h) (h ZoneSigners + 1) else least) e in
+      omega (arith, same)
+
+  by-view : (policy : Policy) (v : View) (network : Network) (time : ℕ)
+      → AreTrue v.before v.facts network time → s ≤ keeps v.highest
+      → (c : keyset.Call) → May policy v c → (roll : RollType) (second : Bool) (step : LastStep)
+      → (at ttl : ℕ) → v.step roll ≡ Some step → mark c ≡ Report roll second ttl
+      → moment c ≡ Some at
+      → IsByNotes (keeping s network) roll second (origin_in step.origins) at ttl time
+  by-view policy v network time are le (keyset.Report r half t now) m roll second step at ttl there
+      mk mo =
+      let there' = sym m.3 ∙ ap v.step {x = r} {y = roll} (cc) ∙ there in
+      let step-is : m.2 ≡ step = cc in
+      let roll-is : r ≡ roll = cc in
+      let half-is : is_second half ≡ second = cc in
+      let at-is : v.now ≡ at = sym m.0 ∙ cc in
+      let ttl-is : t ≡ ttl = cc in
+      let enough = counts v.highest r (is_second half) m.4 t le m.6 (retires r (is_second half) Ds)
+      refl in
+      let found = still-due s v.before v.facts v.now r (is_second half) (origin_in (m.2).origins) m.4
+      (λ speaks. let less = counts v.highest r (is_second half) m.4 t le m.6 true speaks in
+      let fits = m.7 in omega (arith, less, fits)) m.5 in
+      let most = found.2 in
+      record {
+        before = kept_before s v.before;
+        facts = map (kept_fact s) v.facts;
+        are_true = still-true s network time v.before v.facts are;
+        least = found.0;
+        is_due = rw (sym roll-is, sym half-is, sym step-is, sym at-is) found.1;
+        enough = omega (arith, ttl-is, enough, most);
+      }
+  by-view policy v network time are le (keyset.Wait r First now) m roll second step at ttl there mk
+      mo = absurd (cc)
+  by-view policy v network time are le (keyset.Wait r Second now) m roll second step at ttl there mk
+      mo = absurd (cc)
+  by-view policy v network time are le _ m roll second step at ttl there mk mo = absurd (cc)
+
+-- ---- the run
+
+pub automatic-of : {seconds : ℕ} {name : List ℕ} {calls : List Call} {entries : List Entry}
+    {network : Network} {time : ℕ} → IsAutomaticKeeping seconds name calls entries network time
+    → IsAutomatic name calls entries network time
+automatic-of auto n call is = elim (auto n call is) [ inl a ↦ inl a | inr s ↦ inr s.0 ]
+
+still-back : (seconds : ℕ) (entries : List Entry) (network : Network) (time : ℕ)
+    → NoneGoesBack entries network time → NoneGoesBack entries (keeping seconds network) time
+still-back seconds entries network time back r kind speaks =
+    let was = back (record {
+      at = r.at;
+      roll = r.roll;
+      second = r.second;
+      ttl = r.ttl;
+      moment = r.moment;
+      base = r.base;
+      after = r.after;
+      made = r.made;
+      mark = r.mark;
+      moment_is = r.moment_is;
+      base_is = r.base_is;
+    }) kind speaks in
+    record { servers = was.servers; versions = was.versions }
+
+pub serves-keepers : AutomaticRunsServeKeepers
+serves-keepers name calls entries network time seconds run auto is back =
+    let plain = automatic-plain run (automatic-of auto) in
+    let ahead = none-ahead run (automatic-of auto) in
+    let kept = keeping seconds network in
+    let reports : ReportsAreTrue entries kept time = λ r kind speaks over v held.
+    (notes_make_reports_true entries kept time (still-back seconds entries network time back)
+    (all-by-notes run (λ n c ci. elim (auto n c ci) [
+      | inl a ↦ inl a
+      | inr s ↦ inr (λ roll second step at ttl there. by-view seconds s.0.policy s.0.view network
+          time s.0.at.are_true s.1 (call_of c) (may s.0.policy s.0.view (call_of c) s.0.said) roll
+          second step at ttl (s.0.at.step roll ∙ there))
+    ])) r kind speaks).expired v time over (omega arith) held in
+    λ p q z ds keys zone.
+    let h = held-cached entries kept time is reports ahead p q z ds keys zone in
+    held-each entries h.0 (network.position Ds p) (network.position Dnskey q)
+    (network.position ZoneSigners z) h.2 h.3 h.4 calls
+    (each-holds name calls entries run plain (automatic-whole run (automatic-of auto)) h.0 h.1)
+
+-- a DNSKEY set in a cache was checked by a DS set that is held, as if for so much longer
+longer-held : (seconds : ℕ) (network : Network) (p q time : ℕ) → network.ttl Dnskey q < seconds
+    → IsHeldBy network p q time → MayBeHeld (keeping seconds network) Ds p time
+longer-held seconds network p q time less h =
+    let a = h.by.lasts in
+    let b = h.lasts in
+    let c = h.got in
+    let d = h.by.got in
+    let e = h.past in
+    record {
+      since = h.by.since;
+      given = (h.by.given.0, h.by.given.1, h.by.given.2);
+      got = omega (arith, d, e);
+      lasts = omega (arith, a, b, c, less);
+    }
+
+pub kept-sign : KeptAlgorithmsSign
+kept-sign name calls entries network time seconds p q z k run auto is back less h zone has =
+    let got = h.got in
+    let past = h.past in
+    let keys : MayBeHeld (keeping seconds network) Dnskey q time = record {
+      since = h.since;
+      given = (h.given.0, h.given.1, h.given.2);
+      got = omega (arith, got, past);
+      lasts = h.lasts;
+    } in
+    let signed : MayBeHeld (keeping seconds network) ZoneSigners z time = record {
+      since = zone.since;
+      given = (zone.given.0, zone.given.1, zone.given.2);
+      got = zone.got;
+      lasts = zone.lasts;
+    } in
+    (serves-keepers name calls entries network time seconds run auto is back p q z
+    (longer-held seconds network p q time less h) keys signed k has).1

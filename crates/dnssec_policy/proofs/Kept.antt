@@ -1,0 +1,286 @@
+-- Reports are by notes also of the network in which caches hold DS sets for so many seconds more as
+-- validators keep their algorithms.
+use Rattle.std.proofs.Common.{◌≡◌, ℕ, zero, suc, ◌+◌, ◌*◌, ◌<◌, ◌≤◌, ◌⊎◌, inl, inr, Bool, true, false}
+use Rattle.std.proofs.Common.{List, [], ◌∷◌, Option, None, Some, Result, Ok, Err, map, length, max}
+use Rattle.std.proofs.Common.{refl, sym, ap, subst, ◌∙◌, arith, fold, if◌then◌else◌}
+use Rattle.std.proofs.lemmas.Bool.{cases_Bool, le-leb}
+use Rattle.std.specs.Prelude.{◌&&◌, ◌/◌, ◌-◌, filter, nat_le, nat_lt, unwrap_or}
+use Rattle.dnssec_key.specs.declared.roll.RollType.{RollType}
+use Rattle.dnssec_run.specs.declared.caches.SetKind.{SetKind as Kind}
+use Rattle.dnssec_run.specs.declared.caches.SetKind.TheVariants as code
+use Rattle.dnssec_run.specs.Safe.{SetKind, Ds, Dnskey, ZoneSigners, kind_of, retires}
+use Rattle.dnssec_network.specs.declared.fact.{Before.Before, Fact.Fact, News.News}
+use Rattle.dnssec_network.specs.declared.fact.News.TheVariants.{Published, Everywhere}
+use Rattle.dnssec_network.specs.Facts.{AreTrue, AreTrueFrom, news_of, ttl_before}
+use Rattle.dnssec_network.specs.Network.{Network}
+use Rattle.dnssec_network.specs.Reports.{due, due_of, due_or, higher}
+use Rattle.dnssec_network.specs.Spread.{after, due_for, end_of, expired_after, first_spread}
+use Rattle.dnssec_network.specs.Spread.{is_none_older, known, seconds_left, seconds_until}
+use Rattle.dnssec_policy.specs.Kept.{keeping}
+use Rattle.dnssec_policy.proofs.Spreads.{Spread}
+
+-- ---- the same notes, with a higher TTL for each DS set
+
+abbrev raise : ℕ → News → News
+raise s (Published position ttl moment) = Published position (ttl + s) moment
+raise s (Everywhere moment) = Everywhere moment
+
+abbrev raise_of : ℕ → Kind → News → News
+raise_of s code.Ds news = raise s news
+raise_of s code.Dnskey news = news
+raise_of s code.ZoneSigners news = news
+
+abbrev pub kept_fact : ℕ → Fact → Fact
+kept_fact s fact = record { kind = fact.kind; news = raise_of s fact.kind fact.news }
+
+abbrev pub kept_before : ℕ → Before → Before
+kept_before s b = record { ds = b.ds + s; dnskey = b.dnskey; zone = b.zone }
+
+module _ (s : ℕ) where
+  abbrev kept : List Fact → List Fact
+  kept facts = map (kept_fact s) facts
+
+  ds-one : (k : Kind) (news : News) (facts : List Fact)
+      → news_of Ds (kept facts) ≡ map (raise s) (news_of Ds facts)
+      → news_of Ds (kept (record { kind = k; news = news } ∷ facts))
+      ≡ map (raise s) (news_of Ds (record { kind = k; news = news } ∷ facts))
+  ds-one code.Ds news facts e = ap (λ (ns : List News). raise s news ∷ ns) e
+  ds-one code.Dnskey news facts e = e
+  ds-one code.ZoneSigners news facts e = e
+
+  ds-news : (facts : List Fact) → news_of Ds (kept facts) ≡ map (raise s) (news_of Ds facts)
+  ds-news [] = refl
+  ds-news (fact ∷ facts) = ds-one fact.kind fact.news facts (ds-news facts)
+
+  dnskey-one : (k : Kind) (news : News) (facts : List Fact)
+      → news_of Dnskey (kept facts) ≡ news_of Dnskey facts
+      → news_of Dnskey (kept (record { kind = k; news = news } ∷ facts))
+      ≡ news_of Dnskey (record { kind = k; news = news } ∷ facts)
+  dnskey-one code.Ds news facts e = e
+  dnskey-one code.Dnskey news facts e = ap (λ (ns : List News). news ∷ ns) e
+  dnskey-one code.ZoneSigners news facts e = e
+
+  dnskey-news : (facts : List Fact) → news_of Dnskey (kept facts) ≡ news_of Dnskey facts
+  dnskey-news [] = refl
+  dnskey-news (fact ∷ facts) = dnskey-one fact.kind fact.news facts (dnskey-news facts)
+
+  zone-one : (k : Kind) (news : News) (facts : List Fact)
+      → news_of ZoneSigners (kept facts) ≡ news_of ZoneSigners facts
+      → news_of ZoneSigners (kept (record { kind = k; news = news } ∷ facts))
+      ≡ news_of ZoneSigners (record { kind = k; news = news } ∷ facts)
+  zone-one code.Ds news facts e = e
+  zone-one code.Dnskey news facts e = e
+  zone-one code.ZoneSigners news facts e = ap (λ (ns : List News). news ∷ ns) e
+
+  zone-news : (facts : List Fact) → news_of ZoneSigners (kept facts) ≡ news_of ZoneSigners facts
+  zone-news [] = refl
+  zone-news (fact ∷ facts) = zone-one fact.kind fact.news facts (zone-news facts)
+
+  -- ---- they are true of that network
+
+  module _ (network : Network) (time : ℕ) where
+    ds-true : (n : ℕ) (news : List News) → AreTrueFrom network Ds time n news
+        → AreTrueFrom (keeping s network) Ds time n (map (raise s) news)
+    ds-true n [] are = are
+    ds-true n (Published position ttl moment ∷ later) are =
+        let le = are.1 in
+        (are.0, omega (arith, le), are.2, ds-true (suc n) later are.3)
+    ds-true n (Everywhere moment ∷ later) are = (are.0, ds-true n later are.1)
+
+    dnskey-true : (n : ℕ) (news : List News) → AreTrueFrom network Dnskey time n news
+        → AreTrueFrom (keeping s network) Dnskey time n news
+    dnskey-true n [] are = are
+    dnskey-true n (Published position ttl moment ∷ later) are =
+        (are.0, are.1, are.2, dnskey-true (suc n) later are.3)
+    dnskey-true n (Everywhere moment ∷ later) are = (are.0, dnskey-true n later are.1)
+
+    zone-true : (n : ℕ) (news : List News) → AreTrueFrom network ZoneSigners time n news
+        → AreTrueFrom (keeping s network) ZoneSigners time n news
+    zone-true n [] are = are
+    zone-true n (Published position ttl moment ∷ later) are =
+        (are.0, are.1, are.2, zone-true (suc n) later are.3)
+    zone-true n (Everywhere moment ∷ later) are = (are.0, zone-true n later are.1)
+
+    pub still-true : (before : Before) (facts : List Fact) → AreTrue before facts network time
+        → AreTrue (kept_before s before) (kept facts) (keeping s network) time
+    still-true before facts are Ds =
+        let le = (are Ds).0 in (
+          omega (arith, le),
+          subst (AreTrueFrom (keeping s network) Ds time 0) (sym (ds-news facts))
+              (ds-true 0 (news_of Ds facts) (are Ds).1),
+        )
+    still-true before facts are Dnskey = (
+      (are Dnskey).0,
+      subst (AreTrueFrom (keeping s network) Dnskey time 0) (sym (dnskey-news facts))
+          (dnskey-true 0 (news_of Dnskey facts) (are Dnskey).1),
+    )
+    still-true before facts are ZoneSigners = (
+      (are ZoneSigners).0,
+      subst (AreTrueFrom (keeping s network) ZoneSigners time 0) (sym (zone-news facts))
+          (zone-true 0 (news_of ZoneSigners facts) (are ZoneSigners).1),
+    )
+
+  -- ---- what is due by them
+
+  abbrev raised : Option ℕ → Option ℕ
+  raised None = None
+  raised (Some ttl) = Some (ttl + s)
+
+  abbrev higher-spread : ℕ → Spread → Spread
+  higher-spread expired a = record {
+    position = a.position;
+    ttl = a.ttl + s;
+    older = raised a.older;
+    seen = a.seen;
+    expired = expired;
+  }
+
+  abbrev Within : ℕ → Spread → Type 0
+  Within expired a = expired ≤ a.expired + s * 1_000_000_000
+
+  older-next : (ttl : ℕ) (o : Option ℕ) (t : Bool)
+      → (if t then Some (max (unwrap_or (raised o) 0) (ttl + s)) else raised o)
+      ≡ raised (if t then Some (max (unwrap_or o 0) ttl) else o)
+  older-next ttl None true =
+      let same : max 0 (ttl + s) ≡ max 0 ttl + s = omega arith in ap Some same
+  older-next ttl (Some n) true =
+      let same : max (n + s) (ttl + s) ≡ max n ttl + s = omega arith in ap Some same
+  older-next ttl o false = refl
+
+  expired-next : (moment : ℕ) (o : Option ℕ) (e x : ℕ) → e ≤ x + s * 1_000_000_000
+      → expired_after moment (raised o) e ≤ expired_after moment o x + s * 1_000_000_000
+  expired-next moment None e x le = le
+  expired-next moment (Some ttl) e x le = omega (arith, le)
+
+  spread-kept : (base : ℕ) (news : List News) (a : Spread) (e : ℕ) → Within e a
+      → (d : ℕ) × (fold (after base) (higher-spread e a) (map (raise s) news)
+      ≡ higher-spread d (fold (after base) a news)) × Within d (fold (after base) a news)
+  spread-kept base [] a e le = (e, refl, le)
+  spread-kept base (Published position ttl moment ∷ later) a e le =
+      let next = after base a (Published position ttl moment) in
+      let rest = spread-kept base later next e le in
+      let same : after base (higher-spread e a) (Published position (ttl + s) moment)
+      ≡ higher-spread e next =
+      ap (λ (o : Option ℕ). record {
+        position = position;
+        ttl = ttl + s;
+        older = o;
+        seen = a.seen;
+        expired = e;
+      }) (older-next a.ttl a.older (nat_lt a.position base)) in
+      (rest.0, ap (λ (b : Spread). fold (after base) b (map (raise s) later)) same ∙ rest.1, rest.2)
+  spread-kept base (Everywhere moment ∷ later) a e le =
+      spread-kept base later (after base a (Everywhere moment))
+      (expired_after moment (raised a.older) e) (expired-next moment a.older e a.expired le)
+
+  left-kept : (e x now : ℕ) → e ≤ x + s * 1_000_000_000
+      → seconds_left e now ≤ seconds_left x now + s
+  left-kept e x now le = omega (arith, le)
+
+  module _ (now x : ℕ) (small : x + s ≤ 4_294_967_295) where
+    left-due : (e end : ℕ) → e ≤ end + s * 1_000_000_000 → (t : Bool)
+        → (if t then Some (seconds_left end now) else None) ≡ Some x
+        → (y : ℕ) × (seconds_until e now ≡ Some y) × (y ≤ x + s)
+    left-due e end le true is =
+        let left : seconds_left end now ≡ x = cc in
+        let less = left-kept e end now le in
+        let fits : seconds_left e now ≤ 4_294_967_295 = omega (arith, left, less, small) in (
+          seconds_left e now,
+          rw (le-leb (seconds_left e now) 4_294_967_295 fits) refl,
+          omega (arith, left, less),
+        )
+    left-due e end le false is = absurd (cc)
+
+    still-none : (o : Option ℕ) → is_none_older (raised o) ≡ is_none_older o
+    still-none None = refl
+    still-none (Some ttl) = refl
+
+    due-for : (base : ℕ) (a : Spread) (e : ℕ) → Within e a → due_for base a now ≡ Some x
+        → (y : ℕ) × (due_for base (higher-spread e a) now ≡ Some y) × (y ≤ x + s)
+    due-for base a e le is =
+        let found = on (nat_le base a.position && is_none_older a.older && nat_le a.seen now) is in
+        let same : due_for base (higher-spread e a) now
+        ≡ (if nat_le base a.position && is_none_older a.older && nat_le a.seen now
+        then seconds_until e now else None) =
+        ap (λ (b : Bool). if nat_le base a.position && b && nat_le a.seen now
+        then seconds_until e now else None) (still-none a.older) in
+        (found.0, same ∙ found.1, found.2)
+      where
+        on : (t : Bool) → (if t then seconds_until a.expired now else None) ≡ Some x
+            → (y : ℕ) × ((if t then seconds_until e now else None) ≡ Some y) × (y ≤ x + s)
+        on true h = left-due e a.expired le
+            (nat_le (seconds_left a.expired now) 4_294_967_295) h
+        on false h = absurd (cc)
+
+  -- ---- the three kinds together
+
+  parts : (a b c : Result ℕ Kind) (n : ℕ) → higher (higher a b) c ≡ Ok n
+      → (x : ℕ) × (y : ℕ) × (z : ℕ) × (a ≡ Ok x) × (b ≡ Ok y) × (c ≡ Ok z)
+      × (max (max x y) z ≡ n)
+  parts (Ok x) (Ok y) (Ok z) n e = (x, y, z, refl, refl, refl, cc)
+  parts (Ok x) (Ok y) (Err k) n e = absurd (cc)
+  parts (Ok x) (Err k) c n e = absurd (cc)
+  parts (Err k) b c n e = absurd (cc)
+
+  some-due : (o : Option ℕ) (x : ℕ) → due_or code.Ds o ≡ Ok x → o ≡ Some x
+  some-due None x e = absurd (cc)
+  some-due (Some n) x e = let same : n ≡ x = cc in ap Some same
+
+  module _ (before : Before) (facts : List Fact) (now : ℕ) where
+    ds-due : (t : Bool) (base x : ℕ) → (t ≡ true → x + s ≤ 4_294_967_295)
+        → due_of before facts code.Ds t base now ≡ Ok x
+        → (y : ℕ) × (due_of (kept_before s before) (kept facts) code.Ds t base now ≡ Ok y)
+        × (y ≤ (if t then x + s else x))
+    ds-due false base x small is = (x, is, omega arith)
+    ds-due true base x small is =
+        let a = known base before.ds (news_of Ds facts) in
+        let found = spread-kept base (news_of Ds facts) (first_spread before.ds) 0 (omega arith) in
+        let d = due-for now x (small refl) base a found.0 found.2
+        (some-due (due_for base a now) x is) in
+        let same : known base (before.ds + s) (news_of Ds (kept facts)) ≡ higher-spread found.0 a =
+        ap (λ (ns : List News). known base (before.ds + s) ns) (ds-news facts) ∙ found.1 in (
+          d.0,
+          ap (λ (b : Spread). due_or code.Ds (due_for base b now)) same
+              ∙ ap (due_or code.Ds) d.1,
+          d.2,
+        )
+
+    dnskey-due : (t : Bool) (base : ℕ)
+        → due_of (kept_before s before) (kept facts) code.Dnskey t base now
+        ≡ due_of before facts code.Dnskey t base now
+    dnskey-due true base = ap (λ (ns : List News). due_or code.Dnskey
+        (due_for base (known base before.dnskey ns) now)) (dnskey-news facts)
+    dnskey-due false base = refl
+
+    zone-due : (t : Bool) (base : ℕ)
+        → due_of (kept_before s before) (kept facts) code.ZoneSigners t base now
+        ≡ due_of before facts code.ZoneSigners t base now
+    zone-due true base = ap (λ (ns : List News). due_or code.ZoneSigners
+        (due_for base (known base before.zone ns) now)) (zone-news facts)
+    zone-due false base = refl
+
+    pub still-due : (roll : RollType) (second : Bool) (from : SetKind → ℕ) (least : ℕ)
+        → (retires roll second Ds ≡ true → least + s ≤ 4_294_967_295)
+        → due before facts roll second from now ≡ Ok least
+        → (y : ℕ) × (due (kept_before s before) (kept facts) roll second from now ≡ Ok y)
+        × (y ≤ (if retires roll second Ds then least + s else least))
+    still-due roll second from least small is =
+        let p = parts (due_of before facts code.Ds (retires roll second Ds) (from Ds) now)
+        (due_of before facts code.Dnskey (retires roll second Dnskey) (from Dnskey) now)
+        (due_of before facts code.ZoneSigners (retires roll second ZoneSigners) (from ZoneSigners)
+        now) least is in
+        let most = p.6 in
+        let d = ds-due (retires roll second Ds) (from Ds) p.0
+        (λ t. let le = small t in omega (arith, le, most)) p.3 in
+        let dnskey = dnskey-due (retires roll second Dnskey) (from Dnskey) ∙ p.4 in
+        let zone = zone-due (retires roll second ZoneSigners) (from ZoneSigners) ∙ p.5 in
+        let le = d.2 in (
+          max (max d.0 p.1) p.2,
+          (λ i. higher (higher (d.1 i) (dnskey i)) (zone i)),
+          by (retires roll second Ds) d.0 p.0 p.1 p.2 most le,
+        )
+      where
+        by : (t : Bool) (y x b c : ℕ) → max (max x b) c ≡ least → y ≤ (if t then x + s else x)
+            → max (max y b) c ≤ (if t then least + s else least)
+        by true y x b c most le = omega (arith, most, le)
+        by false y x b c most le = omega (arith, most, le)

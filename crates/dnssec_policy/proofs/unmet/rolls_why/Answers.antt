@@ -1,0 +1,14 @@
+-- All rolls were asked.
+use Rattle.std.proofs.Common.{◌∙◌, ap}
+use Rattle.std.proofs.lemmas.List.{take_all}
+use Rattle.dnssec_policy.specs.Code.{end_of, view_of}
+use Rattle.dnssec_policy.proofs.Silence.{first_why}
+use Rattle.dnssec_policy.proofs.unmet.rolls_why.Goals as goal
+
+pub returns : goal.returns
+returns c =
+    let first = first_why (view_of c.args.state.now (end_of c.args.ends.now)) in
+    let items = c.all_rolls-roll-items in
+    c.loop-roll.invariant
+    ∙ ap first (take_all c.loop-roll.roll-index items.result.now c.loop-roll-test.false)
+    ∙ ap first items.ensures

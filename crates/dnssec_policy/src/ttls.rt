@@ -1,0 +1,145 @@
+//! The highest TTLs that are noted, and how long a report counts by them.
+ghost use Rattle.std.specs.Prelude.{◌≡◌, ◌≤◌, ◌++◌, ◌∷◌, [], List};
+ghost use Rattle.dnssec_network.specs.declared.fact.Before.{Before as AnyBefore};
+ghost use Rattle.dnssec_network.specs.declared.fact.Fact.{Fact as AnyFact};
+ghost use Rattle.dnssec_run.specs.Safe.{kind_of};
+ghost use Rattle.dnssec_policy.specs.Ttls.{AreHighest, after_news, at_most_due, if_retired, keeps};
+ghost use Rattle.dnssec_policy.specs.Ttls.{lasting, report_takes, roll_takes, ttl_in, with_ttl};
+
+use dnssec_keyset::RollType;
+use dnssec_network::{Before, News};
+use dnssec_run::{SetKind, retires};
+
+/// The highest TTL, in seconds, of each kind of sets that is noted so far.
+///
+/// ```rust
+/// let mut highest = HighestTtls::of_before(&before);
+/// highest = highest.after(fact.kind, &fact.news);
+/// ```
+#[derive(Clone, Copy, Debug)]
+pub struct HighestTtls {
+    ds: u32,
+    dnskey: u32,
+    zone: u32,
+}
+
+impl HighestTtls {
+    /// Those from before the first call.
+    pub fn of_before(before: &Before) -> Self
+        ensures { AreHighest before.now [] result }
+    {
+        HighestTtls {
+            ds: before.ds,
+            dnskey: before.dnskey,
+            zone: before.zone,
+        }
+    }
+
+    /// Those after one more fact of this kind.
+    pub fn after(self, kind: SetKind, news: &News) -> Self
+        ensures { (before : AnyBefore) (facts : List AnyFact) → AreHighest before facts self →
+            AreHighest before (facts ++ record { kind = kind; news = news.now } ∷ []) result }
+    {
+        self.after_news(kind, news)
+    }
+
+    fn after_news(self, kind: SetKind, news: &News) -> Self
+        ensures { result ≡ after_news self kind news.now }
+    {
+        match news {
+            News::Published { ttl, .. } => self.with(kind, *ttl),
+            News::Everywhere { .. } => self,
+        }
+    }
+
+    /// Those with one more version of this TTL.
+    fn with(self, kind: SetKind, ttl: u32) -> Self
+        ensures { result ≡ with_ttl self kind ttl }
+    {
+        match kind {
+            SetKind::Ds => HighestTtls {
+                ds: self.ds.max(ttl),
+                dnskey: self.dnskey,
+                zone: self.zone,
+            },
+            SetKind::Dnskey => HighestTtls {
+                ds: self.ds,
+                dnskey: self.dnskey.max(ttl),
+                zone: self.zone,
+            },
+            SetKind::ZoneSigners => HighestTtls {
+                ds: self.ds,
+                dnskey: self.dnskey,
+                zone: self.zone.max(ttl),
+            },
+        }
+    }
+
+    /// That of a kind.
+    pub fn of(&self, kind: SetKind) -> u32
+        ensures { result ≡ ttl_in self.now (kind_of kind) }
+    {
+        match kind {
+            SetKind::Ds => self.ds,
+            SetKind::Dnskey => self.dnskey,
+            SetKind::ZoneSigners => self.zone,
+        }
+    }
+
+    /// For how many seconds a validator may keep the algorithms of a DS set that it has dropped.
+    fn keeps(&self) -> u64
+        ensures { result ≡ keeps (ttl_in self.now) }
+    {
+        u64::from(self.dnskey) + 1
+    }
+
+    /// The TTL of a report, by the TTL that is due for the sets that it speaks of. One that speaks of
+    /// DS sets also counts the algorithms that validators keep with DNSKEY sets, and CDS.
+    pub(crate) fn lasting(&self, roll: RollType, second: bool, due: u64) -> u64
+        requires { due ≤ 4_294_967_296 }
+        ensures { result ≡ lasting (ttl_in self.now) roll second due }
+    {
+        if retires(roll, second, SetKind::Ds) {
+            let cds = u64::from(self.of(SetKind::ZoneSigners)) + 1;
+            (due + self.keeps()).max(cds)
+        } else {
+            due
+        }
+    }
+
+    /// That of a kind that a report speaks of; 0 of another.
+    fn if_retired(&self, roll: RollType, second: bool, kind: SetKind) -> u32
+        ensures { result ≡ if_retired (ttl_in self.now) roll second (kind_of kind) }
+    {
+        if retires(roll, second, kind) {
+            self.of(kind)
+        } else {
+            0
+        }
+    }
+
+    /// The highest TTL that may be due, and a second.
+    fn at_most_due(&self, roll: RollType, second: bool) -> u64
+        ensures due { result ≡ at_most_due (ttl_in self.now) roll second }
+        ensures at_most { result ≤ 4_294_967_296 }
+    {
+        let ds = self.if_retired(roll, second, SetKind::Ds);
+        let dnskey = self.if_retired(roll, second, SetKind::Dnskey);
+        let zone = self.if_retired(roll, second, SetKind::ZoneSigners);
+        u64::from(ds.max(dnskey).max(zone)) + 1
+    }
+
+    /// How many seconds the wait after a report counts.
+    fn report_takes(&self, roll: RollType, second: bool) -> u64
+        ensures { result ≡ report_takes (ttl_in self.now) roll second }
+    {
+        self.lasting(roll, second, self.at_most_due(roll, second))
+    }
+
+    /// How many seconds the two waits of a roll count together.
+    pub fn roll_takes(&self, roll: RollType) -> u64
+        ensures { result ≡ roll_takes (ttl_in self.now) roll }
+    {
+        self.report_takes(roll, false) + self.report_takes(roll, true)
+    }
+}

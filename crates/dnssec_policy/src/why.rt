@@ -1,0 +1,62 @@
+//! Why something isn't done that a policy wants.
+ghost use Rattle.std.specs.Prelude.{Some};
+ghost use Rattle.dnssec_policy.specs.Texts.{why_text};
+
+use dnssec_key::roll_name;
+use dnssec_keyset::RollType;
+use std::fmt;
+
+/// Why something isn't done that the policy wants.
+#[derive(Clone, Copy, Debug, PartialEq)]
+pub enum Why {
+    /// It isn't known which step a report of this roll speaks of.
+    NoStep { roll: RollType },
+    /// The report of this roll needs a TTL that 32 bits can't hold.
+    TtlTooLong { roll: RollType },
+    /// A key lacks the stamp that the wait of this roll counts from: it was set by hand.
+    NoStamp { roll: RollType },
+    /// The wait of this roll is over after all time.
+    PastTime { roll: RollType },
+    /// It isn't known when this roll made its second wait, by which it ends.
+    NoLastWait { roll: RollType },
+    /// This roll is wanted, and may not begin beside those in progress.
+    Barred { roll: RollType },
+    /// A key is on its way out and in use, and no roll takes it out: it was set by hand.
+    OldKeyInUse,
+}
+
+impl fmt::Display for Why {
+    ghost output = { λ why. Some (why_text why) };
+
+    /// Writes what a program shows its user, as `ksk-roll may not begin beside the rolls in
+    /// progress`.
+    fn fmt<W: fmt::Write>(&self, f: &mut fmt::Formatter<W>) -> fmt::Result {
+        match self {
+            Why::NoStep { roll } => {
+                let name = roll_name(*roll);
+                write!(f, "the last step of {name} isn't known")
+            }
+            Why::TtlTooLong { roll } => {
+                let name = roll_name(*roll);
+                write!(f, "{name} has to report a TTL of more than 32 bits")
+            }
+            Why::NoStamp { roll } => {
+                let name = roll_name(*roll);
+                write!(f, "a key lacks the stamp for the wait of {name}")
+            }
+            Why::PastTime { roll } => {
+                let name = roll_name(*roll);
+                write!(f, "the wait of {name} ends after all time")
+            }
+            Why::NoLastWait { roll } => {
+                let name = roll_name(*roll);
+                write!(f, "the second wait of {name} isn't known")
+            }
+            Why::Barred { roll } => {
+                let name = roll_name(*roll);
+                write!(f, "{name} may not begin beside the rolls in progress")
+            }
+            Why::OldKeyInUse => f.write_str("a key is on its way out, and no roll takes it out"),
+        }
+    }
+}
