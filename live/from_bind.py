@@ -140,7 +140,7 @@ async def publish(operator, made):
     await asyncio.sleep(zone.world.fleet.SLOWEST + zone.first.longest + 1)
     await zone.world.parent.change(zone.name, ds_of(made), DS_TTL)
     await zone.world.parent.watch(zone.name)
-    zone.is_secure()
+    zone.is_secure(TTL)
     await asyncio.sleep(TTL + NEGATIVE + 1)
 
 

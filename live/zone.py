@@ -101,10 +101,11 @@ class Zone:
         self.least, self.notes = least, Notes(least)
         self.notes.published("ds", NEGATIVE, 0)
 
-    def is_secure(self):
+    def is_secure(self, ttl=0):
         """From now on all answers have to be validated, once caches have lost what they hold from
-        before."""
-        self.clients.secure_from = time.time() + self.longest() + 3
+        before: that there is no DS, and then what they took until then, which may have this TTL."""
+        longest = max(self.longest(), ttl)
+        self.clients.secure_from = time.time() + NEGATIVE + 1 + longest + 1
 
     # The parent
 

@@ -19,8 +19,9 @@ from pathlib import Path
 from typed import folder, typed
 
 TOOLS = ("dnssec-keygen", "dnssec-signzone", "dnssec-verify", "ldns-signzone", "ldns-verify-zone")
+# Its serial is above that of any day: each version has the next one.
 ZONE = r"""$TTL 300
-@ IN SOA ns h 2026112701 3600 600 86400 60
+@ IN SOA ns h 2099112701 3600 600 86400 60
   NS ns
   NS ns.other.net.
   MX 10 mail
@@ -97,7 +98,7 @@ def ways(script: str, signer: str):
         found = Path("signed").read_text() if Path("signed").is_file() else ""
         records = [line.split("NSEC3\t")[1] for line in found.splitlines() if "\tNSEC3\t" in line]
         is_so = bool(records) == bool(nsec3) and all(it.startswith(nsec3) for it in records)
-        serial = f" {2026112702 + number} 3600"
+        serial = f" {2099112702 + number} 3600"
         if status or not is_so or serial not in found or (said := verified(nsec3)):
             yield f"{script} by {signer} {words}: {status} {text}{said if not status else ''}"
 
