@@ -1,4 +1,4 @@
-//! A zone that rolls by itself, for tests: it says what its policy says to do, and makes the calls.
+//! A zone that rolls by itself: it says what its policy says to do, and makes the calls.
 //!
 //! Each line of standard input is one of these, and is answered with one line:
 //!
