@@ -10,7 +10,7 @@ HERE = TOP / "docs" / "pictures"
 
 WIDE, HIGH, ROW = 136, 26, 52
 # What the gate needs, and no product.
-OF_THE_GATE = {"dnssec_tests", "callers", "automatic"}
+OF_THE_GATE = {"dnssec_tests", "callers"}
 
 
 def svg(width, height, title, words, parts):

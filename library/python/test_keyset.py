@@ -208,10 +208,9 @@ class Calls(unittest.TestCase):
         self.assertEqual(start, Todo("call", "start algorithm-roll - K1,Z1 100"))
         keys.call(start.line)
         for kind in ("dnskey", "zone"):
-            self.assertEqual(keys.next(POLICY, 101).fields, [kind])
+            self.assertEqual(keys.next(POLICY, 103).fields, [kind])
             keys.note(f"published {kind} 3 60 101")
-        self.assertEqual(keys.next(POLICY, 102), Todo("watch", "watch dnskey"))
-        for kind in ("dnskey", "zone"):
+            self.assertEqual(keys.next(POLICY, 103), Todo("watch", f"watch {kind}"))
             keys.note(f"everywhere {kind} 103")
         keys.call(keys.next(POLICY, 103).line)
         self.assertEqual(keys.script.splitlines()[-1], "report1 algorithm-roll 61 103")

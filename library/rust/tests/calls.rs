@@ -339,7 +339,7 @@ fn a_policy_says_what_to_do_next() -> Result<(), Error> {
     assert_eq!(keys.next(POLICY, 100)?, Todo::Call(line.clone()));
     keys.call(&line)?;
     for kind in [SetKind::Dnskey, SetKind::Zone] {
-        assert_eq!(keys.next(POLICY, 101)?, Todo::Publish(kind));
+        assert_eq!(keys.next(POLICY, 103)?, Todo::Publish(kind));
         let (call, ttl, moment) = (3, 60, 101);
         keys.note(Note::Published {
             kind,
@@ -347,12 +347,12 @@ fn a_policy_says_what_to_do_next() -> Result<(), Error> {
             ttl,
             moment,
         })?;
-    }
-    assert_eq!(keys.next(POLICY, 102)?, Todo::Watch(SetKind::Dnskey));
-    for kind in [SetKind::Dnskey, SetKind::Zone] {
+        assert_eq!(keys.next(POLICY, 103)?, Todo::Watch(kind));
         keys.note(Note::Everywhere { kind, moment: 103 })?;
     }
-    keys.call("report1 algorithm-roll 61 103")?;
+    let line = "report1 algorithm-roll 61 103".to_owned();
+    assert_eq!(keys.next(POLICY, 103)?, Todo::Call(line.clone()));
+    keys.call(&line)?;
     assert_eq!(keys.next(POLICY, 104)?, Todo::Until(164));
     Ok(())
 }
