@@ -40,7 +40,8 @@ class Policy:
         were ever noted."""
         for roll, (role, lifetime) in zip(self.rolls, self.lifetimes.items()):
             kinds = (SPEAKS_OF[roll][second].split() for second in (False, True))
-            takes = sum(max(facts.highest(kind) for kind in of_one) + 1 for of_one in kinds)
+            takes = sum(facts.lasting(of_one, max(map(facts.highest, of_one)) + 1)
+                        for of_one in kinds)
             if lifetime < takes:
                 text = f"a lifetime of {lifetime} seconds is shorter than a {roll} takes: {takes}"
                 return TooShort(role, takes, text)
@@ -128,6 +129,13 @@ class Facts:
         ttls = [fact[1] for fact in self.news[kind] if len(fact) == 3]
         return max([self.before[kind], *ttls])
 
+    def lasting(self, kinds: list, due: int) -> int:
+        """What a report on these kinds counts, by the TTL that is due. Validators keep algorithms of
+        a DS set with a DNSKEY set; and CDS, a set of the zone, has just left it."""
+        if "ds" not in kinds:
+            return due
+        return max(due + self.highest("dnskey") + 1, self.highest("zone") + 1)
+
     def spread(self, kind: str, base: int) -> Spread:
         news = self.news[kind]
         done, known = self.spreads.get((kind, base), (0, Spread(0, self.before[kind])))
@@ -159,14 +167,14 @@ class View:
     def report(self, roll: str, second: bool) -> Todo:
         record = self.keyset.record
         step = max(n for n, at in enumerate(record) if at.step == roll)
-        ttl = 0
+        ttl, kinds = 0, SPEAKS_OF[roll][second].split()
         for kind in ALL_KINDS:
-            if kind in SPEAKS_OF[roll][second].split():
+            if kind in kinds:
                 base = origin(record, kind, step)
                 if todo := self.brings(kind, base):
                     return todo
                 ttl = max(ttl, self.facts.spread(kind, base).expired - self.now)
-        return Todo(CALL, f"report{1 + second} {roll} {ttl} {self.now}")
+        return Todo(CALL, f"report{1 + second} {roll} {self.facts.lasting(kinds, ttl)} {self.now}")
 
     def wait(self, word: str, roll: str, ttl: int) -> Todo:
         end = max((stamp + ttl for stamp in self.keyset.checked(word, roll)), default=0)
