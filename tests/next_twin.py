@@ -362,7 +362,42 @@ def next_of(policy: Policy, view: View) -> Todo:
                     *renewals])
 
 
+# ---- lifetimes: Lint.antt of dnssec_policy_text
+
+
+def highest_of(notes: Sequence[str]) -> dict[str, int]:
+    """The highest TTL of each kind that is noted."""
+    before, *facts = [line.split(" ") for line in notes]
+    highest = {kind: int(ttl) for kind, ttl in zip(KINDS, before[1:])}
+    for word, kind, *numbers in facts:
+        if word == "published":
+            highest[kind] = max(highest[kind], int(numbers[1]))
+    return highest
+
+
+def roll_takes(highest: dict[str, int], roll: str) -> int:
+    """Both waits, each up to the highest TTL of the kinds that its report speaks of, and a
+    second."""
+    halves = (half.split() for half in SPEAKS_OF[roll])
+    return sum(max(highest[kind] for kind in kinds) + 1 for kinds in halves)
+
+
+def too_short(policy: Policy, notes: Sequence[str]) -> str:
+    """The first lifetime that is shorter than its roll takes, as a text; or an empty one."""
+    highest = highest_of(notes)
+    for roll in policy.rolls:
+        lifetime = policy.renewal_of(roll.partition("-")[0]).lifetime
+        takes = roll_takes(highest, roll)
+        if lifetime is not None and lifetime < takes:
+            return f"a lifetime of {lifetime} seconds is shorter than a {roll} takes: {takes}"
+    return ""
+
+
 # ---- as a text
+
+
+class NotSaid(ValueError):
+    """It isn't said what to do next, and why."""
 
 
 def shown(policy: Policy, todo: Todo) -> str:
@@ -383,6 +418,8 @@ def shown(policy: Policy, todo: Todo) -> str:
 def said(policy: Sequence[str], lines: Sequence[str], notes: Sequence[str], now: int) -> str:
     """What a policy says to do next, after these lines and notes, at a second since 1970."""
     read = policy_of(policy)
+    if fault := too_short(read, notes):
+        raise NotSaid(f"policy: {fault}")
     return shown(read, next_of(read, View(lines, notes, now)))
 
 
@@ -390,7 +427,10 @@ def main() -> None:
     policy, script, notes = sys.stdin.read().removesuffix("\n").split("\n\n")
     *facts, question = notes.split("\n")
     moment = int(question.removeprefix("next "))
-    print(said(policy.split("\n"), script.split("\n"), facts, moment))
+    try:
+        print(said(policy.split("\n"), script.split("\n"), facts, moment))
+    except NotSaid as fault:
+        sys.exit(str(fault))
 
 
 if __name__ == "__main__":

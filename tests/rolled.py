@@ -27,6 +27,8 @@ import answering
 import next_twin
 import testkeys
 from typed import typed
+from vaqsider import advice
+from vaqsider.errors import Failure
 
 ZONE, PARENT_TTL = "example.com", 300
 TTLS = {"ds": PARENT_TTL, "dnskey": 60, "zone": 60}
@@ -36,6 +38,7 @@ UNSIGNED = f"""$TTL 60
 @ IN NS ns.{ZONE}.
 ns IN A 127.0.0.1
 """
+SETS = ("dnskey", "signers", "zone", "cds")
 KEY = re.compile(r"Kexample\.com\.\+\d+\+\d+")
 # Keys of the tests are small numbers; those that are made here begin with this one.
 FIRST_KEY = 200_000
@@ -64,7 +67,8 @@ class Servers:
 @dataclass
 class World:
     """The zone's servers and those of its parent. A parent that reads CDS takes it after a while.
-    `held` is what caches may hold of each kind, each with the moment when it was given last."""
+    `held` is what caches may hold of each kind, each with the moment when it was given last. The
+    clock of the maker of keys is `ahead` by so many seconds."""
 
     now: int = BEGIN
     reads_cds: bool = True
@@ -76,6 +80,8 @@ class World:
     made: int = FIRST_KEY
     believes: bool = True
     ttls: dict[str, int] = field(default_factory=lambda: dict(TTLS))
+    signed: dict[str, list] = field(default_factory=dict)
+    ahead: int = 0
 
     def passes(self, seconds: int) -> None:
         """Lets time pass. Between two versions of a server nothing changes in what caches may
@@ -206,6 +212,34 @@ class World:
             with open("told.json", "a", encoding="ascii") as file:
                 print(json.dumps({"words": list(words), **given}), file=file)
 
+    def hooked(self, words, stdin="", seconds=0) -> str:
+        """Stands in for a signer that runs, which answers each verb by JSON."""
+        verb, asked = words[-1], json.loads(stdin)
+        if verb == "publish":
+            self.signed = {kind: sorted(it["record"] for it in asked["keys"] if it[kind])
+                           for kind in SETS}
+        if verb in ("publish", "renew"):
+            self.zone.publish(self.now, self._running())
+        if verb == "now":
+            return json.dumps(self.signed or dict.fromkeys(SETS, []))
+        return json.dumps({"ttls": {"dnskey": 60, "zone": 60}}.get(verb, {}))
+
+    def _running(self) -> dict:
+        """What a signer that runs gives, in the form of `records_of`."""
+        origin = dns.name.from_text(ZONE)
+        keys = {kind: [dns.rdata.from_text("IN", "DNSKEY", it) for it in of]
+                for kind, of in self.signed.items()}
+        sets = {"DNSKEY": self.signed["dnskey"], "CDNSKEY": self.signed["cds"],
+                "CDS": [dns.dnssec.make_ds(origin, it, "SHA256").to_text() for it in keys["cds"]],
+                "SOA": [f"ns.{ZONE}. h.{ZONE}. {self.now} 3600 600 86400 60"],
+                "NS": [f"ns.{ZONE}."]}
+        times = f"{stamp(self.now + 30 * 86400)} {stamp(self.now - 3600)}"
+        signed = [f"{kind} 13 2 60 {times} {dns.dnssec.key_id(it)} {ZONE}. AAAA"
+                  for kind in sets if sets[kind]
+                  for it in keys["signers" if kind in ("DNSKEY", "CDS", "CDNSKEY") else "zone"]]
+        return {kind: [(60, it) for it in of]
+                for kind, of in {**sets, "RRSIG": signed}.items() if of}
+
     def _make(self, words, within) -> None:
         *_, zone, role, algorithm = words
         self.made += 1
@@ -213,7 +247,7 @@ class World:
         name = f"K{zone}+{int(algorithm):03}+{tag:05}"
         (within / f"{name}.private").write_text(f"{self.made}\n")
         (within / f"{name}.key").write_text(
-            f"; Created: {stamp(self.now)}\n{zone} IN DNSKEY {data}\n")
+            f"; Created: {stamp(self.now + self.ahead)}\n{zone} IN DNSKEY {data}\n")
 
 
 class Broken(Exception):
@@ -263,6 +297,30 @@ def signers(sets: dict, kind: str) -> frozenset:
     return frozenset(int(it[6]) for it in of if it[0] == kind)
 
 
+# The program's answers, if it knows the word.
+ASK, KNOWN, ASKED = advice.ask, [], [0]
+
+
+def said(*question) -> str:
+    """What comes next: the twin and the program have to say the same."""
+    by_twin = next_twin.said(*question)
+    if is_known():
+        ASKED[0] += 1
+        if (by_program := ASK(*question)) != by_twin:
+            raise AssertionError(f"{question}: {by_program!r}, and by the twin {by_twin!r}")
+    return by_twin
+
+
+def is_known() -> bool:
+    if not KNOWN:
+        try:
+            ASK(["policy 13 csk-roll"], [f"zone {ZONE}"], ["before 0 0 0"], 0)
+            KNOWN.append(True)
+        except Failure as failure:
+            KNOWN.append(advice.NOT_KNOWN not in str(failure))
+    return KNOWN[0]
+
+
 POLICY = """keygen keygen
 server ns1 ns2
 parent-server p1 p2
@@ -272,21 +330,27 @@ renew-before 5d
 
 
 @contextlib.contextmanager
-def living(world: World, policy: str = "") -> Iterator[World]:
-    """A new folder with the script of an unsigned zone, its notes and its policy, in this world."""
+def living(world: World, policy: str = "", asks: bool = True) -> Iterator[World]:
+    """A new folder with the script of an unsigned zone, its notes and its policy, in this world. By
+    `asks` it is asked what comes next."""
     from vaqsider import advice, asking, hooks, signing, zonefile
+    from vaqsider.signers import daemon
 
     if not Path(f"{ZONE}.script").exists():
         for stored in Path().glob("K*.key"):
             stored.unlink()
         Path(f"{ZONE}.zone").write_text(UNSIGNED)
-        Path(f"{ZONE}.policy").write_text(POLICY + policy)
+        usual = POLICY.splitlines(keepends=True)
+        of_signer = "signer hook" in policy
+        usual = [it for it in usual if not (of_signer and it.startswith(("signatures", "renew")))]
+        Path(f"{ZONE}.policy").write_text("".join(usual) + policy)
         typed(["init", ZONE, "--before", 60, 60, 60], world.now)
     with contextlib.ExitStack() as stack:
         for target, name, stands_in in (
             (asking, "exchange", world.exchange), (asking, "is_address", lambda name: True),
             (signing, "run", world.signs), (zonefile, "run", world.signs),
-            (hooks, "run", world.runs), (advice, "ask", next_twin.said),
+            (hooks, "run", world.runs), (daemon, "said", world.hooked),
+            (advice, "ask", said if asks else advice.ask),
             (signing.shutil, "which", lambda name: f"/usr/bin/{name}"),
         ):
             stack.enter_context(mock.patch.object(target, name, stands_in))

@@ -1,13 +1,14 @@
 #!/usr/bin/env python3
 """Zones that roll by themselves, in a world of this process (rolled.py): courses by each kind of
 policy; ticks that are killed after each change on disk; two at once; clocks that jump; a full disk;
-hooks that hang or lie; and policies with each word wrong.
+hooks that hang or lie; policies with each word wrong; and what needs a person (attended.py).
 
     tests/rolling.py            all of it
     tests/rolling.py --only NAME..
                                 only these checks, as courses or killed
 
-The program's answers to `next` are those of the twin (next_twin.py)."""
+What comes next a second reader says too (next_twin.py): the program has to say the same, if it
+knows the word."""
 
 from __future__ import annotations
 
@@ -34,6 +35,7 @@ from unittest import mock
 sys.dont_write_bytecode = True
 
 import answering  # noqa: E402
+import attended  # noqa: E402
 import next_twin  # noqa: E402
 import rolled  # noqa: E402
 from rolled import BEGIN, ZONE, Broken, World, lines, living, shape, tick  # noqa: E402
@@ -77,7 +79,7 @@ def played(world: World, until: int, every: int = 6 * 3600) -> Iterator[tuple[in
         status, said = tick(world)
         COUNTS["ticks"] += 1
         yield world.now, status, said
-        world.passes(60 if status else every)
+        world.passes(min(60 if status else every, max(1, until - world.now)))
 
 
 def course_faults(course: Course) -> Iterator[str]:
@@ -424,10 +426,12 @@ WRONG = (
     ("policy 13 zsk-roll", "csk-roll, or by a roll of KSKs"),
     ("policy 13 zsk-roll ksk-roll", "csk-roll, or by a roll of KSKs"),
     ("policy 13 csk-roll csk-roll", "csk-roll, or by a roll of KSKs"),
-    ("ksk-lifetime 1y", "a time span"), ("ksk-lifetime -1", "a time span"),
+    ("zsk-once soon", "a moment"), ("ksk-lifetime 1y", "a time span"),
+    ("ksk-lifetime -1", "a time span"),
     ("zsk-lifetime 90 d", "a time span"), ("delete-after never", "a time span"),
     ("zsk-lifetime 9999999999999", "a time span"), ("keygen '", "a command with its arguments"),
     ("signatures never", "a time span"), ("jitter x", "a time span"), ("renew-before", "followed"),
+    ("clock never", "a time span"), ("purge x", "a time span"),
     ("serial up", "one of unixtime"), ("port 0", "a port"), ("port 65536", "a port"),
     ("parent mail", "one of cds, hook, ask"), ("on-ds '\"", "a command"), ("patience x", "a time"),
     ("lifetime 3d", "it begins with one of"), ("POLICY 13 csk-roll", "it begins with one of"),
@@ -448,6 +452,10 @@ LINTED = (
     ("keygen no-such-program", "keygen: no-such-program isn't a program here"),
     ("policy 3 csk-roll", "algorithm 3 isn't one that dnssec-keygen makes keys of"),
     ("policy 13 csk-roll\ncsk-lifetime 1h", "csk-lifetime 1 h is shorter than a csk-roll, which"),
+    ("zsk-lifetime 40min\nclock 10min", "zsk-lifetime 40 min is shorter than a zsk-roll, which"),
+    ("policy 13 csk-roll\nsigner pdns", "signer pdns: start csk-roll csk1 csk2"),
+    ("signer other", "signer other: --signer is bind, ldns"),
+    ("signer knot\nsignatures 3d", "lifetime: knot has that in its own settings"),
 )
 
 
@@ -455,7 +463,7 @@ def policies() -> Iterator[str]:
     """Each word of a policy, wrong: it is refused by its line's number, or found by the lint."""
     with folder():
         yield from (fault for text, why in WRONG for fault in refused(text, why))
-        for text in ("policy 13 csk-roll\nzsk-lifetime 9d", "csk-lifetime 9d"):
+        for text in ("policy 13 csk-roll\nzsk-lifetime 9d", "csk-lifetime 9d", "csk-once 5"):
             yield from refused(text, "speaks of keys that its rolls don't renew", "")
         typed(["init", ZONE, "--before", 60, 60, 60])
         for text, why in LINTED:
@@ -556,7 +564,8 @@ def not_begun(world: World) -> Iterator[str]:
 def early_ends() -> Iterator[str]:
     """After an early end by hand ticks bring what it asks for to all servers, and only then begin
     anew."""
-    for policy in (SPLIT, "policy 13 ksk-double-ds-roll zsk-roll\nzsk-lifetime 6d\nksk-lifetime 7d\n"):
+    double_ds = "policy 13 ksk-double-ds-roll zsk-roll\nzsk-lifetime 6d\nksk-lifetime 7d\n"
+    for policy in (SPLIT, double_ds):
         world = World()
         with folder(), living(world, policy):
             roll = None
@@ -638,8 +647,8 @@ def shown() -> Iterator[str]:
 
 
 CHECKS = {it.__name__: it for it in (
-    policies, years, renewals, rest, clocks, disks, together, hooks, parents, demands, early_ends, many, shown,
-    courses, killed,
+    policies, years, renewals, rest, clocks, disks, together, hooks, parents, demands, early_ends,
+    many, shown, *attended.CHECKS, courses, killed,
 )}
 
 

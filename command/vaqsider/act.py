@@ -43,12 +43,8 @@ class Act:
         self.digests = args.digest or [2]
         self.changes_ds = status.is_asked(told, "UpdateDsRrset")
         # The call that asks for CDS, if it is due.
-        self.step = self._step() if status.is_asked(told, "CreateCdsRrset") else None
+        self.step = step_of(self.lines) if status.is_asked(told, "CreateCdsRrset") else None
         self.has_cds = self.step is not None and not self._is_out(self.step, said)
-
-    def _step(self) -> Call:
-        calls = History(self.lines).calls
-        return next(call for call in reversed(calls) if "CreateCdsRrset" in call.actions)
 
     def _is_out(self, step: Call, said: list[str]) -> bool:
         """Whether CDS stays out in this step. It was taken out in it, or by the notes all servers
@@ -59,8 +55,7 @@ class Act:
         words_of_step = [it["word"] for it in found if it["step"] == _name(step)]
         if words_of_step:
             return words_of_step[-1] == "cds-out"
-        seen = Seen(Notes(self.args.SCRIPT).lines, self.now)
-        return seen.calls.get("ds", 0) >= step.number - 1 and seen.is_everywhere.get("ds") is True
+        return has_spread(step, Notes(self.args.SCRIPT).lines, self.now)
 
     def says(self, said: list[str]) -> list[str]:
         """The line that this act leaves for later ones, if it says something new."""
@@ -89,6 +84,18 @@ class Act:
         """The DS records for the parent, if they have to change."""
         data = self.keys.ds(self.digests) if self.changes_ds else []
         return [f"{self.keys.origin} IN DS {text}" for text in data]
+
+
+def step_of(lines: list[str]) -> Call:
+    """The last call that asks for CDS."""
+    calls = History(lines).calls
+    return next(call for call in reversed(calls) if "CreateCdsRrset" in call.actions)
+
+
+def has_spread(step: Call, notes: list[str], now: float) -> bool:
+    """Whether all servers of the parent have the DS set of a step, by the notes."""
+    seen = Seen(notes, now)
+    return seen.calls.get("ds", 0) >= step.number - 1 and seen.is_everywhere.get("ds") is True
 
 
 def _name(step: Call) -> str:

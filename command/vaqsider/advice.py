@@ -7,7 +7,7 @@ import re
 from dataclasses import dataclass
 from typing import Sequence
 
-from keyset import programs
+from keyset import Unavailable, programs
 from keyset.lines import FORMS
 
 from .errors import UNAVAILABLE, Failure
@@ -16,6 +16,9 @@ CALL, PUBLISH, WATCH, KEY, UNTIL, NOTHING = "call", "publish", "watch", "key", "
 FORM = re.compile(
     r"(publish|watch) (ds|dnskey|zone)|key (ksk|zsk|csk) \d{1,3}|until \d{1,20}|nothing: .*"
 )
+# How a program ends that doesn't know the word yet.
+NO_WORD = "status 64: no such word"
+NOT_KNOWN = "keyset next: the program keyset doesn't know this word: it is older than the command"
 RESTS = "nothing: the zone is as the policy wants it"
 
 
@@ -51,7 +54,11 @@ def parsed(line: str) -> Said:
 def ask(policy: Sequence[str], lines: Sequence[str], notes: Sequence[str], now: int) -> str:
     """What the program answers, by the lines of a policy for it, a script and its notes, at a
     second since 1970."""
-    return programs.run("next", [*policy, "", *lines, "", *notes, f"next {now}"]).strip("\n")
+    try:
+        text = [*policy, "", *lines, "", *notes, f"next {now}"]
+        return programs.run("next", text).strip("\n")
+    except (Unavailable, ValueError) as error:
+        raise Failure(NOT_KNOWN if NO_WORD in str(error) else str(error), UNAVAILABLE) from None
 
 
 def said(policy: Sequence[str], lines: Sequence[str], notes: Sequence[str], now: int) -> Said:

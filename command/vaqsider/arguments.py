@@ -36,6 +36,16 @@ def clock():
         raise Failure(f"VAQSIDER_NOW: {error}") from None
 
 
+def words(text):
+    """A command, as a shell would quote it."""
+    from . import policies
+
+    try:
+        return policies.command(text)
+    except ValueError as error:
+        raise argparse.ArgumentTypeError(f"it has to be {error}") from None
+
+
 def expect_other(out, script):
     """A file to write may not be one of the script's own."""
     own = [Path(script).with_suffix(suffix) for suffix in (".notes", ".look", ".act")]

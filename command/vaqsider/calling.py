@@ -8,7 +8,7 @@ import keyset
 from keyset import Damaged, Locked, Malformed, Notes, lines as forms, locked
 from keyset.errors import OUT_OF_MEMORY
 
-from . import check, keyfiles, status, words
+from . import check, keyfiles, shortnames, status, words
 from .errors import BROKEN, DUE, OK, USAGE, WARNING, Failure
 from .history import REFUSED, History
 
@@ -46,8 +46,8 @@ def call(path, text, clock, although=False, dry_run=False, known=None):
     with locked(path) as file:
         if known not in (None, file.lines):
             raise Locked(f"{path}: another program has written a line")
-        line = completed(text, clock)
-        lines = [*status.whole(path, file), line]
+        line = shortnames.full(completed(text, clock), status.whole(path, file))
+        lines = [*file.lines, line]
         history = _history(path, lines)
         made = Made(line, history.replies[-1], history.published)
         if made.refused == OUT_OF_MEMORY:

@@ -81,16 +81,18 @@ def on_call(args):
 
 
 def on_status(args):
-    from . import status
+    from . import shortnames, status
 
-    told, ends_with = [], [OK]
+    told, screens, ends_with = [], [], [OK]
     for path in args.SCRIPT:
         try:
-            told.append(status.read(path, clock())[1])
+            lines, zone = status.read(path, clock())
+            told.append(zone)
+            screens.append("\n".join(status.screen(zone, shortnames.names(lines))))
         except Exception as error:
             ends_with.append(_said(error).status)
     ends_with += [BROKEN for zone in told if not zone["chain"]["safe"]]
-    text = ["\n\n".join("\n".join(status.screen(zone)) for zone in told)] if told else []
+    text = ["\n\n".join(screens)] if told else []
     return max(ends_with), text, told
 
 
@@ -202,6 +204,11 @@ def on_zones(args):
         from . import pages
 
         text = pages.page(found, clock())
+    if args.out:
+        from . import place
+
+        place.write(Path(args.out), "".join(f"{line}\n" for line in text))
+        text = ()
     return OK if is_safe else BROKEN, text, found
 
 
@@ -216,15 +223,16 @@ def on_policy(args):
 
 
 def on_tick(args):
-    from . import subjects, ticks
+    from . import policies, subjects, ticks
 
     log, jobs = ticks.logger(args.log, sys.stderr if args.json else sys.stdout), args.jobs
+    made = ticks.Ticks(clock, log, policies.Commands(args.on_ds or (), args.on_event or ()))
     if args.store:
         from . import shared
 
-        ends = shared.run(args.store, Path(args.SCRIPT[0]), jobs or ticks.JOBS, clock, log)
+        ends = shared.run(args.store, Path(args.SCRIPT[0]), jobs or ticks.JOBS, made)
     else:
-        ends = ticks.run(subjects.scripts(args.SCRIPT), jobs or ticks.JOBS, clock, log)
+        ends = ticks.run(subjects.scripts(args.SCRIPT), jobs or ticks.JOBS, made)
     worst = max((end.status for end in ends.values()), default=OK)
     text = ticks.text(ends) if args.log == "text" else ()
     return worst, text, {path: vars(end) for path, end in ends.items()}
@@ -264,6 +272,8 @@ def _said(error):
     return failure
 
 
+# The words for one zone, or for a folder, that several machines may share.
+OF_STORE = ("call", "roll", "next", "zones")
 # A word in help.txt: a line, a paragraph, and its arguments, each as `NAME  what it is`.
 WORD = re.compile(r"(?P<name>\w+): (?P<says>.*)\n\n(?P<about>(?:.+\n)*)\n(?P<arguments>(?:.+\n)*)")
 ARGUMENT = re.compile(r"^(\S+)(?: (\S+(?: \S+)*))?  (.*(?:\n .*)*)", re.MULTILINE)
@@ -282,6 +292,7 @@ READ_AS = {
     },
     "DO": {"choices": ("check", "show")},
     "copy": {"choices": ("copy",)},
+    "WORDS": {"type": arguments.words},
     "ROLE": {"choices": ("ksk", "zsk", "csk")},
     "text|json": {"choices": ("text", "json"), "default": "text"},
     "[KEYFILE..]": {"nargs": "*"},
@@ -382,11 +393,23 @@ def main(given=None):
     _open_standard()
     args = parsed(sys.argv[1:] if given is None else given)
     try:
-        ends_with, text, value = args.does(args)
+        ends_with, text, value = _done(args)
         lines = [_json(value)] if args.json else list(text)
     except (Exception, KeyboardInterrupt) as error:
         return _said(error).status
     return ends_with if _printed(lines) else UNPRINTED
+
+
+def _done(args):
+    """Does what a word asks for. Lines of a zone that several machines share are committed to the
+    store before they are in its files."""
+    if args.word not in OF_STORE or not args.store:
+        return args.does(args)
+    from . import shared
+
+    place = args.FOLDER if args.word == "zones" else args.SCRIPT
+    with shared.held(args.store, Path(place)):
+        return args.does(args)
 
 
 def _open_standard():

@@ -31,6 +31,13 @@ class Failure(Exception):
         self.status = status
 
 
+class Silent(Failure):
+    """Servers don't answer: they may later."""
+
+    def __init__(self, text):
+        super().__init__(text, UNAVAILABLE)
+
+
 # Debian's packages of the modules that only some words need.
 MODULES = {"dns": "python3-dnspython", "cryptography": "python3-cryptography"}
 

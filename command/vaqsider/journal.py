@@ -16,8 +16,10 @@ from keyset.notes import path_of
 
 SUFFIX = ".tick"
 # An act has begun, on an unsigned zone of this size and time; one is done; the DS set of a call was
-# handed to the registrar; a roll of a role was asked for.
-LINE = re.compile(r"begun \d+ \d+ \d+|done \d+|told \d+ \d+|once (ksk|zsk|csk) \d+")
+# handed to the registrar; a roll of a role was asked for; the files of a key have left.
+LINE = re.compile(
+    r"begun \d+ \d+ \d+|done \d+|told \d+ \d+|once (ksk|zsk|csk) \d+|left \S+ \d+"
+)
 
 
 @dataclass(frozen=True)
@@ -68,6 +70,11 @@ class Journal:
         return words[-1:] == ["begun"]
 
     @property
+    def ended(self) -> int | None:
+        """When the last act ended."""
+        return max((int(line[1]) for line in self.lines if line[0] == "done"), default=None)
+
+    @property
     def unsigned(self) -> Unsigned | None:
         """The unsigned zone that the last act has read."""
         begun = [line for line in self.lines if line[0] == "begun"]
@@ -79,6 +86,15 @@ class Journal:
 
     def is_told(self, call: int) -> bool:
         return any(line[:2] == ["told", str(call)] for line in self.lines)
+
+    def leave(self, key: str, now: float) -> None:
+        """The files of a key have left."""
+        self._append("left", key, int(now))
+
+    @property
+    def left(self) -> dict[str, int]:
+        """When the files of each key have left."""
+        return {line[1]: int(line[2]) for line in self.lines if line[0] == "left"}
 
     def ask(self, role: str, now: float) -> None:
         """A roll of this role is asked for."""

@@ -15,7 +15,6 @@ from pathlib import Path
 from keyset.lines import NAMES, Line
 
 from . import hooks, keyfiles
-from .arguments import file_name
 from .errors import UNAVAILABLE, Failure
 from .keyfiles import KeyFile
 from .policies import Policy
@@ -23,20 +22,23 @@ from .policies import Policy
 # How the folders of keys that are being made, and of keys that have left, end or are called.
 MAKING, LEFT = ".new-keys", "left"
 ROLES_WITH_SEP = ("ksk", "csk")
+# The files of a key, the private half first.
+ENDS = (".private", ".state", ".key")
 
 
 @dataclass(frozen=True)
 class Maker:
-    """Makes keys for a zone by its policy. `folder` has its key files."""
+    """Makes keys for a zone by its policy. `folder` has its key files, and `name` is its script's."""
 
     zone: str
     policy: Policy
     folder: Path
+    name: str
 
     @property
     def making(self) -> Path:
         """Where keys are made. Nobody else reads it."""
-        return self.folder / f".{file_name(self.zone)}{MAKING}"
+        return self.folder / f".{self.name}{MAKING}"
 
     def words(self, role: str, algorithm: int) -> list[str]:
         """The command that makes a key of this role, in its folder."""
@@ -104,6 +106,15 @@ class Maker:
         return moved
 
 
+    def purge(self, name: str) -> list[str]:
+        """Deletes the files of a key that has left."""
+        path = self.folder / LEFT / name
+        found = [it for it in (path.with_suffix(end) for end in ENDS) if it.is_file()]
+        for file in found:
+            file.unlink()
+        return [name] if found else []
+
+
 def _deleted(lines: list[str]) -> Iterator[str]:
     """The references that were deleted last, and not added since."""
     last = {}
@@ -115,7 +126,7 @@ def _deleted(lines: list[str]) -> Iterator[str]:
 
 def _move(path: Path, folder: Path) -> list[str]:
     """Moves the files of a key, the private half first. Returns once that is on disk."""
-    for file in (path.with_suffix(".private"), path.with_suffix(".state"), path):
+    for file in (path.with_suffix(end) for end in ENDS):
         if file.is_file():
             shutil.move(str(file), str(folder / file.name))
     _sync(folder, path.parent)

@@ -12,13 +12,14 @@ from pathlib import Path
 
 from keyset.lines import NAMES
 
-from . import plan, words
+from . import plan, signers, words
 from .check import Finding
-from .errors import OK, WARNING
+from .errors import OK, WARNING, Failure
 from .policies import Policy
+from .signers import Planned
 
 # When a roll of the lint begins: long after the moments of its keys.
-BEGIN = 1_000_000_000
+BEGIN, EXAMPLE = 1_000_000_000, "example.com"
 # The tools that make keys, and the algorithms that each knows.
 TOOLS = {"dnssec-keygen": set(NAMES), "ldns-keygen": set(NAMES)}
 
@@ -49,7 +50,8 @@ class Spans:
 def findings(policy: Policy, spans: Spans) -> list[Finding]:
     """All that is wrong, with what is only to be known at the end."""
     return [*_of_rolls(policy, spans), *_of_ttls(policy, spans), *_of_signatures(policy, spans),
-            *_of_parent(policy), *_of_tools(policy), *_of_words(policy)]
+            *_of_parent(policy), *_of_tools(policy),
+            *(_of_words(policy) or _of_signer(policy, spans))]
 
 
 def _wrong(text: str) -> Finding:
@@ -71,17 +73,18 @@ def _lifetime(roll: str) -> str:
     return f"{roll[:3]}-lifetime"
 
 
-def takes_of(policy: Policy, roll: str, spans: Spans) -> int:
-    """How long a roll takes, from its start to its end."""
+def takes_of(policy: Policy, roll: str, spans: Spans, signer: Planned | None = None) -> int:
+    """How long a roll takes, from its start to its end. Each of its waits is longer by what a clock
+    may be wrong."""
     kinds = policy.roles
     adds = [f"add-{kind} {kind}{age} - {policy.algorithm} {tag} 0 yes"
             for tag, (kind, age) in enumerate((kind, age) for kind in kinds for age in (1, 2))]
     olds, role = ",".join(f"{kind}1" for kind in kinds), roll[:3]
-    made = plan.Plan(["zone example.com", *adds], BEGIN, spans.ttls, spans.delays)
+    made = plan.Plan([f"zone {EXAMPLE}", *adds], BEGIN, spans.ttls, spans.delays, signer)
     made.roll("algorithm-roll", "-", olds)
     begun = made.moment
     made.roll(roll, f"{role}1", f"{role}2")
-    return made.moment - begun
+    return made.moment - begun + 4 * policy.clock
 
 
 def _of_ttls(policy: Policy, spans: Spans) -> Iterator[Finding]:
@@ -125,14 +128,32 @@ def _of_tools(policy: Policy) -> Iterator[Finding]:
         yield _wrong(f"algorithm {policy.algorithm} isn't one that {tool} makes keys of")
 
 
-def _of_words(policy: Policy) -> Iterator[Finding]:
+def _of_signer(policy: Policy, spans: Spans) -> list[Finding]:
+    """The rolls that its signer can't do."""
+    from . import cli
+
+    args, found = cli.parsed(policy.for_act(f"{EXAMPLE}.script")), []
+    for roll in policy.rolls:
+        try:
+            signer = signers.planned(args, EXAMPLE)
+            takes_of(policy, roll, spans, signer and Planned(signer.lacks, signer.folders))
+        except Failure as failure:
+            found.append(_wrong(f"signer {policy.signer}: {failure}"))
+    found += (_wrong(f"{name}: {policy.signer} has that in its own settings")
+              for name in signers.not_taken(args))
+    return found
+
+
+def _of_words(policy: Policy) -> list[Finding]:
     """What the words that publish and look don't take."""
     from . import cli
 
+    found = []
     for line in (policy.for_act("example.com.script"), policy.for_watch("example.com.script")):
         said = io.StringIO()
         try:
             with contextlib.redirect_stderr(said):
                 cli.parsed(line)
         except SystemExit:
-            yield _wrong(said.getvalue().partition("; ")[0].strip())
+            found.append(_wrong(said.getvalue().partition("; ")[0].strip()))
+    return found

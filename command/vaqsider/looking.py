@@ -7,7 +7,7 @@ from dataclasses import dataclass
 from . import asking, comparing
 from .asking import Answer, Server
 from .comparing import TYPES, Due
-from .errors import UNAVAILABLE, Failure
+from .errors import Silent
 
 
 @dataclass(frozen=True, order=True)
@@ -52,7 +52,7 @@ class Places:
         if not servers:
             of, option = ("the parent of ", "parent-") if is_parent else ("", "")
             text = f"no servers of {of}{zone} found: name them by --{option}server"
-            raise Failure(text, UNAVAILABLE)
+            raise Silent(text)
         return servers
 
 

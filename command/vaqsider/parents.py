@@ -10,7 +10,7 @@ from dataclasses import dataclass
 from keyset import Notes
 
 from . import comparing, looking, status
-from .errors import UNAVAILABLE, Failure
+from .errors import Silent
 from .history import History
 from .looking import Look, Places
 
@@ -99,5 +99,5 @@ def before_step(args, lines: list[str], told: dict, clock) -> None:
               if answer.fault]
     if silent and not args.although:
         text = "the TTL of the present DS set has to be noted first, unless you say --although"
-        raise Failure(f"{'; '.join(silent)}: {text}", UNAVAILABLE)
+        raise Silent(f"{'; '.join(silent)}: {text}")
     note(notes, lines, told, look)

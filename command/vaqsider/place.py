@@ -91,6 +91,13 @@ def _regular(path: Path) -> os.stat_result | None:
     return None
 
 
+def write(path: Path, text: str) -> None:
+    """Gives a file this text: all of it, or it stays as it was."""
+    draft = path.with_name(f".{path.name}.draft")
+    draft.write_bytes(text.encode("utf-8", "surrogateescape"))
+    put(draft, path)
+
+
 def put(draft: Path, signed: Path) -> None:
     """Puts the draft into its place. Returns once that is on disk."""
     os.replace(draft, signed)

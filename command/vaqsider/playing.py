@@ -46,7 +46,7 @@ class Play:
         """Plays to this moment. Gives each call with its moment and what it asks."""
         deeds, last = 0, self.moment
         while self.moment < end:
-            policy = self.policy.for_program(self.once)
+            policy = self.policy.for_program(self.once, self.moment)
             said = advice.said(policy, self.lines, self.notes, self.moment)
             if said.word == advice.NOTHING:
                 break
@@ -80,7 +80,7 @@ class Play:
             return line
         asked = {it["roll"]: it["due"] for it in self.course.keys.status()["rolls"]}
         ttl = to_report(int(rest[0]), words.kinds_of(asked[roll]), roll, self.ttls)
-        return f"{word} {roll} {ttl} {rest[1]}"
+        return f"{word} {roll} {ttl + 2 * self.policy.clock} {rest[1]}"
 
     def _key(self, role: str, algorithm: str) -> str:
         """The line of a key that is made now. Its tag is a number that no other has."""

@@ -34,6 +34,13 @@ class Base(NamedTuple):
     rolls: tuple[str, ...]
 
 
+class Commands(NamedTuple):
+    """The operator's commands that a command line names. They go before those of a policy."""
+
+    on_ds: tuple[str, ...] = ()
+    on_event: tuple[str, ...] = ()
+
+
 @dataclass(frozen=True)
 class Policy:
     """What an operator wants of a zone. Time spans are in seconds, and None means never or none."""
@@ -42,6 +49,9 @@ class Policy:
     ksk_lifetime: int | None = None
     zsk_lifetime: int | None = None
     csk_lifetime: int | None = None
+    ksk_once: int | None = None
+    zsk_once: int | None = None
+    csk_once: int | None = None
     delete_after: int = 0
     keygen: tuple[str, ...] = ("dnssec-keygen",)
     signer: str = "bind"
@@ -64,6 +74,8 @@ class Policy:
     on_ds: tuple[str, ...] = ()
     on_event: tuple[str, ...] = ()
     patience: int = DAY
+    clock: int = 0
+    purge: int | None = None
     source: str = field(default="", compare=False)
 
     @property
@@ -88,15 +100,20 @@ class Policy:
         """The lifetime of the keys that each roll renews."""
         return {roll: getattr(self, f"{roll[:3]}_lifetime") for roll in self.rolls}
 
-    def for_program(self, once: dict[str, int]) -> list[str]:
+    def for_program(self, asked: dict[str, int], now: float) -> list[str]:
         """The lines of the policy for the program, with the moments at which rolls of a role were
         asked for."""
         lines = [f"policy {self.algorithm} {' '.join(self.rolls)}"]
         for role in self.roles:
-            lifetime = getattr(self, f"{role}_lifetime")
+            lifetime, once = getattr(self, f"{role}_lifetime"), self._once(role, asked, now)
             lines += [] if lifetime is None else [f"{role}-lifetime {lifetime}"]
-            lines += [f"{role}-once {once[role]}"] if role in once else []
+            lines += [] if once is None else [f"{role}-once {once}"]
         return [*lines, f"delete-after {self.delete_after}"]
+
+    def _once(self, role: str, asked: dict[str, int], now: float) -> int | None:
+        """The last moment that is over, or else the first: the program takes one of each role."""
+        found = [it for it in (getattr(self, f"{role}_once"), asked.get(role)) if it is not None]
+        return max((it for it in found if it <= now), default=min(found, default=None))
 
     def for_act(self, script: str | Path) -> list[str]:
         """The words of the act that publishes by this policy."""
@@ -114,6 +131,13 @@ class Policy:
     def _of_parent(self) -> list[str]:
         servers = [it for name in self.parent_server for it in ("--parent-server", name)]
         return [*servers, *_options({"parent": self.parent_zone, "port": self.port})]
+
+    def by(self, commands: Commands) -> Policy:
+        """The same policy with these commands."""
+        policy = self
+        if commands.on_ds:
+            policy = replace(policy, parent="hook", on_ds=commands.on_ds)
+        return replace(policy, on_event=commands.on_event) if commands.on_event else policy
 
     def said(self) -> list[str]:
         """All of it, as lines of a policy file."""
@@ -149,6 +173,12 @@ def _length(text: str) -> int:
     return seconds
 
 
+def _moment(text: str) -> int:
+    if not re.fullmatch(r"\d{1,11}", text):
+        raise ValueError("a moment in seconds since 1970")
+    return int(text)
+
+
 def _algorithm(text: str) -> int:
     if text in ALGORITHMS:
         return ALGORITHMS[text]
@@ -168,7 +198,7 @@ def _base(text: str) -> Base:
     return Base(_algorithm(algorithm), rolls)
 
 
-def _command(text: str) -> tuple[str, ...]:
+def command(text: str) -> tuple[str, ...]:
     try:
         words = tuple(shlex.split(text))
     except ValueError:
@@ -204,12 +234,14 @@ def _port(text: str) -> int:
 SERIALS = ("unixtime", "increment", "date", "keep")
 READ_AS: dict[str, Callable[[str], object]] = {
     "policy": _base, "ksk-lifetime": _span, "zsk-lifetime": _span, "csk-lifetime": _span,
-    "delete-after": _length, "keygen": _command, "signer": _text, "signer-config": _text,
+    "ksk-once": _moment, "zsk-once": _moment, "csk-once": _moment,
+    "delete-after": _length, "keygen": command, "signer": _text, "signer-config": _text,
     "zone-file": _text, "out": _text,
     "keys": _text, "signatures": _length, "jitter": _length, "renew-before": _length,
-    "serial": _one_of(*SERIALS), "nsec3": _text, "dnskey-ttl": _length, "reload": _command,
+    "serial": _one_of(*SERIALS), "nsec3": _text, "dnskey-ttl": _length, "reload": command,
     "server": _names, "parent-server": _names, "parent-zone": _text, "port": _port,
-    "parent": _one_of(*PARENTS), "on-ds": _command, "on-event": _command, "patience": _length,
+    "parent": _one_of(*PARENTS), "on-ds": command, "on-event": command, "patience": _length,
+    "clock": _length, "purge": _span,
 }
 SPANS = {name for name, read in READ_AS.items() if read in (_span, _length)}
 
@@ -223,7 +255,7 @@ def _shown(name: str, value: object) -> str:
         return f"{NAMES.get(value.algorithm, value.algorithm)} {' '.join(value.rolls)}"
     if isinstance(value, tuple):
         words = map(shlex.quote, value)
-        return " ".join(words if READ_AS[name] is _command else value)
+        return " ".join(words if READ_AS[name] is command else value)
     return str(value)
 
 
@@ -247,9 +279,9 @@ def parsed(lines: Sequence[str], source: str) -> Policy:
             raise Failure(f"{source}: line {number}: {word} has to be {error}") from None
     named = {word.replace("-", "_"): value for word, value in said.items()}
     policy = replace(Policy(source=source), **named)
-    for role in {"ksk", "zsk", "csk"} - set(policy.roles):
-        if f"{role}-lifetime" in said:
-            raise Failure(f"{source}: {role}-lifetime speaks of keys that its rolls don't renew: "
+    for word in said:
+        if word[:4] in {"ksk-", "zsk-", "csk-"} and word[:3] not in policy.roles:
+            raise Failure(f"{source}: {word} speaks of keys that its rolls don't renew: "
                           f"{' '.join(policy.rolls)}")
     return policy
 

@@ -19,13 +19,17 @@ SUFFIX = ".rest"
 @dataclass(frozen=True)
 class Rest:
     """How the last tick ended: its moment, until when nothing is needed, its status and what it
-    said; and how the zone's files were then."""
+    said; how the zone's files were then; since when it is so; and until when all is signed, if
+    that is known here."""
 
     moment: int
     until: int | None
     status: int
     text: str
     files: dict[str, list[int] | None]
+    event: str = ""
+    since: int = 0
+    signed: int | None = None
 
     def holds(self, script: str | Path, now: float) -> bool:
         """Whether nothing is needed now either. (A copy of another zone's file says nothing.)"""
@@ -61,10 +65,7 @@ def read(script: str | Path) -> Rest | None:
 
 def keep(script: str | Path, rest: Rest) -> None:
     """Writes it in the place of the last one: whole, or not at all."""
-    path = place_of(script)
-    draft = path.with_name(f".{path.name}.draft")
-    draft.write_text(f"{json.dumps(asdict(rest))}\n", encoding="ascii")
-    place.put(draft, path)
+    place.write(place_of(script), f"{json.dumps(asdict(rest))}\n")
 
 
 def files(script: str | Path, others: Iterable[Path]) -> dict[str, list[int] | None]:

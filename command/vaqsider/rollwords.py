@@ -7,17 +7,26 @@ import time
 from argparse import Namespace
 from collections.abc import Iterator
 from pathlib import Path
-from typing import Callable
 
 from keyset import Lines, Notes
 
-from . import advice, calling, journal, playing, policies, status, ticking, ticks, words
+from . import (
+    advice,
+    calling,
+    journal,
+    playing,
+    policies,
+    shortnames,
+    status,
+    ticks,
+    words,
+)
+from .ending import Clock, Log
 from .errors import OK, USAGE, Failure
 from .linting import Spans
 from .playing import Play
 from .policies import Policy
 
-Clock = Callable[[], float]
 Told = tuple[int, Iterator[str], object]
 # How a question is answered with yes.
 YES = ("y", "yes")
@@ -30,6 +39,7 @@ def roll(args: Namespace, clock: Clock) -> Told:
     policy = policies.read(args.SCRIPT)
     of = _roll_of(policy, args.ROLE)
     now = int(clock())
+    args.to = _reference(args)
     add = _added(args)
     steps = list(_steps(_play(args.SCRIPT, policy, now, {args.ROLE: now}, add), of))
     if not steps:
@@ -53,6 +63,13 @@ def _roll_of(policy: Policy, role: str) -> str:
         raise Failure(f"{policy.source} has no {role.upper()}s: its rolls are "
                       f"{', '.join(policy.rolls)}", USAGE)
     return found[0]
+
+
+def _reference(args: Namespace) -> str | None:
+    """The key to roll to. It may have been called by its short name."""
+    if args.to is None:
+        return None
+    return shortnames.full(f"delete {args.to}", Lines(args.SCRIPT).lines).split(" ", 1)[1]
 
 
 def _added(args: Namespace) -> list[str]:
@@ -92,7 +109,7 @@ def _steps(play: Play, of: str) -> Iterator[dict]:
             return
 
 
-def _log(args: Namespace) -> ticking.Log:
+def _log(args: Namespace) -> Log:
     return ticks.logger("text", sys.stderr if args.json else sys.stdout)
 
 
@@ -110,6 +127,7 @@ def next_(args: Namespace, clock: Clock) -> Told:
         return end.status, iter([end.text]), vars(end)
     policy = policies.read(args.SCRIPT)
     lines, _ = status.read(args.SCRIPT, clock())
-    said = advice.said(policy.for_program(journal.once_of(args.SCRIPT)), lines,
-                       Notes(Path(args.SCRIPT)).lines, int(clock()))
+    now = int(clock())
+    asked = policy.for_program(journal.once_of(args.SCRIPT), now)
+    said = advice.said(asked, lines, Notes(Path(args.SCRIPT)).lines, now)
     return OK, iter([said.line]), vars(said)

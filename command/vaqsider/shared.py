@@ -16,8 +16,9 @@ from pathlib import Path
 from keyset import Lines, Locked, file, locked
 
 from . import place, policies, subjects, ticks
-from .errors import BROKEN, DUE, OK, UNAVAILABLE, WARNING, Failure
-from .ticking import Clock, Deed, End, Log
+from .ending import End
+from .errors import BROKEN, DUE, UNAVAILABLE, WARNING, Failure
+from .ticks import Ticks
 
 try:
     import psycopg
@@ -40,6 +41,7 @@ CREATE OR REPLACE TRIGGER vaqsider_kept BEFORE UPDATE OR DELETE ON vaqsider_line
 """
 TAKE = """SELECT name, policy FROM vaqsider_zone WHERE seen < %s
     ORDER BY seen, name FOR UPDATE SKIP LOCKED LIMIT 1"""
+HOLD = "SELECT policy FROM vaqsider_zone WHERE name = %s FOR UPDATE"
 LEAVE = "UPDATE vaqsider_zone SET seen = %s, status = %s, says = %s WHERE name = %s"
 READ = "SELECT line FROM vaqsider_line WHERE zone = %s AND file = %s ORDER BY number"
 ADD = "INSERT INTO vaqsider_line (zone, file, number, line) VALUES (%s, %s, %s, %s)"
@@ -93,9 +95,10 @@ class Store:
         except psycopg.errors.UniqueViolation:
             raise Locked(f"{zone}: another machine has written line {number} of its {of}") from None
 
-    def bring(self, zone: str, folder: Path) -> None:
+    def bring(self, zone: str, folder: Path, policy: str) -> None:
         """Brings the files of a zone up to what is committed. They may lag, as after a crash; with
         other lines a person has to see why."""
+        _write(folder / f"{zone}{policies.SUFFIX}", policy)
         for of in FILES:
             path, lines = folder / f"{zone}.{of}", self.lines(zone, of)
             if not path.exists():
@@ -123,7 +126,7 @@ class Store:
 
     # ---- zones
 
-    def next(self, before: int, folder: Path, clock: Clock, log: Log) -> tuple[str, End] | None:
+    def next(self, before: int, folder: Path, made: Ticks) -> tuple[str, End] | None:
         """Ticks the zone that waits longest of those that were not ticked since a moment, and that
         no other machine has. None if there is none."""
         with self.taking.transaction():
@@ -131,20 +134,19 @@ class Store:
             if taken is None:
                 return None
             zone, policy = taken
-            end = self._tick(zone, policy, folder, clock, log)
-            execute(self.taking, LEAVE, int(clock()) + 1, end.status, end.text, zone)
+            end = self._tick(zone, policy, folder, made)
+            execute(self.taking, LEAVE, int(made.clock()) + 1, end.status, end.text, zone)
             return zone, end
 
-    def _tick(self, zone: str, policy: str, folder: Path, clock: Clock, log: Log) -> End:
+    def _tick(self, zone: str, policy: str, folder: Path, made: Ticks) -> End:
         try:
-            self.bring(zone, folder)
-            _write(folder / f"{zone}{policies.SUFFIX}", policy)
+            self.bring(zone, folder, policy)
         except Locked as error:
-            return End(DUE, str(error))
+            return made.ended(zone, End(DUE, str(error)))
         except Exception as error:
-            return End(*ticks.fault_of(error))
+            return made.ended(zone, End(*ticks.fault_of(error)))
         with self.witnessing(zone, folder):
-            return ticks.tick(folder / f"{zone}.script", clock, log)
+            return made.tick(folder / f"{zone}.script")
 
     # ---- copies
 
@@ -164,8 +166,7 @@ class Store:
         """Copies all zones to files."""
         found = list(execute(self.adding, "SELECT name, policy FROM vaqsider_zone ORDER BY name"))
         for zone, policy in found:
-            self.bring(zone, folder)
-            _write(folder / f"{zone}{policies.SUFFIX}", policy)
+            self.bring(zone, folder, policy)
         return [zone for zone, _ in found]
 
 
@@ -173,29 +174,43 @@ def _write(path: Path, text: str) -> None:
     """Has the file have this text. It isn't written if it has."""
     if path.exists() and path.read_text(encoding="utf-8") == text:
         return
-    draft = path.with_name(f".{path.name}.draft")
-    draft.write_text(text, encoding="utf-8")
-    place.put(draft, path)
+    place.write(path, text)
 
 
 def is_url(text: str) -> bool:
     return text.startswith(("postgresql://", "postgres://"))
 
 
-def run(url: str, folder: Path, jobs: int, clock: Clock, log: Log) -> dict[str, End]:
+def run(url: str, folder: Path, jobs: int, made: Ticks) -> dict[str, End]:
     """Ticks all zones of a store that no other machine ticks now. How each ended."""
-    before, ends = int(clock()) + 1, {}
+    before, ends = int(made.clock()) + 1, {}
 
     def one(_: int) -> None:
         with Store(url) as store:
-            while found := store.next(before, folder, clock, log):
+            while found := store.next(before, folder, made):
                 ends[found[0]] = found[1]
-                if found[1].status != OK:
-                    log(Deed(int(clock()), found[0], ticks.MEANS[found[1].status], found[1].text))
 
     with ThreadPoolExecutor(jobs) as pool:
         list(pool.map(one, range(jobs)))
     return ends
+
+
+@contextlib.contextmanager
+def held(url: str, place: Path) -> Iterator[None]:
+    """Meanwhile a script is that of the store, and no other machine has it. To a folder all zones
+    of the store are copied first."""
+    with Store(url) as store:
+        if place.is_dir():
+            store.give_out(place)
+            yield
+            return
+        with store.taking.transaction():
+            found = execute(store.taking, HOLD, place.stem).fetchone()
+            if found is None:
+                raise Failure(f"{place.stem} isn't in the store")
+            store.bring(place.stem, place.parent, *found)
+            with store.witnessing(place.stem, place.parent):
+                yield
 
 
 def copy(source: str, target: str) -> list[str]:

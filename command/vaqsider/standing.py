@@ -1,5 +1,5 @@
 """The signed zone that stands in its place: whether it is what is due, and when its signatures run
-low. Of a signer that keeps no such file nothing is known here."""
+low. A signer that runs is asked what it has."""
 
 from __future__ import annotations
 
@@ -10,6 +10,7 @@ from pathlib import Path
 
 from .arguments import file_name
 from .policies import Policy
+from .signers import Sets
 from .zonefile import By, NotFull, covered, parsed, rows
 
 
@@ -40,6 +41,14 @@ class Standing:
         except (NotFull, OSError, ValueError, IndexError):
             return None
         return made
+
+    @classmethod
+    def of_sets(cls, sets: Sets | None) -> Standing:
+        """What a signer that runs has in its database. It renews signatures by itself."""
+        sets = sets or Sets()
+        keys, signers, zone = ({By(key.algorithm, key.tag) for key in of}
+                               for of in (sets.dnskey, sets.signers, sets.zone))
+        return cls(keys, {"DNSKEY": signers, "SOA": zone}, bool(sets.cds))
 
     def _sign(self, data: str, is_top: bool) -> None:
         kind, by = covered(data)

@@ -71,8 +71,8 @@ def is_asked(told, action):
     return any(action in actions for actions in asked(told).values())
 
 
-def screen(told):
-    """The lines of the screen."""
+def screen(told, names=None):
+    """The lines of the screen. Keys may have short names too."""
     places = {name: place for name, place in told["chain"].items() if name != "safe"}
     verdict = SAFE if told["chain"]["safe"] else f"chain {keyset.Broken(**places)}"
     yield f"{told['zone']}: {verdict}"
@@ -80,7 +80,7 @@ def screen(told):
         yield f"  {label:8} {words.listed(told['published'][kind])}"
     if told["keys"]:
         yield ""
-        yield from (f"  {line}" for line in words.table(_keys(told)))
+        yield from (f"  {line}" for line in words.table(_keys(told, names or {})))
     for roll in told["rolls"]:
         yield f"\n  {roll['roll']}: {roll['phase']}, waits for {roll['waits_for']}"
         yield from (f"    {text}" for text in words.asks(roll["due"], told["published"]))
@@ -90,8 +90,9 @@ def screen(told):
         yield from (f"    {text}" for text in words.asks(roll["asked"], told["published"]))
 
 
-def _keys(told):
-    yield "KEY", "KIND", "TAG", "ALGORITHM", "STATE", "IN", "ROLL", "DELETE"
+def _keys(told, names):
+    short = ("NAME",) if names else ()
+    yield "KEY", "KIND", "TAG", "ALGORITHM", "STATE", "IN", "ROLL", "DELETE", *short
     for key in told["keys"]:
         name, kind = key["reference"], key["kind"]
         sets = [kind for kind, keys in told["published"].items() if name in keys]
@@ -100,5 +101,5 @@ def _keys(told):
         yield (
             name, kind if kind == "public" else kind.upper(), key["tag"], key["algorithm"],
             "/".join(states), " ".join(sets) or None, ", ".join(rolls) or None,
-            "yes" if key["may_be_deleted"] else None,
+            "yes" if key["may_be_deleted"] else None, *([names.get(name)] if names else ()),
         )

@@ -11,14 +11,15 @@ import functools
 from argparse import Namespace
 from dataclasses import dataclass, field
 from pathlib import Path
-from typing import Callable
 
 from keyset import Notes, WrongArgument
 from keyset.lines import Line
 from keyset.notes import Seen, to_report
 
-from . import act, advice, calling, cli, hooks, policies, resting, status, watching, words
+from . import act, advice, calling, cli, hooks, policies, resting, shortnames, signers, status
+from . import watching, words
 from .advice import Said
+from .ending import PARENT_LACKS, REFUSED, RUN_LOW, STUCK, Clock, Deed, Done, End, Log
 from .errors import BROKEN, DUE, OK, WARNING, Failure
 from .journal import Journal, Unsigned
 from .keymaking import Maker
@@ -29,47 +30,16 @@ from .zonefile import By
 
 # A tick makes at most so many deeds, and tries so many keys for one whose tag is free.
 DEEDS, TRIES = 50, 8
-TAKEN = "Key tag already present"
+WEEK = 7 * policies.DAY
 # These signers keep the signed zone in a file.
 OF_FILES = ("bind", "ldns")
-
-
-@dataclass(frozen=True)
-class Deed:
-    """Something that a tick has done, for the log."""
-
-    moment: int
-    zone: str
-    deed: str
-    text: str
-
-
-@dataclass(frozen=True)
-class End:
-    """How a tick ends: 0 nothing is needed, 1 it waits for servers or the parent, 2 it needs a
-    person, 3 something is broken. From `until` on there may be something to do."""
-
-    status: int
-    text: str
-    until: int | None = None
-
-
-class Done(Exception):
-    """Ends a tick."""
-
-    def __init__(self, status: int, text: str, until: int | None = None) -> None:
-        super().__init__(text)
-        self.end = End(status, text, until)
-
-
-Log = Callable[[Deed], None]
-Clock = Callable[[], float]
+TAKEN = "Key tag already present"
 
 
 @dataclass
 class Tick:
-    """A tick of a script by its policy. `acted` are the acts of this tick, by the number of lines
-    and whether CDS was to be in; `stood` is what it has read of the signed file; and `is_cds_out`
+    """A tick of a script by its policy. `acted` are the acts of this tick, by the number of lines,
+    whether CDS was to be in, and the unsigned zone; `stood` is what it has read of the signed file; and `is_cds_out`
     says that no server gives CDS any more."""
 
     script: Path
@@ -80,7 +50,7 @@ class Tick:
     most: int = DEEDS
     lines: list[str] = field(default_factory=list)
     told: dict = field(default_factory=dict)
-    acted: set[tuple[int, bool]] = field(default_factory=set)
+    acted: set[tuple[int, bool, Unsigned]] = field(default_factory=set)
     is_cds_out: bool = False
     stood: tuple[list[int] | None, Standing | None] | None = None
 
@@ -95,7 +65,7 @@ class Tick:
             return End(DUE, "more is due: run it again")
         except Done as done:
             if done.end.status < WARNING:
-                self.say("moved away", self.maker.remove(self.lines))
+                self.clear_away()
             return done.end
 
     def read(self) -> None:
@@ -119,10 +89,11 @@ class Tick:
         moments = [Line(line).moment or 0 for line in self.lines
                    if line.partition(" ")[0] in ("start", "report1", "wait1", "report2", "wait2")]
         moments += [int(line.rpartition(" ")[2]) for line in self.notes.lines[1:]]
-        ahead = max(moments, default=0) - int(self.clock())
-        if ahead > 0:
-            text = f"its last moment lies {words.duration(ahead)} ahead of the clock"
-            raise Done(WARNING, f"{text}: was that set back?")
+        last = max(moments, default=0)
+        if last > int(self.clock()):
+            is_allowed = last <= self.clock() + 2 * self.policy.clock
+            text = f"its last moment, {words.moment(last)}, lies ahead of the clock"
+            raise Done(DUE if is_allowed else WARNING, f"{text}: was that set back?")
 
     def step(self) -> None:
         """One deed, by what is most urgent."""
@@ -155,9 +126,9 @@ class Tick:
         }[said.word](said)
 
     def next(self) -> Said:
-        once = self.journal.once
-        return advice.said(self.policy.for_program(once), self.lines, self.notes.lines,
-                           int(self.clock()))
+        now = int(self.clock())
+        policy = self.policy.for_program(self.journal.once, now)
+        return advice.said(policy, self.lines, self.notes.lines, now)
 
     def say(self, deed: str, texts: list[str]) -> None:
         for text in texts:
@@ -172,7 +143,7 @@ class Tick:
     @functools.cached_property
     def maker(self) -> Maker:
         folder = Path(self.policy.keys or self.script.parent)
-        return Maker(self.zone, self.policy, folder)
+        return Maker(self.zone, self.policy, folder, self.script.stem)
 
     @functools.cached_property
     def places(self) -> Places:
@@ -180,10 +151,15 @@ class Tick:
 
     def standing(self) -> Standing | None:
         """What stands in place. It is read again only if it has changed."""
-        seen = resting.seen(self.places.signed)
+        seen = resting.seen(self.places.signed) if self.is_of_file else [len(self.acted)]
         if self.stood is None or self.stood[0] != seen:
-            self.stood = seen, Standing.of(self.places.signed, self.zone)
+            self.stood = seen, self._standing()
         return self.stood[1]
+
+    def _standing(self) -> Standing | None:
+        if self.is_of_file:
+            return Standing.of(self.places.signed, self.zone)
+        return Standing.of_sets(self.signer().now())
 
     def act_is_due(self) -> str | None:
         """Why something has to be published now, whatever is said next."""
@@ -193,8 +169,7 @@ class Tick:
             return "an act was not ended"
         stands = self.standing()
         if stands is None:
-            is_missing = self.policy.signer in OF_FILES and not self.places.signed.exists()
-            return "the signed zone is missing" if is_missing else None
+            return None if self.places.signed.exists() else "the signed zone is missing"
         if not stands.is_due(self.told):
             return "other keys are due"
         if self.journal.unsigned != Unsigned.of(self.places.unsigned):
@@ -202,10 +177,42 @@ class Tick:
         renew = self.renew_from(stands)
         return "signatures run low" if renew is not None and renew <= self.clock() else None
 
+    @property
+    def is_of_file(self) -> bool:
+        """Whether the signer keeps the signed zone in a file."""
+        return self.policy.signer in OF_FILES
+
+    def signer(self) -> signers.Signer:
+        args = parsed(self.policy.for_act(self.script))
+        return signers.of(args, act.Act(args, self.clock(), []))
+
     def renew_from(self, stands: Standing) -> int | None:
-        """When signatures are to be renewed."""
+        """When signatures are to be renewed. A signer that runs does so by itself: it is asked each
+        week for a new serial, so that secondaries get them."""
+        if not self.is_of_file:
+            return None if self.journal.ended is None else self.journal.ended + WEEK
         ends = stands.expires(self.away())
         return None if ends is None else ends - self.policy.renews_before
+
+    def low_from(self, stands: Standing) -> int | None:
+        """When a person has to see that signatures run low: if they aren't renewed in the first
+        half of the time for it. Those by keys that are away nobody renews here."""
+        ends = stands.expires(set())
+        return None if ends is None else ends - self.policy.renews_before // 2
+
+    def signed_until(self) -> int | None:
+        """When the first signature expires, as far as the last look at the signed file knows."""
+        stands = self.stood[1] if self.stood is not None else None
+        return None if stands is None else stands.expires(set())
+
+    def of_signatures(self, end: End) -> End:
+        """The end of a tick, which needs a person if signatures run low."""
+        stands = self.standing() if end.status < BROKEN and self.told and self.is_of_file else None
+        low = None if stands is None else self.low_from(stands)
+        if low is None or low > self.clock():
+            return end
+        ends = words.moment(low + self.policy.renews_before // 2)
+        return End(WARNING, f"signatures expire at {ends}; {end.text}", end.until, RUN_LOW)
 
     def away(self) -> set[By]:
         """The keys whose private half isn't here."""
@@ -220,23 +227,23 @@ class Tick:
 
     def publish(self, why: str) -> None:
         """An act. If it was made in this tick and is still due, a person has to see why."""
-        has_cds = self.wants_cds()
-        if (len(self.lines), has_cds) in self.acted:
+        made = len(self.lines), self.wants_cds(), Unsigned.of(self.places.unsigned)
+        if made in self.acted:
             raise Done(WARNING, f"it was published, and still {why}: what does the signer do?")
-        self.acted.add((len(self.lines), has_cds))
-        self.journal.begin(self.clock(), Unsigned.of(self.places.unsigned))
-        made, _ = act.perform(parsed(self.policy.for_act(self.script)), self.clock)
+        self.acted.add(made)
+        self.journal.begin(self.clock(), made[2])
+        did, _ = act.perform(parsed(self.policy.for_act(self.script)), self.clock)
         if self.policy.reload:
             hooks.run(hooks.filled(self.policy.reload, self.zone))
         self.journal.end(self.clock())
-        cds = ", with CDS" if made.has_cds else ""
+        cds = ", with CDS" if did.has_cds else ""
         self.say("published", [f"{why}: {words.listed(self.told['published']['dnskey'])}{cds}"])
 
     def wants_cds(self) -> bool:
         """Whether an act puts CDS in now: the DS set is asked for, and not seen everywhere."""
-        seen = Seen(self.notes.lines, self.clock())
-        is_asked = status.is_asked(self.told, "CreateCdsRrset")
-        return is_asked and seen.is_everywhere.get("ds") is not True
+        if not status.is_asked(self.told, "CreateCdsRrset"):
+            return False
+        return not act.has_spread(act.step_of(self.lines), self.notes.lines, self.clock())
 
     def call(self, said: Said) -> None:
         """Makes the call that is said. Before a report of the DS set, or the end of a roll that
@@ -252,16 +259,18 @@ class Tick:
         line = self.reported(said.line, kinds) if word.startswith("report") else said.line
         made = calling.call(self.script, line, self.clock, known=self.lines)
         if not made.kept:
-            raise Done(WARNING, "; ".join(made.text()))
+            raise Done(WARNING, "; ".join(made.text()), event=REFUSED)
         self.is_cds_out = False
         self.say("called", [f"{made.line}: {made.reply}"])
 
     def reported(self, line: str, kinds: list[str]) -> str:
-        """A report with the TTL that is said, or the one of CDS or the sum, if that is higher."""
+        """A report with the TTL that is said, or the one of CDS or the sum, if that is higher. A
+        clock may be behind then, and ahead at the wait."""
         word, roll, ttl, moment = line.split(" ")
         seen = Seen(self.notes.lines, int(moment))
         held = {kind: max(ttls) for kind, ttls in seen.ttls.items()}
-        return f"{word} {roll} {to_report(int(ttl), kinds, roll, held)} {moment}"
+        ttl = to_report(int(ttl), kinds, roll, held) + 2 * self.policy.clock
+        return f"{word} {roll} {ttl} {moment}"
 
     def kinds(self) -> dict[str, list[str]]:
         """The kinds of sets that each roll in progress asks to watch."""
@@ -272,13 +281,16 @@ class Tick:
         role, algorithm = said.fields[0], int(said.fields[1])
         for _ in range(TRIES):
             file = self.maker.make(role, algorithm)
-            add = "add-csk" if role == "csk" else "add"
-            made = calling.call(self.script, f"{add} {file.path}", self.clock, known=self.lines)
+            # (The clock of its maker may be ahead of this one.)
+            file.creation = min(file.creation, int(self.clock()))
+            line = file.line(role == "csk")
+            made = calling.call(self.script, line, self.clock, known=self.lines)
             if made.kept:
-                self.say("key made", [f"{role} {file.path.name}"])
+                short = shortnames.names([*self.lines, made.line]).get(file.path.name, role)
+                self.say("key made", [f"{short} {file.path.name}"])
                 return
             if made.refused != TAKEN:
-                raise Done(WARNING, "; ".join(made.text()))
+                raise Done(WARNING, "; ".join(made.text()), event=REFUSED)
             self.maker.clear()
         raise Done(WARNING, f"{TRIES} keys of {self.policy.keygen[0]} had tags that are taken")
 
@@ -310,26 +322,25 @@ class Tick:
 
     def wait_for(self, kind: str, lacking: list[str]) -> None:
         """Servers lack it still. What the parent has to publish is handed to it by the policy."""
-        if kind == "ds":
-            self.tell_parent()
-        since = max((int(line.rpartition(" ")[2]) for line in self.notes.lines
-                     if line.startswith(f"published {kind} ")), default=0)
+        hint = self.tell_parent() if kind == "ds" else ""
         text = "; ".join(dict.fromkeys(lacking)) or f"servers have to give {kind} once more"
-        if self.clock() - since > self.policy.patience:
-            raise Done(WARNING, f"longer than {words.duration(self.policy.patience)}: {text}")
-        raise Done(DUE, text)
+        raise Done(DUE, f"{text}{hint}", event=PARENT_LACKS if kind == "ds" else STUCK)
 
-    def tell_parent(self) -> None:
-        """Hands the DS set that is due to the registrar once, or to the operator."""
+    def tell_parent(self) -> str:
+        """Hands the DS set that is due to the registrar once, or to the operator. The first one a
+        parent may not take from CDS, as no DS set is there yet to check it by: so that is said."""
         keys = KeySets(self.told, [self.maker.folder])
         records = [f"{keys.origin} IN DS {text}" for text in keys.ds([2])]
+        text = f"give the parent the DS set: {'; '.join(records) or 'none'}"
         if self.policy.parent == "ask":
-            raise Done(WARNING, f"give the parent the DS set: {'; '.join(records) or 'none'}")
+            raise Done(WARNING, text)
         call = Seen(self.notes.lines, self.clock()).calls["ds"]
         if self.policy.parent == "hook" and not self.journal.is_told(call):
             hooks.run(self.policy.on_ds, {"zone": self.zone, "ds": records, "call": call})
             self.journal.tell(call, self.clock())
             self.say("DS handed over", [words.listed(self.told["published"]["ds"])])
+        is_first = self.policy.parent == "cds" and not keys.has_ds
+        return f". If it takes no CDS yet, {text}" if is_first else ""
 
     def take_cds_out(self) -> None:
         """Returns once no server gives CDS any more. If it is in still, it goes out first: by what
@@ -350,14 +361,35 @@ class Tick:
         """Nothing is due before a moment: that which is said, or that of signatures."""
         if said.is_stuck:
             raise Done(WARNING, said.line.partition(": ")[2])
-        moments = [int(said.fields[0])] if said.word == advice.UNTIL else []
-        stands = self.standing()
-        renew = None if stands is None else self.renew_from(stands)
-        until = min([*moments, *([] if renew is None else [renew])], default=None)
+        until = min(self.moments(said), default=None)
         rolls = [roll["roll"] for roll in self.told["rolls"]]
         what = f"{words.listed(rolls)} waits for caches" if rolls else "nothing is due"
         when = "" if until is None else f" before {words.moment(until)}"
         raise Done(OK, f"{what}{when}", until)
+
+    def moments(self, said: Said) -> list[int]:
+        """From when on something may be due."""
+        stands = self.standing()
+        of_zone = [] if stands is None else [self.renew_from(stands), self.low_from(stands)]
+        found = [*of_zone, *self.purges().values()]
+        found += [int(said.fields[0])] if said.word == advice.UNTIL else []
+        now = self.clock()
+        return [moment for moment in found if moment is not None and moment > now]
+
+    def purges(self) -> dict[str, int]:
+        """When the files of each key that has left are to be deleted."""
+        purge = self.policy.purge
+        return {} if purge is None else {
+            name: left + purge for name, left in self.journal.left.items()}
+
+    def clear_away(self) -> None:
+        """Moves away the files of keys that have left, and in time deletes them."""
+        for name in self.maker.remove(self.lines):
+            self.journal.leave(name, self.clock())
+            self.say("moved away", [name])
+        for name, moment in self.purges().items():
+            if moment <= self.clock():
+                self.say("deleted", self.maker.purge(name))
 
     def files(self) -> list[Path]:
         """The files outside of the journal that say whether something is due."""

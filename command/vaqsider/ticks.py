@@ -9,20 +9,24 @@ import threading
 import traceback
 from collections.abc import Iterator
 from concurrent.futures import ThreadPoolExecutor
-from dataclasses import asdict
+from dataclasses import asdict, dataclass
 from pathlib import Path
 from typing import Iterable, TextIO
 
 from keyset import Locked
 
 from . import hooks, journal, policies, resting, words
-from .errors import BROKEN, DUE, FAULTY, OK, WARNING, Failure, failure_of
-from .ticking import DEEDS, Clock, Deed, End, Log, Tick
+from .ending import PARENT_LACKS, RUN_LOW, STUCK, Clock, Deed, End, Log
+from .errors import BROKEN, DUE, FAULTY, OK, WARNING, Failure, Silent, failure_of
+from .policies import Commands
+from .resting import Rest
+from .ticking import DEEDS, Tick
 
 # How many zones are ticked at once, if nobody says it.
 JOBS = 8
-# What the status of a tick means.
+# What the status of a tick means; and the events that only their kind makes new, not their text.
 MEANS = {OK: "rests", DUE: "waits", WARNING: "needs a person", BROKEN: "broken"}
+KINDS = (STUCK, PARENT_LACKS, RUN_LOW)
 
 
 def logger(form: str, out: TextIO) -> Log:
@@ -41,7 +45,8 @@ def _line(deed: Deed) -> str:
     return f"{words.moment(deed.moment)} {deed.zone}: {deed.deed}: {deed.text}"
 
 
-def tick(script: str | Path, clock: Clock, log: Log, most: int = DEEDS) -> End:
+def tick(script: str | Path, clock: Clock, log: Log, most: int = DEEDS,
+         commands: Commands = Commands()) -> End:
     """A tick of a script. If another one runs now, that does what is due."""
     path = Path(script)
     try:
@@ -49,9 +54,10 @@ def tick(script: str | Path, clock: Clock, log: Log, most: int = DEEDS) -> End:
         if kept is not None and kept.holds(path, clock()):
             return End(OK, kept.text, kept.until)
         with journal.alone(path) as lines:
-            made = Tick(path, policies.read(path), clock, log, lines, most)
-            end = _ended(made)
-            _keep(made, end, kept)
+            made = Tick(path, policies.read(path).by(commands), clock, log, lines, most)
+            since = kept.since if kept is not None and kept.status else int(clock())
+            end = made.of_signatures(_in_time(made, _ended(made), since))
+            _keep(made, end, kept, since)
             return end
     except Locked as error:
         return End(OK if journal.place_of(path).name in str(error) else DUE, str(error))
@@ -69,29 +75,42 @@ def _ended(made: Tick) -> End:
         return End(*fault_of(error))
 
 
+def _in_time(made: Tick, end: End, since: int) -> End:
+    """The end of a tick. If it has waited for too long, it needs a person."""
+    patience = made.policy.patience
+    if end.status != DUE or made.clock() - since <= patience:
+        return end
+    text = f"longer than {words.duration(patience)}: {end.text}"
+    return End(WARNING, text, end.until, end.event or STUCK)
+
+
 def fault_of(error: Exception) -> tuple[int, str]:
-    """What an error means for the zone: it needs a person, or something is broken."""
+    """What an error means for the zone: it waits, needs a person, or something is broken."""
     failure = failure_of(error)
+    if isinstance(failure, Silent):
+        return DUE, str(failure)
     if failure.status == FAULTY:
         traceback.print_exception(type(error), error, error.__traceback__)
     return BROKEN if failure.status in (BROKEN, FAULTY) else WARNING, str(failure)
 
 
-def _keep(made: Tick, end: End, before: resting.Rest | None) -> None:
+def _keep(made: Tick, end: End, before: Rest | None, since: int) -> None:
     """Keeps how the tick ended, and tells the operator's command if that is new."""
-    if end.status > DUE and (before is None or before.text != end.text):
-        _tell(made, end)
+    event = (end.event or MEANS[end.status]) if end.status > DUE else ""
+    text = "" if event in KINDS else end.text
+    is_new = before is None or (event, text) != (before.event, text and before.text)
+    if event and is_new:
+        _tell(made, end, event)
     until = None if end.until is None else math.ceil(end.until)
-    rest = resting.Rest(int(made.clock()), until, end.status, end.text,
-                        resting.files(made.script, made.files()))
-    resting.keep(made.script, rest)
+    files = resting.files(made.script, made.files())
+    resting.keep(made.script, Rest(int(made.clock()), until, end.status, end.text, files, event,
+                                   since, made.signed_until()))
 
 
-def _tell(made: Tick, end: End) -> None:
+def _tell(made: Tick, end: End, event: str) -> None:
     """Hands an event to the operator's command. If that fails, the log has it."""
     if not made.policy.on_event:
         return
-    event = "broken" if end.status == BROKEN else "needs a person"
     try:
         hooks.run(made.policy.on_event, {"event": event, "zone": made.zone,
                                          "text": end.text, "moment": int(made.clock())})
@@ -99,18 +118,28 @@ def _tell(made: Tick, end: End) -> None:
         made.say("on-event failed", [str(failure)])
 
 
-def run(paths: Iterable[Path], jobs: int, clock: Clock, log: Log) -> dict[str, End]:
-    """Ticks of all these scripts, so many at once. How each ended, by its script."""
-    paths = list(paths)
+@dataclass(frozen=True)
+class Ticks:
+    """Ticks of zones, whose ends are logged unless nothing is needed."""
 
-    def one(path: Path) -> End:
-        end = tick(path, clock, log)
+    clock: Clock
+    log: Log
+    commands: Commands = Commands()
+
+    def tick(self, path: Path) -> End:
+        return self.ended(path.stem, tick(path, self.clock, self.log, commands=self.commands))
+
+    def ended(self, zone: str, end: End) -> End:
         if end.status != OK:
-            log(Deed(int(clock()), path.stem, MEANS[end.status], end.text))
+            self.log(Deed(int(self.clock()), zone, MEANS[end.status], end.text))
         return end
 
+
+def run(paths: Iterable[Path], jobs: int, ticks: Ticks) -> dict[str, End]:
+    """Ticks of all these scripts, so many at once. How each ended, by its script."""
+    paths = list(paths)
     with ThreadPoolExecutor(max(1, min(jobs, len(paths)))) as pool:
-        return dict(zip(map(str, paths), pool.map(one, paths)))
+        return dict(zip(map(str, paths), pool.map(ticks.tick, paths)))
 
 
 def text(ends: dict[str, End]) -> Iterator[str]:

@@ -75,8 +75,11 @@ def utc(seconds, form):
 def moment(seconds):
     """A moment for people, in UTC. Moments of examples, near the start of 1970, stay
     numbers."""
-    is_date = seconds is not None and 10**8 < seconds < 10**11
-    return utc(seconds, "%Y-%m-%d %H:%M:%SZ") if is_date else str(seconds)
+    return utc(seconds, "%Y-%m-%d %H:%M:%SZ") if is_date(seconds) else str(seconds)
+
+
+def is_date(seconds):
+    return seconds is not None and 10**8 < seconds < 10**11
 
 
 def duration(seconds):

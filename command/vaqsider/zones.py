@@ -10,12 +10,13 @@ METRICS = {
     "next_seconds": "seconds until the next wait is accepted",
     "waits_for": "1 for whom the zone waits",
     "lines": "lines of the script",
-    "signatures_seconds": "seconds until the first signature expires, by the last look",
+    "signatures_seconds": "seconds until the first signature expires, by the last look or tick",
     "servers_lacking": "servers that lacked something at the last look",
     "look_age_seconds": "seconds since the last look",
     "findings": "what check finds wrong or due",
     "tick_status": "how the last tick ended: 0 rests, 1 waits, 2 needs a person, 3 broken",
     "tick_age_seconds": "seconds since the last tick that had something to do",
+    "tick_waits_seconds": "seconds since it waits or needs a person",
     "tick_next_seconds": "seconds until a tick may have something to do",
 }
 OTHERS = ("script", "zone", "fault", "next", "servers", "signed", "tick")
@@ -73,8 +74,12 @@ def _of_tick(path, now):
     kept = resting.read(path)
     if kept is None:
         return {}
-    return {"tick": kept.text, "tick_status": kept.status, "tick_age_seconds": int(now) - kept.moment,
-            "tick_next_seconds": kept.until and kept.until - int(now)}
+    return {
+        "tick": kept.text, "tick_status": kept.status, "tick_age_seconds": int(now) - kept.moment,
+        "tick_waits_seconds": int(now) - kept.since if kept.status else None,
+        "tick_next_seconds": kept.until and kept.until - int(now),
+        "signed": kept.signed, "signatures_seconds": kept.signed and kept.signed - int(now),
+    }
 
 
 def table(found):

@@ -220,6 +220,17 @@ def store(name: str, command: str, args: Namespace, origin: str):
     return STORES[name](command, args, origin)
 
 
+def not_taken(args: Namespace) -> Iterator[str]:
+    """The options of an act that a signer that runs doesn't take, as it has them in its own
+    settings."""
+    name, _, command = args.signer.partition(" ")
+    if name in STORES:
+        of = store(name, command, args, "example.com.")
+        for option, usual in OF_FILES.items():
+            if getattr(args, option) not in usual and option not in of.options:
+                yield option.replace("_", "-")
+
+
 def _pdns(_, args, origin):
     from . import pdns
 

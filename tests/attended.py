@@ -1,0 +1,261 @@
+"""Checks of tests/rolling.py: what a tick needs a person for and what that is told of, signers that
+run, clocks that are wrong by what the policy allows, key files that are deleted, short names, and
+the units of systemd."""
+
+from __future__ import annotations
+
+import re
+import shutil
+import subprocess
+from collections.abc import Iterator
+from pathlib import Path
+from unittest import mock
+
+from rolled import ZONE, Servers, World, lines, living, tick
+from typed import TOP, folder, typed
+
+DAY = 86400
+# The moment of a world whose keys have names with a month: 2027-01-15.
+DATED = 1_800_000_000
+SPLIT = "ksk-lifetime 15d\nzsk-lifetime 6d\n"
+REPORT = re.compile(r"report\d algorithm-roll (\d+) ")
+EXPOSURE = re.compile(r"Overall exposure level for \S+: (\d\.\d)")
+
+
+def passing(world: World, seconds: int, *options: str, every: int = 0) -> Iterator[tuple[int, str]]:
+    """Ticks as a timer makes them, for so long: each minute while something is waited for."""
+    end = world.now + seconds
+    while world.now < end:
+        status, said = tick(world, *options)
+        yield status, said
+        usual = 6 * 3600 if said.count("nothing is due") else 60
+        world.passes(min(every or usual, end - world.now))
+
+
+def events(world: World) -> list[str]:
+    return [it["event"] for it in world.told() if "event" in it]
+
+
+def low() -> Iterator[str]:
+    """A signer that fails: a person is told of it, and once more when signatures run low."""
+    world = World()
+    with folder(), living(world, "on-event tell\n"):
+        list(passing(world, 14 * DAY))
+        with mock.patch.object(world, "signs", side_effect=OSError(5, "broken")), living(world):
+            ends = list(passing(world, 2 * DAY, every=6 * 3600))
+            if {status for status, _ in ends} != {0, 2} or events(world) != ["needs a person"]:
+                yield f"a signer that fails ends with {ends[-1]}, and is told as {events(world)}"
+            ends = list(passing(world, 2 * DAY, every=6 * 3600))
+        if events(world) != ["needs a person", "signatures run low"]:
+            yield f"then it ends with {ends[-1]}, and is told as {events(world)}"
+        metrics, _ = typed(["zones", ".", "--prometheus"], world.now)
+        if 'vaqsider_tick_waits_seconds{zone="example.com"' not in metrics:
+            yield f"the metrics are {metrics}"
+        if {status for status, _ in passing(world, DAY)} != {0}:
+            yield "a signer that works again doesn't help"
+
+
+def silent() -> Iterator[str]:
+    """A server of the parent that is off: the zone waits for it, and goes on. After its patience a
+    person is told, once."""
+    for off in ("p1", "ns1"):
+        world = World()
+        with folder(), living(world, "patience 20min\non-event tell\n"):
+            (world.parent if off == "p1" else world.zone).is_off.add(off)
+            ends = list(passing(world, 15 * 60, every=180))
+            if ends[-1][0] != 1 or events(world):
+                yield f"without {off} it ends with {ends[-1]}, and tells {events(world)}"
+            ends = list(passing(world, 15 * 60, every=180))
+            if ends[-1][0] != 2 or len(events(world)) != 1:
+                yield f"for long without {off} it ends with {ends[-1]}, and tells {events(world)}"
+            (world.parent if off == "p1" else world.zone).is_off.clear()
+            list(passing(world, 20 * 60))
+            if lines()[-1] != "done algorithm-roll":
+                yield f"with {off} again it comes to {lines()[-1]}"
+
+
+def commands() -> Iterator[str]:
+    """Commands of the command line go before those of the policy."""
+    world = World(reads_cds=False)
+    with folder(), living(world, ""):
+        said = "".join(it for _, it in passing(world, 3600, "--on-ds", "registrar 'a b'"))
+        told = [it["words"] for it in world.told()]
+        if "DS handed over" not in said or told != [["registrar", "a b"]]:
+            yield f"--on-ds is told {told}: {said}"
+        said, status = typed(["tick", f"{ZONE}.script", "--on-event", "'"], world.now)
+        if status != 64 or "has to be a command" not in said:
+            yield f"--on-event with half a quote ends with {status}: {said}"
+
+
+def clock() -> Iterator[str]:
+    """A clock that is wrong by what the policy allows: each wait is longer by that, and a tick
+    waits until the last moment is over."""
+    world = World(ahead=5)
+    with folder(), living(world, SPLIT + "clock 5s\n"):
+        list(passing(world, DAY))
+        ttls = {int(found[1]) for found in map(REPORT.match, lines()) if found}
+        if ttls != {71, 72}:
+            yield f"reports have the TTLs {ttls}"
+        moments = re.findall(r" (\d+)$", Path(f"{ZONE}.notes").read_text(), re.MULTILINE)
+        last = max(map(int, moments))
+        for back, wanted in ((1, 1), (10, 1), (11, 2), (3600, 2)):
+            world.now = last - back
+            said, status = typed(["tick", f"{ZONE}.script"], world.now)
+            if status != wanted or "was that set back?" not in said:
+                yield f"set back by {back} it ends with {status}: {said}"
+
+
+class Fast(World):
+    """Servers and a parent that have each version at once."""
+
+    def __init__(self) -> None:
+        super().__init__(zone=Servers({"ns1": 0, "ns2": 0}), parent=Servers({"p1": 0, "p2": 0}))
+
+    def exchange(self, query, address: str, port: int):
+        self.loads()
+        return super().exchange(query, address, port)
+
+
+def fast() -> Iterator[str]:
+    """What one tick does with servers that are fast: it publishes CDS, and takes it out again."""
+    for policy in ("policy 13 csk-roll\ncsk-lifetime 2d\n", "ksk-lifetime 2d\nzsk-lifetime 1d\n"):
+        world = Fast()
+        with folder(), living(world, policy):
+            ends = list(passing(world, 3 * DAY))
+        worst, said = max(ends), "".join(text for _, text in ends)
+        if worst[0] > 1 or "CDS goes out" not in said:
+            yield f"{policy!r} ends with {worst}: {said}"
+
+
+def changed() -> Iterator[str]:
+    """A zone that somebody changes while it is signed is signed once more."""
+    world = World()
+    signs, left = world.signs, [1]
+
+    def changes(words, *given, **named) -> None:
+        signs(words, *given, **named)
+        if words[0] == "dnssec-signzone" and left:
+            left.pop()
+            with open(f"{ZONE}.zone", "a", encoding="ascii") as file:
+                file.write("www IN A 127.0.0.2\n")
+
+    with folder(), living(world, ""):
+        with mock.patch.object(world, "signs", changes), living(world):
+            status, said = tick(world)
+        if status != 1 or "published: the unsigned zone has changed" not in said:
+            yield f"a zone that changes meanwhile ends with {status}: {said}"
+
+
+def purge() -> Iterator[str]:
+    """The files of a key that has left are deleted in time, and no others."""
+    world = World()
+    with folder(), living(world, "zsk-lifetime 6d\npurge 2d\n"):
+        said = "".join(it for _, it in passing(world, 20 * DAY))
+        here = {path.name for path in Path().glob("K*.key")}
+        left = {path.stem for path in Path("left").glob("*")}
+        known = {line.split()[1] for line in lines() if line.startswith("add-")}
+        gone = {line.split()[1] for line in lines() if line.startswith("delete ")}
+        if said.count("moved away: ") != len(gone) or here != known - gone:
+            yield f"here is {here}, of {known} without {gone}"
+        if said.count("deleted: ") != len(gone) - len(left) or len(left) > 1:
+            yield f"left is {left}, of {gone}: {said}"
+
+
+def older() -> Iterator[str]:
+    """A program that doesn't know the word `next` is named, and nothing is done."""
+    from keyset import Unavailable, programs
+
+    run = programs.run
+
+    def knows_not(word: str, text: list[str]) -> str:
+        if word == "next":
+            raise Unavailable("keyset next: status 64: no such word: see keyset --help")
+        return run(word, text)
+
+    with folder(), living(World(), SPLIT, asks=False) as world:
+        with mock.patch.object(programs, "run", knows_not):
+            status, said = tick(world)
+        if status != 2 or "older than the command" not in said or len(lines()) > 1:
+            yield f"without the word it ends with {status}: {said}"
+
+
+def names() -> Iterator[str]:
+    """Keys have short names, which stand for references in a line that is typed."""
+    world = World(now=DATED)
+    with folder(), living(world, ""):
+        said = "".join(it for _, it in passing(world, 3600))
+        if not re.search(r"key made: ksk-2027-01 K.*key made: zsk-2027-01 K", said, re.DOTALL):
+            yield f"keys are made as {said}"
+        shown, _ = typed(["status", f"{ZONE}.script"], world.now)
+        if not re.search(r"KSK .* ksk-2027-01$", shown, re.MULTILINE):
+            yield f"status shows {shown}"
+        world.runs(["keygen", f"{ZONE}.", "zsk", "13"], within=Path())
+        made = max(Path().glob("K*.key"), key=lambda path: path.stat().st_mtime_ns)
+        typed(["call", f"{ZONE}.script", f"add {made}"], world.now)
+        words = ["roll", f"{ZONE}.script", "zsk", "--to", "zsk-2027-01-2", "--yes"]
+        said, status = typed(words, world.now)
+        if status > 1 or f" {made.name} " not in next(
+                (it for it in lines() if it.startswith("start zsk-roll ")), ""):
+            yield f"a roll to a short name ends with {status}: {said}, {lines()}"
+        said, status = typed(["call", f"{ZONE}.script", "delete zsk-2027-01-3"], world.now)
+        if status != 1 or "key not found" not in said:
+            yield f"a short name that no key has ends with {status}: {said}"
+
+
+def running() -> Iterator[str]:
+    """A signer that runs, asked by its three verbs: a course, and a new serial each week."""
+    world = World()
+    with folder(), living(world, "ksk-lifetime 7d\nsigner hook signer\n"):
+        ends = list(passing(world, 9 * DAY))
+        worst, said = max(status for status, _ in ends), "".join(it for _, it in ends)
+        if worst > 1 or "done ksk-roll" not in lines() or Path(f"{ZONE}.zone.signed").exists():
+            yield f"a signer that runs ends with {worst}: {said}"
+        if not 1 <= said.count("published: signatures run low") <= 3:
+            yield f"it is asked for new serials so: {said}"
+        with open(f"{ZONE}.policy", "a", encoding="ascii") as policy:
+            policy.write("signatures 20d\njitter 1h\n")
+        said, status = typed(["policy", "check", f"{ZONE}.script"], world.now)
+        if status != 2 or not {"lifetime: ", "jitter: "} <= set(re.findall(r"[a-z]+: ", said)):
+            yield f"options that it doesn't take end with {status}: {said}"
+
+
+def page() -> Iterator[str]:
+    """A page goes to its file whole, or leaves what is there."""
+    world = World()
+    with folder() as here, living(world, ""):
+        for path in set(here.glob("*.script")) - {here / f"{ZONE}.script"}:
+            path.unlink()
+        tick(world)
+        for option, has in (("--html", "</html>"), ("--prometheus", "vaqsider_tick_status{")):
+            said, status = typed(["zones", here, option, "--out", "page"], world.now)
+            if status or said or has not in Path("page").read_text():
+                yield f"{option} --out ends with {status}: {said}"
+        before = Path("page").read_bytes()
+        said, status = typed(["zones", "nowhere", "--html", "--out", "page"], world.now)
+        if status != 69 or Path("page").read_bytes() != before:
+            yield f"a page of nothing ends with {status}: {said}"
+
+
+def units() -> Iterator[str]:
+    """The units of systemd are right, and leave little open, if systemd's tool is here."""
+    if shutil.which("systemd-analyze") is None:
+        return
+    with folder() as here:
+        for unit in (TOP / "packaging" / "systemd").glob("vaqsider@.*"):
+            text = unit.read_text().replace("ExecStart=vaqsider ", "ExecStart=/bin/true ")
+            (here / unit.name).write_text(text)
+        checked = analyzed("verify", "--man=no", "vaqsider@.timer", "vaqsider@.service")
+        if checked.returncode or checked.stdout:
+            yield f"systemd-analyze verify: {checked.stdout}"
+        told = analyzed("security", "--offline=true", "--no-pager", "vaqsider@.service").stdout
+        found = EXPOSURE.search(told)
+        if not found or float(found[1]) > 2:
+            yield f"systemd-analyze security: {told[-200:]}"
+
+
+def analyzed(*words: str) -> subprocess.CompletedProcess[str]:
+    return subprocess.run(["systemd-analyze", *words], text=True, stdout=subprocess.PIPE,
+                          stderr=subprocess.STDOUT)
+
+
+CHECKS = (low, silent, commands, clock, fast, changed, purge, older, names, running, page, units)
