@@ -3,18 +3,16 @@
 `postgresql` and `python3-psycopg` are needed, so `make machines` runs it, and not the gate.
 
 A tick on one machine is killed before and after each statement in turn. The next one, on another
-machine, leaves what one leaves that was never killed. Machines at once tick each zone once, and what
-a second writer adds is refused."""
+machine, leaves what one leaves that was never killed. Machines at once tick each zone once, and
+what a second writer adds is refused."""
 
 from __future__ import annotations
 
 import contextlib
 import copy
 import os
-import pwd
 import shutil
 import signal
-import subprocess
 import sys
 import tempfile
 import threading
@@ -29,48 +27,32 @@ import answering  # noqa: E402
 from rolled import ZONE, World, living, shape  # noqa: E402
 from typed import TOP, folder, typed  # noqa: E402
 
+sys.path.append(str(TOP / "live"))
+from postgres import NAME, Postgres  # noqa: E402
+
 LIFETIMES = "ksk-lifetime 15d\nzsk-lifetime 6d\n"
 COUNTS = {"kills": 0, "ticks": 0}
 
 
-class Postgres:
-    """A server in a folder, reached only by a socket there. As root it runs as `postgres`."""
+class Store(Postgres):
+    """A server in a folder of its own, with a database for zones."""
 
-    def __init__(self, place: Path) -> None:
-        self.data, self.socket = place / "data", place
-        found = sorted(Path("/usr/lib/postgresql").glob("*/bin"))
-        self.tools = found[-1] if found else Path("/usr/bin")
-        self.user = "postgres" if os.geteuid() == 0 else None
-        if self.user:
-            shutil.chown(place, self.user)
-            place.chmod(0o755)
-
-    def run(self, tool: str, *words: object) -> None:
-        prefix = ["runuser", "-u", self.user, "--"] if self.user else []
-        subprocess.run([*prefix, self.tools / tool, *map(str, words)], check=True, cwd="/",
-                       stdout=subprocess.DEVNULL)
-
-    def __enter__(self) -> Postgres:
-        self.run("initdb", "-D", self.data, "-A", "trust", "-N")
-        self.run("pg_ctl", "-D", self.data, "-w", "-l", self.socket / "log", "-o",
-                 f"-k {self.socket} -c listen_addresses='' -c fsync=off", "start")
+    def __enter__(self) -> Store:
+        self.prepare()
+        self.start()
+        self.wait()
         return self
 
     def __exit__(self, *_: object) -> None:
-        self.run("pg_ctl", "-D", self.data, "-m", "immediate", "stop")
+        self.end()
 
     def url(self, database: str) -> str:
-        user = self.user or pwd.getpwuid(os.geteuid()).pw_name
-        return f"postgresql:///{database}?host={self.socket}&user={user}"
+        return f"postgresql:///{database}?host={self.folder}&user={NAME}"
 
     def make(self, database: str, template: str = "template1") -> str:
-        import psycopg
-
-        with psycopg.connect(self.url("postgres"), autocommit=True) as made:
-            made.execute(f"DROP DATABASE IF EXISTS {database} WITH (FORCE)")
-            made.execute(f"CREATE DATABASE {database} TEMPLATE {template}")
+        self.psql("postgres", "-c", f"DROP DATABASE IF EXISTS {database} WITH (FORCE)",
+                  "-c", f"CREATE DATABASE {database} TEMPLATE {template}")
         return self.url(database)
-
 
     def rests(self, database: str) -> None:
         """Returns once nobody is connected: the server sees after a moment that one was killed."""
@@ -104,7 +86,7 @@ class Machines:
 
 
 @contextlib.contextmanager
-def shared(postgres: Postgres, world: World) -> Iterator[Machines]:
+def shared(postgres: Store, world: World) -> Iterator[Machines]:
     """A store with an unsigned zone, and machines."""
     with folder() as here, living(world, LIFETIMES):
         policy = Path(f"{ZONE}.policy")
@@ -170,7 +152,7 @@ def back_to(kept: Path, here: Path) -> None:
     shutil.copytree(kept, here, dirs_exist_ok=True)
 
 
-def killed(postgres: Postgres, before: int) -> Iterator[str]:
+def killed(postgres: Store, before: int) -> Iterator[str]:
     """Kills a tick at each statement, after so many ticks of the zone."""
     world = World()
     with shared(postgres, world) as machines:
@@ -197,17 +179,18 @@ def killed(postgres: Postgres, before: int) -> Iterator[str]:
         COUNTS["kills"] += count - 1
 
 
-def together(postgres: Postgres) -> Iterator[str]:
+def together(postgres: Store) -> Iterator[str]:
     """Machines at once: a zone rolls as on one, and nothing is done twice."""
     from vaqsider import shared as store
+    from vaqsider import ticks
 
     world = World()
     with shared(postgres, world) as machines:
         deeds: list = []
         for _ in range(14):
+            made = ticks.Ticks(lambda: world.now, deeds.append)
             threads = [threading.Thread(target=store.run, args=(
-                machines.url, Path(name), 2, lambda: world.now, deeds.append))
-                for name in ("one", "two")]
+                machines.url, Path(name), 2, made)) for name in ("one", "two")]
             for thread in threads:
                 thread.start()
             for thread in threads:
@@ -221,7 +204,7 @@ def together(postgres: Postgres) -> Iterator[str]:
             yield f"machines at once have made {words}"
 
 
-def refused(postgres: Postgres) -> Iterator[str]:
+def refused(postgres: Store) -> Iterator[str]:
     """A second line of a number, a changed line and a file with other lines are refused."""
     import psycopg
 
@@ -247,11 +230,39 @@ def refused(postgres: Postgres) -> Iterator[str]:
             yield f"without a store it ends with {status}: {said}"
 
 
+def by_hand(postgres: Store) -> Iterator[str]:
+    """Words that a person types on one machine are those of all."""
+    world = World()
+    with shared(postgres, world) as machines:
+        for _ in range(12):
+            machines.tick(world, "one")
+            world.passes(120)
+        store = ["--store", machines.url]
+        for words, wanted in (
+            (["roll", f"two/{ZONE}.script", "zsk", "--yes"], 1),
+            (["next", f"one/{ZONE}.script"], 1),
+            (["call", f"two/{ZONE}.script", "set-stale none"], 1),
+            (["call", "two/other.script", "set-stale none"], 64),
+            (["zones", "two"], 0),
+        ):
+            world.loads()
+            said, status = typed([*words, *store], world.now)
+            if status != wanted:
+                yield f"{words} ends with {status}: {said}"
+        for _ in range(12):
+            machines.tick(world, "two")
+            world.passes(120)
+        machines.tick(world, "one")
+        ends = machines.lines("one"), machines.lines("two")
+        if ends[0] != ends[1] or "done zsk-roll" not in ends[0]:
+            yield f"a roll that is asked for on one machine comes to {ends}"
+
+
 def main() -> int:
     os.environ["PATH"] = f"{TOP / 'tests' / 'command' / 'bin'}:{os.environ['PATH']}"
     answering.install()
-    with tempfile.TemporaryDirectory() as place, Postgres(Path(place)) as postgres:
-        faults = [*refused(postgres), *together(postgres)]
+    with Store() as postgres:
+        faults = [*refused(postgres), *together(postgres), *by_hand(postgres)]
         for before in (0, 3):
             faults += killed(postgres, before)
     print(*faults, sep="\n", end="\n" if faults else "")
