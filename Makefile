@@ -32,7 +32,7 @@ prove = mkdir -p crates/$(1)/out && cd crates/$(1) && \
 	{ rt $(2) >out/build.log 2>&1 || { cat out/build.log >&2; exit 1; }; }
 
 .PHONY: run build lib install uninstall made noted arm armed dist try-dist check fmt clean test \
-	wrong live machines docs memory test-lib test-arm test-go valgrind asan fuzz types mutants signers help \
+	wrong live by-itself machines docs memory test-lib test-arm test-go valgrind asan fuzz types mutants signers help \
 	python modules packages logs
 
 # The proved program answers if it is newer than its sources, else one that is built at once.
@@ -121,6 +121,11 @@ live: ## rolls keys on real name servers, within an hour; LIVE=--short within te
 	@echo 'first the program is proved: half an hour, or seconds if its proof is kept'
 	@$(MAKE) --no-print-directory build
 	@live/run.py $(LIVE)
+	@[ -n '$(LIVE)' ] || $(MAKE) --no-print-directory by-itself
+
+# Servers fail in it, so no other scene is played beside it.
+by-itself: ## lets zones roll by themselves for 20 minutes, on real name servers
+	@live/run.py by-itself by-itself-other-rolls by-itself-csk
 
 docs: python ## compares what the documents print with the examples and the callers
 	@tests/docs.py

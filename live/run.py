@@ -27,8 +27,8 @@ MODULES = {"dns": "python3-dnspython", "cryptography": "python3-cryptography"}
 # The most seconds that the short form and the whole run may take.
 SHORT, WHOLE = 600, 3600
 FAULTS_SHOWN = 8
-# The most seconds that a scene may take, and the seconds for which clients go on after it.
-SCENE, AFTER = 900, 8
+# The seconds for which clients go on after a scene.
+AFTER = 8
 
 
 def given():
@@ -54,7 +54,7 @@ async def play(zone, scene):
     zone.reading = asyncio.ensure_future(zone.read_cds())
     try:
         await asyncio.sleep(1)
-        await asyncio.wait_for(scene.play(zone), SCENE)
+        await asyncio.wait_for(scene.play(zone), scene.most)
         await asyncio.sleep(2 + min(zone.longest(), AFTER))
     except Exception as error:
         wrong = f"{type(error).__name__}: {error}"

@@ -4,6 +4,7 @@ import re
 from typing import Callable, NamedTuple
 
 import by_command
+import by_itself
 import commanded
 import emergencies
 import from_bind
@@ -23,6 +24,8 @@ class Scene(NamedTuple):
     letters: str
     is_lie: bool
     round: int = 1
+    # The most seconds that it may take.
+    most: int = 900
 
     @property
     def zone(self):
@@ -31,6 +34,8 @@ class Scene(NamedTuple):
 
 # The longest come first.
 SCENES = [
+    *(Scene(name, play, "A", False, most=by_itself.MOST)
+      for name, play in by_itself.HONEST.items()),
     Scene("resolvers-restarted", one_signer.restarted, "A", False),
     *(Scene(name, play, "A", False) for name, play in one_signer.LONG.items()),
     *(Scene(name, play, "AB", False) for name, play in two_signers.HONEST.items()),
@@ -111,7 +116,8 @@ def is_short(name):
 
 def is_played(name, short):
     """Whether a run plays a scene that nobody has named."""
-    return name not in running.BY_NAME and (is_short(name) or not short)
+    by_name = {*running.BY_NAME, *by_itself.HONEST}
+    return name not in by_name and (is_short(name) or not short)
 
 
 def chosen(names, short, rounds):

@@ -1,0 +1,293 @@
+"""Zones that nobody touches: `vaqsider tick` does all by a policy with lifetimes of seconds. It is
+killed at random, runs twice at once, and by a clock that jumps; servers fail and come back; and the
+parent reads CDS when it likes, or has a registrar that is slow.
+
+They disturb the servers of all zones, so they are played by their names only."""
+
+import asyncio
+import json
+import os
+import random
+import signal
+import sys
+import time
+from collections import Counter
+from dataclasses import dataclass
+
+from asking import ask, data_of, is_signed_by_ds
+from by_command import DS_TTL, OK, TTL, Operator
+from keys import Version, plain_records
+from parent import NEGATIVE
+from places import CHILD, PARENT
+from processes import Failed, end
+
+# For how long each scene is played, and the most that one may take with its end, in seconds.
+SECONDS = int(os.environ.get("BY_ITSELF_SECONDS", "1200"))
+MOST = SECONDS + 300
+# How far the clock of a tick is wrong at most, how long a server is away that has crashed, and one
+# that stands still (longer than that a resolver behind a cache doesn't wait), and how slow the
+# registrar is.
+CLOCK, AWAY, STILL, SLOW = 3, 3, 1, 5
+# A roll is over so many seconds after its key's time, with all that is done to it.
+BOUND = 120
+NEEDED = 2
+POLICY = """\
+{rolls}
+keygen dnssec-keygen -q
+zone-file zone
+out zone.signed
+server {servers}
+parent-server {parents}
+port {port}
+signatures 10min
+renew-before 5min
+patience 4min
+clock {clock}s
+purge 60s
+on-event {folder}/on-event
+{parent}
+"""
+# What runs the command with a clock that is wrong by so many seconds.
+WRONG = ("import sys, time; right, by = time.time, int(sys.argv.pop(1)); "
+         "time.time = lambda: right() + by; from vaqsider.cli import main; sys.exit(main())")
+ON_DS = f"#!/bin/sh\nread -r told\nsleep {SLOW}\nprintf '%s\\n' \"$told\" >>told\n"
+ON_EVENT = "#!/bin/sh\ncat >>events\n"
+
+
+@dataclass(frozen=True)
+class Wanted:
+    """A policy: its rolls, how long keys live by it, and how the parent gets the DS set."""
+
+    rolls: str
+    lifetimes: dict
+    is_told: bool = False
+
+    def text(self, **places):
+        lines = [self.rolls, *(f"{role}-lifetime {of}s" for role, of in self.lifetimes.items())]
+        parent = f"parent hook\non-ds {places['folder']}/on-ds" if self.is_told else "parent cds"
+        return POLICY.format(rolls="\n".join(lines), parent=parent, clock=CLOCK, **places)
+
+
+WANTED = {
+    "by-itself": Wanted("policy 13 ksk-roll zsk-roll", {"ksk": 150, "zsk": 70}),
+    "by-itself-other-rolls": Wanted(
+        "policy 13 ksk-double-ds-roll zsk-double-signature-roll", {"ksk": 170, "zsk": 90}, True),
+    "by-itself-csk": Wanted("policy 13 csk-roll", {"csk": 100}),
+}
+
+
+class Unattended(Operator):
+    """Nobody: a timer runs ticks. The primary loads what they have written, and the parent does
+    what it reads or is told."""
+
+    def __init__(self, zone, wanted):
+        super().__init__(zone)
+        self.wanted, self.dice, self.counts = wanted, random.Random(zone.dice.random()), Counter()
+        self.script = self.folder / "by-itself.script"
+        self.until, self.wrong_by, self.last = time.monotonic() + SECONDS, 0, ""
+
+    async def begin(self):
+        """An unsigned zone and a policy. These ten lines are all that anybody writes."""
+        places = {"servers": " ".join(self.zone.servers), "parents": " ".join(PARENT),
+                  "port": self.zone.world.port, "folder": self.folder}
+        self.script.with_suffix(".policy").write_text(self.wanted.text(**places))
+        for name, text in (("on-ds", ON_DS), ("on-event", ON_EVENT)):
+            (self.folder / name).write_text(text)
+            (self.folder / name).chmod(0o755)
+        self.changes()
+        ttl = self.zone.first.longest
+        await self.type("init", self.zone.name, "--script", self.script, "--before", NEGATIVE, ttl,
+                        ttl)
+        # (Usual delays, which it counts before there are notes, are longer than these lifetimes.)
+        await self.type("policy", "check", self.script, ends=(OK, NEEDED))
+
+    def is_over(self):
+        return time.monotonic() > self.until
+
+    async def goes_on(self):
+        """All that goes on beside ticks, until the time is over or something fails."""
+        parts = [self.primary(), self.parent(), self.changing(), self.jumping(), self.timer()]
+        tasks = [asyncio.ensure_future(part) for part in parts]
+        try:
+            await asyncio.gather(*tasks)
+        finally:
+            for task in tasks:
+                task.cancel()
+
+    # ---- the timer
+
+    async def timer(self):
+        while not self.is_over():
+            count = 2 if self.dice.random() < 0.1 else 1
+            await asyncio.gather(*(self.tick() for _ in range(count)))
+            await asyncio.sleep(self.dice.uniform(0.2, 1))
+
+    async def tick(self):
+        """A tick, which is killed at some moment, or ends."""
+        process = await asyncio.create_subprocess_exec(
+            sys.executable, "-c", WRONG, str(self.wrong_by), "tick", self.script, "--log", "json",
+            cwd=self.folder, env=self.environment(), stdin=asyncio.subprocess.DEVNULL,
+            stdout=asyncio.subprocess.PIPE, stderr=asyncio.subprocess.STDOUT,
+            start_new_session=True)
+        told = asyncio.ensure_future(process.communicate())
+        self.counts["ticks"] += 1
+        if self.dice.random() < 0.15:
+            await asyncio.wait((told,), timeout=self.dice.uniform(0.1, 3))
+            self.kill(process)
+        out, _ = await told
+        if process.returncode >= NEEDED:
+            raise Failed(f"a tick ends with {process.returncode}: {out.decode()}")
+
+    def kill(self, process):
+        """Kills it, or all that it has started too."""
+        if process.returncode is None:
+            self.counts["killed"] += 1
+            if self.dice.random() < 0.5:
+                end(process, signal.SIGKILL)
+            else:
+                process.kill()
+
+    async def jumping(self):
+        """The clock jumps, within what the policy allows."""
+        while not self.is_over():
+            await asyncio.sleep(self.dice.uniform(10, 30))
+            self.wrong_by = self.dice.choice((0, 0, -CLOCK, CLOCK, -1, 1))
+            self.counts["jumps of the clock"] += 1
+
+    # ---- the zone's servers, and its content
+
+    async def primary(self):
+        """Loads the signed zone whenever it is another one."""
+        while not self.is_over():
+            if self.signed.exists() and (text := self.signed.read_text()) != self.last:
+                self.last = text
+                self.publish(text)
+            await asyncio.sleep(0.1)
+
+    async def changing(self):
+        """Somebody changes the zone."""
+        while not self.is_over():
+            await asyncio.sleep(self.dice.uniform(30, 90))
+            self.changes()
+
+    def changes(self):
+        self.counts["changes of the zone"] += 1
+        records = list(plain_records(self.zone.name, Version(1, TTL, TTL), self.zone.letters))
+        more = f"changed.{self.zone.name} {TTL} IN TXT {self.counts['changes of the zone']}"
+        draft = self.file.with_suffix(".draft")
+        draft.write_text("\n".join([f"$TTL {TTL}", *records, more, ""]))
+        draft.replace(self.file)
+
+    # ---- the parent
+
+    async def parent(self):
+        """It looks now and then, and is at work for a while on what is new."""
+        while not self.is_over():
+            await asyncio.sleep(self.dice.uniform(0.5, 4))
+            wanted = self.told() if self.wanted.is_told else await self.read()
+            if wanted and wanted != self.zone.ds():
+                await asyncio.sleep(self.dice.choice((0, 1, 2, 20)))
+                is_first = not self.zone.ds()
+                await self.zone.world.parent.change(self.zone.name, wanted, DS_TTL)
+                self.counts["DS sets"] += 1
+                if is_first:
+                    self.zone.is_secure()
+
+    def told(self):
+        """The DS set that the registrar was told last."""
+        file = self.folder / "told"
+        lines = file.read_text().splitlines() if file.exists() else []
+        return {it.partition(" DS ")[2].lower() for it in json.loads(lines[-1])["ds"]} if lines \
+            else set()
+
+    async def read(self):
+        """The DS set that CDS asks for. The first one has to be the same on all servers."""
+        port, name, has = self.zone.world.port, self.zone.name, self.zone.ds()
+        servers = [self.dice.choice(self.zone.servers)] if has else self.zone.servers
+        found = set()
+        for server in servers:
+            cds, keys = [await ask(server, port, name, kind) for kind in ("CDS", "DNSKEY")]
+            data = data_of(cds, "CDS") if cds and keys else set()
+            if not (data and is_signed_by_ds(cds, "CDS", keys, has or data)):
+                return set()
+            found.add(frozenset(data))
+        return set(found.pop()) if len(found) == 1 else set()
+
+    # ---- what has to be so at the end
+
+    async def check(self):
+        """Each key was replaced in time, none is left over, and no line is false."""
+        lines = [line.split() for line in self.script.read_text().splitlines()]
+        starts = [(words[1], int(words[4])) for words in lines if words[0] == "start"]
+        for roll, lifetime in self.expected():
+            moments = [begun for name, begun in starts if name in (roll, "algorithm-roll")]
+            longest = max(b - a for a, b in zip(moments, [*moments[1:], time.time() - CLOCK]))
+            self.counts[f"{roll}s"] = len(moments) - 1
+            if longest > lifetime + BOUND or len(moments) < 2:
+                raise Failed(f"{roll}: a key was there for {longest:.0f} s: {starts}")
+        here = {path.name for path in self.folder.glob("K*.key")}
+        known = {words[1] for words in lines if words[0].startswith("add-")}
+        gone = {words[1] for words in lines if words[0] == "delete"}
+        if here - (known - gone) - self.new():
+            raise Failed(f"these key files are left over: {here - (known - gone)}")
+        await self.type("check", self.script, "--json", ends=(0, 1))
+
+    def expected(self):
+        rolls = self.wanted.rolls.split()[2:]
+        return [(roll, self.wanted.lifetimes[roll[:3]]) for roll in rolls]
+
+    def new(self):
+        """Files of keys that the last tick has deleted, and was killed before it moved them."""
+        lines = self.script.read_text().splitlines()[-3:]
+        return {line.split()[1] for line in lines if line.startswith("delete ")}
+
+
+async def failing(world, until, dice, counts):
+    """Servers of the zones and of the parent fail, one at a time, and come back: they stand still,
+    or crash."""
+    names = {address: world.fleet.servers[address].name for address in (*CHILD["A"], *PARENT)}
+    while time.monotonic() < until:
+        await asyncio.sleep(dice.uniform(15, 40))
+        name = names[dice.choice(list(names))]
+        # (NSD would not outlive that it is told of a new version while it starts.)
+        await (crashes(world, name) if name.startswith("knot") else stands_still(world, name))
+        counts["failures of servers"] += 1
+
+
+async def crashes(world, name):
+    world.processes.restarting.add(name)
+    end(world.processes.running[name], signal.SIGKILL)
+    await asyncio.sleep(AWAY)
+    await world.processes.restart(name)
+
+
+async def stands_still(world, name):
+    process = world.processes.running[name]
+    end(process, signal.SIGSTOP)
+    try:
+        await asyncio.sleep(STILL)
+    finally:
+        end(process, signal.SIGCONT)
+
+
+def scene(name):
+    async def played(zone):
+        operator = Unattended(zone, WANTED[name])
+        await operator.begin()
+        parts = [operator.goes_on()]
+        if name == "by-itself":
+            parts.append(failing(zone.world, operator.until, operator.dice, operator.counts))
+        tasks = [asyncio.ensure_future(part) for part in parts]
+        try:
+            await asyncio.gather(*tasks)
+        finally:
+            for task in tasks:
+                task.cancel()
+        await operator.check()
+        told = ", ".join(f"{count} {what}" for what, count in sorted(operator.counts.items()))
+        print(f"    {zone.name} {told}", flush=True)
+
+    return played
+
+
+HONEST = {name: scene(name) for name in WANTED}
