@@ -1,8 +1,8 @@
 #!/usr/bin/env python3
 """The gate: `tests/docs.py` and `tests/release.py`, then `rt ci`. Beside its first proofs run
 `tests/runbooks.py`, `tests/networks.py` and `tests/examples.py`, and beside its edits run
-`tests/memory.py`, `tests/sets.py`, `tests/notes.py`, `tests/command.py`, `tests/rolling.py` and
-`tests/library.py`, for which `tests/archive.py` builds the library. Then `tests/told.py` compares the numbers of
+`tests/memory.py`, `tests/sets.py`, `tests/notes.py`, `tests/command.py`, `tests/rolling.py`,
+`tests/nexts.py` and `tests/library.py`, for which `tests/archive.py` builds the library. Then `tests/told.py` compares the numbers of
 docs/TESTS.md with what all of them have printed. Before the last line of `rt ci` it prints from
 which files each proof was made, as a release wants it, when each step was done, in minutes and
 seconds since the start, so that a rise is seen, and which tests it leaves out."""
@@ -36,7 +36,7 @@ FREE = ("runbooks", "networks", "examples")
 # The priority of edits, as that of `nice`.
 LOW = 10
 # What it leaves out, for that needs servers, root or hours.
-LEFT_OUT = ("signers", "live", "mutants", "wrong", "fuzz", "asan", "valgrind", "types",
+LEFT_OUT = ("signers", "live", "machines", "mutants", "wrong", "fuzz", "asan", "valgrind", "types",
             "try-dist", "test-arm", "test-go")
 
 
@@ -214,6 +214,7 @@ def prove_and_test(free, folder):
         After("notes", after=["keyset"]),
         After("command", after=["keyset"]),
         After("rolling", after=["keyset"]),
+        After("nexts", after=["keyset"]),
         archive,
         library,
     ]

@@ -21,7 +21,7 @@ PAGE = TOP / "docs" / "TESTS.md"
 # The tests that print what they have done.
 PARTS = {
     *("command", "dnssec_tests", "examples", "install", "library", "long"),
-    *("memory", "networks", "notes", "rolling", "runbooks", "sessions", "sets"),
+    *("memory", "networks", "nexts", "notes", "rolling", "runbooks", "sessions", "sets"),
 }
 
 ROW = re.compile(r"\| (?P<what>.+) \| (?P<much>.+) \| (?P<where>.+) \|")

@@ -1,0 +1,134 @@
+#!/usr/bin/env python3
+"""What a policy says to do next, by the program `keyset next` and by the twin (next_twin.py): they
+have to say the same, or refuse with the same words. The questions are drawn: each stored script up
+to some line, notes of it, a policy and a moment.
+
+    tests/nexts.py [QUESTIONS]    how many are asked at least
+"""
+
+from __future__ import annotations
+
+import random
+import re
+import subprocess
+import sys
+from collections import Counter
+from collections.abc import Iterator, Sequence
+from concurrent.futures import ThreadPoolExecutor
+from dataclasses import dataclass
+from pathlib import Path
+
+sys.dont_write_bytecode = True
+TOP = Path(__file__).resolve().parent.parent
+sys.path += [str(TOP / "tests"), str(TOP / "replay"), str(TOP / "library" / "python")]
+
+import next_twin  # noqa: E402
+from keyset import programs  # noqa: E402
+from tables import KeySet  # noqa: E402
+
+QUESTIONS, TTLS = 4000, (0, 1, 60, 300, 3600, 2**31, 2**32 - 1)
+ROLLS = (("ksk-roll", "ksk-double-ds-roll"), ("zsk-roll", "zsk-double-signature-roll"))
+MOMENT = re.compile(r"(?:start|report\d|wait\d) .* (\d+)")
+
+
+@dataclass(frozen=True)
+class Question:
+    """What is asked: the lines of a policy, a script and its notes, and a second."""
+
+    policy: list[str]
+    lines: list[str]
+    notes: list[str]
+    second: int
+
+    def by_twin(self) -> str:
+        try:
+            return next_twin.said(self.policy, self.lines, self.notes, self.second)
+        except next_twin.NotSaid as fault:
+            return f"status 1: {fault}"
+
+    def by_program(self) -> str:
+        text = [*self.policy, "", *self.lines, "", *self.notes, f"next {self.second}", ""]
+        ran = subprocess.run(programs.find("next"), input="\n".join(text), text=True,
+                             capture_output=True)
+        said = ran.stderr if ran.returncode else ran.stdout
+        return (f"status {ran.returncode}: " if ran.returncode else "") + said.rstrip("\n")
+
+
+def scripts() -> list[list[str]]:
+    """The accepted lines of each stored script."""
+    texts = [path.read_text() for path in TOP.glob("examples/**/*.script")]
+    frozen = (TOP / "tests" / "frozen" / "1.1.0" / "scripts.txt").read_text()
+    texts += re.findall(r"^== .*\n((?:.+\n)*?)-- answers", frozen, re.MULTILINE)
+    return [list(accepted(text.splitlines())) for text in texts]
+
+
+def accepted(lines: Sequence[str]) -> Iterator[str]:
+    tables = KeySet()
+    yield lines[0]
+    yield from (line for line in lines[1:] if tables.call(line).startswith("ok"))
+
+
+def policy(dice: random.Random, most: int) -> list[str]:
+    rolls = ["csk-roll"] if dice.random() < 0.3 else [dice.choice(of) for of in ROLLS]
+    lines = []
+    for role in {roll[:3] for roll in rolls}:
+        if dice.random() < 0.6:
+            lifetime = dice.choice((100, 10**4, 10**5, 10**9, most, 2 * most))
+            lines.append(f"{role}-lifetime {lifetime}")
+        if dice.random() < 0.3:
+            lines.append(f"{role}-once {dice.randint(0, 2 * most)}")
+    if dice.random() < 0.5:
+        lines.append(f"delete-after {dice.choice((0, 10, 10**6))}")
+    dice.shuffle(lines)
+    return [f"policy {dice.choice((13, 13, 13, 8, 15))} {' '.join(rolls)}", *lines]
+
+
+def notes(dice: random.Random, calls: int, most: int) -> list[str]:
+    """Notes of these calls, by kind in the order of calls and of moments."""
+    ttl = dice.choice(TTLS[:5])
+    lines, moment = [f"before {ttl} {ttl} {ttl}"], 0
+    for kind in dice.sample(next_twin.KINDS, 3):
+        moment = 0
+        for call in sorted(dice.randint(1, calls) for _ in range(dice.randint(0, 3)) if calls):
+            moment = dice.randint(moment, max(moment, most))
+            ttl = dice.choice(TTLS if dice.random() < 0.1 else TTLS[:5])
+            lines.append(f"published {kind} {call} {ttl} {moment}")
+            if dice.random() < 0.8:
+                moment = dice.randint(moment, max(moment, most))
+                lines.append(f"everywhere {kind} {moment}")
+    return lines
+
+
+def drawn(dice: random.Random, stored: list[list[str]]) -> Question:
+    whole = dice.choice(stored)
+    lines = whole[: dice.randint(1, len(whole))]
+    moments = [int(found[1]) for found in map(MOMENT.fullmatch, lines) if found]
+    most = min(max([100, *moments]), 2**63)
+    second = dice.choice((0, most, most + 1, 2 * most, dice.randint(0, 2 * most), 2**64 - 1))
+    return Question(policy(dice, most), lines, notes(dice, len(lines) - 1, most), second)
+
+
+def main() -> int:
+    count = int(sys.argv[1]) if len(sys.argv) > 1 else QUESTIONS
+    dice, stored = random.Random(62), scripts()
+    questions = [drawn(dice, stored) for _ in range(count)]
+    with ThreadPoolExecutor(4) as pool:
+        said = list(pool.map(Question.by_program, questions))
+    words: Counter[str] = Counter()
+    wrong = []
+    for question, by_program in zip(questions, said):
+        by_twin = question.by_twin()
+        words[by_twin.partition(" ")[0].rstrip(":")] += 1
+        # (The twin takes notes that the program refuses.)
+        if by_program.startswith("status 1: notes: "):
+            words["notes refused"] += 1
+        elif by_program != by_twin:
+            wrong.append(f"{question}: the program says {by_program!r}, and the twin {by_twin!r}")
+    print(*wrong[:10], sep="\n", end="\n" if wrong else "")
+    told = ", ".join(f"{number} {word}" for word, number in sorted(words.items()))
+    print(f"nexts: {count} questions ({told}), {len(wrong)} differences")
+    return 1 if wrong else 0
+
+
+if __name__ == "__main__":
+    sys.exit(main())
