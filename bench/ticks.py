@@ -4,8 +4,8 @@
 
     python3 bench/ticks.py [ZONES BUSY]    10000 1000
 
-Servers, signer and keys are those of tests/rolled.py, in this process; what comes next the program
-says. The time of all programs that are run is counted too."""
+Servers, signer and keys are those of tests/rolled.py, in this process, and so is what comes next. The
+time of all programs that are run is counted too."""
 
 from __future__ import annotations
 
@@ -121,7 +121,7 @@ def busy(count: int) -> None:
             policy.write_text(policy.read_text().replace(f".z{like}", f".z{number}"))
             worlds[number] = copy.deepcopy(worlds[like])
         scripts = [f"{place}/z{number}/{ZONE}.script" for number in range(count)]
-        with living(Many(worlds)):
+        with folder(), living(Many(worlds)):
             for what in ("in the midst of their rolls", "once more"):
                 took, said, _ = measured(lambda: typed(["tick", *scripts], NOW))
                 row(f"{count} zones {what}", took, deeds_of(said))
@@ -175,7 +175,7 @@ def main() -> None:
     os.environ["PATH"] = f"{TOP / 'tests' / 'command' / 'bin'}:{os.environ['PATH']}"
     answering.install()
     zones, many = map(int, sys.argv[1:3]) if len(sys.argv) > 2 else (10_000, 1_000)
-    print("| What | Seconds of a processor | MB at most | |\n|---|---|---|---|")
+    print("| What | Seconds of a processor | MB at most | Deeds |\n|---|---|---|---|")
     resting(zones)
     busy(many)
     year()

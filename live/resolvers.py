@@ -36,10 +36,13 @@ stub-zone:
 UNBOUND_ADDRESS = """\
   stub-addr: {address}@{port}
 """
-# It forgets the cache's answers after a second. So it meets whatever the cache holds.
+# It forgets the cache's answers after a second. So it meets whatever the cache holds. It waits for
+# the cache while that looks for another server: its usual retries are over within a second.
 UNBOUND_FORWARD = """\
 server:
   cache-max-ttl: 1
+  infra-cache-min-rtt: 1000
+  infra-keep-probing: yes
 forward-zone:
   name: "."
   forward-addr: {address}@{port}

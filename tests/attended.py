@@ -92,7 +92,9 @@ def clock() -> Iterator[str]:
     waits until the last moment is over."""
     world = World(ahead=5)
     with folder(), living(world, SPLIT + "clock 5s\n"):
-        list(passing(world, DAY))
+        worst = max(passing(world, DAY))
+        if worst[0] > 1:
+            yield f"with a maker of keys that is ahead it ends with {worst}"
         ttls = {int(found[1]) for found in map(REPORT.match, lines()) if found}
         if ttls != {71, 72}:
             yield f"reports have the TTLs {ttls}"
@@ -150,14 +152,14 @@ def purge() -> Iterator[str]:
     """The files of a key that has left are deleted in time, and no others."""
     world = World()
     with folder(), living(world, "zsk-lifetime 6d\npurge 2d\n"):
-        said = "".join(it for _, it in passing(world, 20 * DAY))
+        said = "".join(it for _, it in passing(world, 19 * DAY))
         here = {path.name for path in Path().glob("K*.key")}
         left = {path.stem for path in Path("left").glob("*")}
         known = {line.split()[1] for line in lines() if line.startswith("add-")}
         gone = {line.split()[1] for line in lines() if line.startswith("delete ")}
         if said.count("moved away: ") != len(gone) or here != known - gone:
             yield f"here is {here}, of {known} without {gone}"
-        if said.count("deleted: ") != len(gone) - len(left) or len(left) > 1:
+        if said.count("deleted: ") != len(gone) - 1 or len(left) != 1:
             yield f"left is {left}, of {gone}: {said}"
 
 

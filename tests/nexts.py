@@ -8,6 +8,7 @@ to some line, notes of it, a policy and a moment.
 
 from __future__ import annotations
 
+import itertools
 import random
 import re
 import subprocess
@@ -26,7 +27,7 @@ import next_twin  # noqa: E402
 from keyset import programs  # noqa: E402
 from tables import KeySet  # noqa: E402
 
-QUESTIONS, TTLS = 4000, (0, 1, 60, 300, 3600, 2**31, 2**32 - 1)
+QUESTIONS, LAST, TTLS = 4000, 2**64 - 1, (0, 1, 60, 300, 3600, 2**31, 2**32 - 1)
 ROLLS = (("ksk-roll", "ksk-double-ds-roll"), ("zsk-roll", "zsk-double-signature-roll"))
 MOMENT = re.compile(r"(?:start|report\d|wait\d) .* (\d+)")
 
@@ -74,38 +75,44 @@ def policy(dice: random.Random, most: int) -> list[str]:
     for role in {roll[:3] for roll in rolls}:
         if dice.random() < 0.6:
             lifetime = dice.choice((100, 10**4, 10**5, 10**9, most, 2 * most))
-            lines.append(f"{role}-lifetime {lifetime}")
+            lines.append(f"{role}-lifetime {min(lifetime, LAST)}")
         if dice.random() < 0.3:
-            lines.append(f"{role}-once {dice.randint(0, 2 * most)}")
+            lines.append(f"{role}-once {dice.randint(0, min(2 * most, LAST))}")
     if dice.random() < 0.5:
         lines.append(f"delete-after {dice.choice((0, 10, 10**6))}")
     dice.shuffle(lines)
     return [f"policy {dice.choice((13, 13, 13, 8, 15))} {' '.join(rolls)}", *lines]
 
 
-def notes(dice: random.Random, calls: int, most: int) -> list[str]:
-    """Notes of these calls, by kind in the order of calls and of moments."""
-    ttl = dice.choice(TTLS[:5])
-    lines, moment = [f"before {ttl} {ttl} {ttl}"], 0
+def notes(dice: random.Random, reached: list[int], most: int) -> list[str]:
+    """Notes of calls, by kind in the order of calls and of moments, which each call has
+    `reached`."""
+    ttl, calls = dice.choice(TTLS[:5]), len(reached)
+    lines = [f"before {ttl} {ttl} {ttl}"]
     for kind in dice.sample(next_twin.KINDS, 3):
         moment = 0
         for call in sorted(dice.randint(1, calls) for _ in range(dice.randint(0, 3)) if calls):
-            moment = dice.randint(moment, max(moment, most))
+            moment = later(dice, max(moment, reached[call - 1]), most)
             ttl = dice.choice(TTLS if dice.random() < 0.1 else TTLS[:5])
             lines.append(f"published {kind} {call} {ttl} {moment}")
             if dice.random() < 0.8:
-                moment = dice.randint(moment, max(moment, most))
+                moment = later(dice, moment, most)
                 lines.append(f"everywhere {kind} {moment}")
     return lines
+
+
+def later(dice: random.Random, moment: int, most: int) -> int:
+    """A moment from this one on: soon, or at any time."""
+    return min(LAST, moment + dice.choice((0, 1, 30, 100, dice.randint(0, most))))
 
 
 def drawn(dice: random.Random, stored: list[list[str]]) -> Question:
     whole = dice.choice(stored)
     lines = whole[: dice.randint(1, len(whole))]
-    moments = [int(found[1]) for found in map(MOMENT.fullmatch, lines) if found]
-    most = min(max([100, *moments]), 2**63)
-    second = dice.choice((0, most, most + 1, 2 * most, dice.randint(0, 2 * most), 2**64 - 1))
-    return Question(policy(dice, most), lines, notes(dice, len(lines) - 1, most), second)
+    moments = [int(found[1]) if found else 0 for found in map(MOMENT.fullmatch, lines[1:])]
+    reached, most = list(itertools.accumulate(moments, max)), max([100, *moments])
+    second = dice.choice((0, most, most + 1, 2 * most, dice.randint(0, 2 * most), LAST))
+    return Question(policy(dice, most), lines, notes(dice, reached, most), min(second, LAST))
 
 
 def main() -> int:

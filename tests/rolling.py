@@ -452,6 +452,10 @@ LINTED = (
     ("keygen no-such-program", "keygen: no-such-program isn't a program here"),
     ("policy 3 csk-roll", "algorithm 3 isn't one that dnssec-keygen makes keys of"),
     ("policy 13 csk-roll\ncsk-lifetime 1h", "csk-lifetime 1 h is shorter than a csk-roll, which"),
+    ("zsk-lifetime 40min\nclock 10min", "zsk-lifetime 40 min is shorter than a zsk-roll, which"),
+    ("policy 13 csk-roll\nsigner pdns", "signer pdns: start csk-roll csk1 csk2"),
+    ("signer other", "signer other: --signer is bind, ldns"),
+    ("signer knot\nsignatures 3d", "lifetime: knot has that in its own settings"),
 )
 
 
