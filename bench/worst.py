@@ -322,7 +322,7 @@ ROWS = [
     Row("a reference of 1 MB, others published", 512, long_reference, "lines², and the reference"),
     Row("a reference of 1 MB, another toggled", 1024, long_reference_beside,
         "lines, and the reference"),
-    Row("reports that are never over", 8192, never_over, "lines · reports; lines"),
+    Row("reports that are never over", 8192, never_over, "lines; lines"),
     Row("DS sets that hold by two keys in turn", 3500, anchors, "lines² · keys"),
     Row("equal sums of positions", 8000, equal_sums, "lines² · keys"),
     Row("the same beside a reference of 1 MB", 1500,

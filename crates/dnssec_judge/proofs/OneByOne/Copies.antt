@@ -9,8 +9,8 @@ use Rattle.dnssec_sets.specs.declared.held.Held.{Held}
 use Rattle.dnssec_sets.specs.Sets.{CachedSet, parts_of, set_of_any}
 use Rattle.dnssec_judge.specs.declared.{judging.Judge.Judge, window.Span.Span, window.Window.Window}
 use Rattle.dnssec_judge.specs.Judge.{Knows}
-use Rattle.dnssec_judge.specs.Inner.Window.{AreKept, Begins, GoesOnAbove, IsSame, Keeps, StillRests}
-use Rattle.dnssec_judge.specs.Inner.Window.{Tiles, Watches, begin_of, came, floor_with}
+use Rattle.dnssec_judge.specs.Inner.Window.{AreInOrder, AreKept, Begins, GoesOnAbove, IsSame, Keeps}
+use Rattle.dnssec_judge.specs.Inner.Window.{StillRests, Tiles, Watches, begin_of, came, floor_with}
 use Rattle.dnssec_judge.specs.Inner.Window.{set_at_place, stretches, stretches_of}
 use Rattle.dnssec_judge.proofs.OneByOne.{Pairs.tested-on, Sets.carried}
 
@@ -82,7 +82,8 @@ module _ (a b : Window) (s : IsSame a b) where
       → Watches es kind n b
   watches-same es kind n w = record {
     floor = s.floor ∙ w.floor;
-    dues = λ time le. (λ i. floor_with (s.floor i) (s.dues i) time) ∙ w.dues time le;
+    dues = λ time le lt. (λ i. floor_with (s.floor i) (s.dues i) time) ∙ w.dues time le lt;
+    in_order = subst AreInOrder (sym s.dues) w.in_order;
     spans = subst (Tiles (λ q. set_at kind (position_at es q)) n) (sym stretches-same) w.spans;
     begins = subst (λ (f : ℕ). Begins f (stretches_of b)) (sym s.floor)
         (subst (Begins a.floor) (sym stretches-same) w.begins);

@@ -1,0 +1,26 @@
+-- Nothing happens at a position: no set is handed in, and no report is noted or over. A window then
+-- goes on as it is.
+use Rattle.std.proofs.Common.{ℕ, suc, arith, inl, refl, subst, sym, None}
+use Rattle.dnssec_judge.specs.declared.window.Window.{Window}
+use Rattle.dnssec_judge.specs.Inner.Window.{HasLast, IsNotDue, Takes, stretches_of}
+use Rattle.dnssec_judge.proofs.OneByOne.{More.last-of-tiles, More.tiles-shown, Sets.stays}
+
+pub quiet-takes : (w : Window) (at time : ℕ) → IsNotDue w time → Takes w w at time None None
+quiet-takes w at time none =
+    record {
+      floor = λ order. (let same = none order in omega (arith, same));
+      in_order = λ order. order;
+      dues = λ t le. omega arith;
+      spans = λ before after n at tiles begins above keeps kept is. (
+        tiles-shown before after n (after (suc n)) (stretches_of w) (stretches_of w) tiles kept
+            refl (inl (
+              refl,
+              subst (λ set. HasLast set (stretches_of w)) (sym is)
+                  (last-of-tiles before n (stretches_of w) tiles),
+            )),
+        begins,
+        above,
+      );
+      keeps = λ n at k. stays n w k;
+      origin = λ n set k has. refl;
+    }
