@@ -2,11 +2,11 @@
 """The gate: `tests/docs.py` and `tests/release.py`, then `rt ci`. Beside its first proofs run
 `tests/runbooks.py`, `tests/networks.py` and `tests/examples.py`, and beside its edits run
 `tests/memory.py`, `tests/sets.py`, `tests/notes.py`, `tests/command.py`, `tests/rolling.py`,
-`tests/nexts.py` and `tests/library.py`, for which `tests/archive.py` builds the library. Then
-`tests/told.py` compares the numbers of docs/tests.txt with what all of them have printed. Before
-the last line of `rt ci` it prints from which files each proof was made, as a release wants it, when
-each step was done, in minutes and seconds since the start, so that a rise is seen, and which tests
-it leaves out."""
+`tests/nexts.py`, `tests/automatic.py` and `tests/library.py`, for which `tests/archive.py` builds
+the library. Then `tests/told.py` compares the numbers of docs/tests.txt with what all of them have
+printed. Before the last line of `rt ci` it prints from which files each proof was made, as a
+release wants it, when each step was done, in minutes and seconds since the start, so that a rise is
+seen, and which tests it leaves out."""
 
 import contextlib
 import os
@@ -216,6 +216,7 @@ def prove_and_test(free, folder):
         After("command", after=["keyset"]),
         After("rolling", after=["keyset"]),
         After("nexts", after=["keyset"]),
+        After("automatic", after=["keyset"]),
         archive,
         library,
     ]

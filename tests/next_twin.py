@@ -12,7 +12,7 @@ from __future__ import annotations
 import sys
 from dataclasses import dataclass
 from pathlib import Path
-from typing import Callable, Iterable, NamedTuple, Optional, Sequence, Union
+from typing import Callable, Iterable, Iterator, NamedTuple, Optional, Sequence, Union
 
 sys.dont_write_bytecode = True
 sys.path.insert(0, str(Path(__file__).resolve().parent.parent / "replay"))
@@ -95,7 +95,7 @@ class NotBefore(NamedTuple):
 
 
 class Stuck(NamedTuple):
-    roll: str
+    why: str
 
 
 class Rest(NamedTuple):
@@ -145,6 +145,7 @@ class View:
     def __init__(self, lines: Sequence[str], notes: Sequence[str], now: int) -> None:
         self.set, self.now, self.last = KeySet(), now * SECOND, {}
         self.notes = [line.split(" ") for line in notes]
+        self.highest = highest_of(notes)
         for number, line in enumerate(lines[1:], start=1):
             word, roll, *_ = line.split(" ")
             if self.set.call(line).startswith("ok") and word == "wait2":
@@ -172,14 +173,44 @@ class View:
         record = self.set.record
         return max((n for n, at in enumerate(record) if at.step == roll), default=None)
 
-    def end(self, roll: str) -> Optional[int]:
-        """When the wait is over, if that is known and a call can name it."""
+    def end(self, roll: str) -> Union[int, Stuck]:
+        """When the wait is over, or why nobody can say so or name it in a call."""
         word, ttl = self.set.phases[roll]
         stamps = self.set.checked(word, roll)
         if None in stamps:
-            return None
+            return Stuck(f"a key lacks the stamp for the wait of {roll}")
         end = max((stamp + ttl for stamp in stamps), default=0) if ttl else 0
-        return end * SECOND if end <= LAST_SECOND else None
+        if end > LAST_SECOND:
+            return Stuck(f"the wait of {roll} ends after all time")
+        return end * SECOND
+
+
+# ---- what reports count: Ttls.antt
+
+
+def highest_of(notes: Sequence[str]) -> dict[str, int]:
+    """The highest TTL of each kind that is noted."""
+    before, *facts = [line.split(" ") for line in notes or ["before 0 0 0"]]
+    highest = {kind: int(ttl) for kind, ttl in zip(KINDS, before[1:])}
+    for word, kind, *numbers in facts:
+        if word == "published":
+            highest[kind] = max(highest[kind], int(numbers[1]))
+    return highest
+
+
+def lasting(highest: dict[str, int], kinds: Sequence[str], due: int) -> int:
+    """The TTL of a report on these kinds, by that which is due. Validators keep the algorithms of a
+    DS set with a DNSKEY set; and CDS, a set of the zone, has just left it."""
+    if "ds" not in kinds:
+        return due
+    return max(due + highest["dnskey"] + 1, highest["zone"] + 1)
+
+
+def roll_takes(highest: dict[str, int], roll: str) -> int:
+    """Both waits, each by the highest TTL of the kinds that its report speaks of, and a second."""
+    halves = (half.split() for half in SPEAKS_OF[roll])
+    return sum(lasting(highest, kinds, max(highest[kind] for kind in kinds) + 1)
+               for kinds in halves)
 
 
 # ---- rolls in progress: InProgress.antt
@@ -197,22 +228,26 @@ def due_for(view: View, kind: str, base: int) -> Optional[int]:
 def report_next(view: View, word: str, roll: str) -> Todo:
     step, ttl = view.step(roll), 0
     if step is None:
-        return Stuck(roll)
+        return Stuck(f"the last step of {roll} isn't known")
+    kinds = SPEAKS_OF[roll][word == "report2"].split()
     for kind in KINDS:
-        if kind in SPEAKS_OF[roll][word == "report2"].split():
+        if kind in kinds:
             base = origin(view.set.record, kind, step)
             due = due_for(view, kind, base)
             if due is None:
                 brings = view.reach(kind, base)
                 return brings(kind) if brings else NotBefore(view.now + SECOND)
             ttl = max(ttl, due)
+    ttl = lasting(view.highest, kinds, ttl)
+    if ttl > LONGEST_TTL:
+        return NotBefore(view.now + SECOND)
     return Make(f"{word} {roll} {ttl} {view.now // SECOND}")
 
 
 def wait_next(view: View, word: str, roll: str) -> Todo:
     end = view.end(roll)
-    if end is None:
-        return Stuck(roll)
+    if isinstance(end, Stuck):
+        return end
     return Make(f"{word} {roll} {view.now // SECOND}") if end <= view.now else NotBefore(end)
 
 
@@ -228,7 +263,9 @@ def once_settled(view: View, roll: str, base: int, todo: Todo) -> Todo:
 
 def end_next(view: View, word: str, roll: str) -> Todo:
     base = view.last.get(roll)
-    return Stuck(roll) if base is None else once_settled(view, roll, base, Make(f"done {roll}"))
+    if base is None:
+        return Stuck(f"the second wait of {roll} isn't known")
+    return once_settled(view, roll, base, Make(f"done {roll}"))
 
 
 PHASES: dict[str, Callable[[View, str, str], Todo]] = {
@@ -358,28 +395,51 @@ def renewal(policy: Policy, view: View, roll: str) -> Todo:
 
 def next_of(policy: Policy, view: View) -> Todo:
     renewals = (renewal(policy, view, roll) for roll in policy.rolls)
+    stuck = next(whys(policy, view), None)
     return soonest([rolls_next(view), soonest(deletions(policy, view)), change(policy, view),
-                    *renewals])
+                    *renewals, Rest() if stuck is None else Stuck(stuck)])
+
+
+# ---- what is wanted and isn't done: Stuck.antt
+
+
+def whys(policy: Policy, view: View) -> Iterator[str]:
+    """Why something isn't done that the policy wants, in this order."""
+    for roll in ROLLS:
+        if roll in view.set.phases:
+            yield from roll_why(view, roll)
+    keys = list(view.set.keys.values())
+    if wants_others(policy, keys):
+        yield from barred(view, ALGORITHM)
+    for roll in policy.rolls:
+        over = first_over(policy, roll.partition("-")[0], keys)
+        if over is not None and over * SECOND <= view.now:
+            yield from barred(view, roll)
+    if any(is_left_over(view, key) for key in keys):
+        yield "a key is on its way out, and no roll takes it out"
+
+
+def roll_why(view: View, roll: str) -> Iterator[str]:
+    word = view.set.phases[roll][0]
+    todo = PHASES[word](view, word, roll)
+    if isinstance(todo, Stuck):
+        yield todo.why
+    elif isinstance(todo, NotBefore) and word.startswith("report"):
+        yield f"{roll} has to report a TTL of more than 32 bits"
+
+
+def barred(view: View, roll: str) -> Iterator[str]:
+    if not may_begin(view, roll):
+        yield f"{roll} may not begin beside the rolls in progress"
+
+
+def is_left_over(view: View, key: Key) -> bool:
+    is_leaving = any("old" in state and state != {"old"} for state in key.states)
+    is_rolled = any(lists_kind(roll, key) for roll in view.set.phases)
+    return key.kind != "include" and is_leaving and not is_rolled
 
 
 # ---- lifetimes: Lint.antt of dnssec_policy_text
-
-
-def highest_of(notes: Sequence[str]) -> dict[str, int]:
-    """The highest TTL of each kind that is noted."""
-    before, *facts = [line.split(" ") for line in notes]
-    highest = {kind: int(ttl) for kind, ttl in zip(KINDS, before[1:])}
-    for word, kind, *numbers in facts:
-        if word == "published":
-            highest[kind] = max(highest[kind], int(numbers[1]))
-    return highest
-
-
-def roll_takes(highest: dict[str, int], roll: str) -> int:
-    """Both waits, each up to the highest TTL of the kinds that its report speaks of, and a
-    second."""
-    halves = (half.split() for half in SPEAKS_OF[roll])
-    return sum(max(highest[kind] for kind in kinds) + 1 for kinds in halves)
 
 
 def too_short(policy: Policy, notes: Sequence[str]) -> str:
@@ -411,7 +471,7 @@ def shown(policy: Policy, todo: Todo) -> str:
     if isinstance(todo, (Publish, Watch)):
         return f"{type(todo).__name__.lower()} {todo.kind}"
     if isinstance(todo, Stuck):
-        return f"nothing: a wait of {todo.roll} ends after all time"
+        return f"nothing: {todo.why}"
     return "nothing: the zone is as the policy wants it"
 
 

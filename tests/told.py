@@ -20,7 +20,7 @@ FIGURES = TOP / "docs" / "tests.txt"
 
 # The tests that print what they have done.
 PARTS = {
-    *("command", "dnssec_tests", "examples", "install", "library", "long"),
+    *("automatic", "command", "dnssec_tests", "examples", "install", "library", "long"),
     *("memory", "networks", "nexts", "notes", "rolling", "runbooks", "sessions", "sets"),
 }
 
