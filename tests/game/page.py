@@ -1,5 +1,7 @@
-"""What docs/RUNBOOKS.md shows of `docs/courses.json`: the table of a roll, with the sets that the
-tables of `replay/` say; the commands of a roll; and the table of early ends."""
+"""What docs/RUNBOOKS.md shows of `docs/courses.json`: the steps of a roll, with the sets that the
+tables of `replay/` say; the commands of a roll; and the early ends."""
+
+from textwrap import wrap
 
 from tables import answers
 
@@ -14,8 +16,6 @@ WITHOUT = {
     "cds": "CDS without the new key",
     "ds": "the DS set becomes the old one",
 }
-HEAD = ["| Call | Publish | Then |", "|---|---|---|"]
-HEAD_OF_EARLY_ENDS = ["| Ended early | Publish, and watch |", "|---|---|"]
 
 
 def calls_of(rows):
@@ -43,27 +43,23 @@ def sets_of(rolls, name):
         yield {kind: keys.split(",") for kind, keys in (it.split("=") for it in sets.split(" "))}
 
 
-def listed(names):
-    *others, last = names
-    return f"{', '.join(others)} and {last}" if others else last
-
-
 def published(kinds, sets):
-    """What a row has published."""
+    """What a row has published, as the key set prints it. CDS goes with the DS set."""
+    def shown(*names):
+        return " ".join(f"{name}={','.join(sets[name])}" for name in names)
+
     words = {
-        "dnskey": f"the DNSKEY set of {listed(sets['dnskey'])}, "
-                  f"signed by {listed(sets['signers'])}",
-        "zone": f"the zone, signed by {listed(sets['zone'])}",
-        "cds": f"CDS for {listed(sets['ds'])}",
-        "ds": f"the DS set becomes {listed(sets['ds'])}",
+        "dnskey": f"`{shown('dnskey', 'signers')}`",
+        "zone": f"`{shown('zone')}`",
+        "ds": f"`{shown('ds')}`",
     }
-    return "; ".join(words[kind] for kind in kinds) or "nothing"
+    return "; ".join(words[kind] for kind in kinds if kind != "cds") or "nothing"
 
 
 def ttl_of(row):
     """What a report of a row gives. Of more than one TTL it is that of all that was published."""
     if "sum" in row:
-        return f"the **sum** of {listed([TTLS[kind] for kind in row['sum']])}"
+        return f"the **sum** of {' and '.join(TTLS[kind] for kind in row['sum'])}"
     if len(row["report"]) > 1:
         return "the higher TTL of both"
     return TTLS[row["report"][0]]
@@ -81,27 +77,37 @@ def then_of(row, number):
         yield "don't raise the DNSKEY TTL before `wait2`"
 
 
-def table(name):
-    """The table of a roll, of the first keys, or of early ends."""
+def steps(name):
+    """The steps of a roll or of the first keys, or the early ends, as the lines of a list."""
     told = courses()
     if name == "ended early":
-        return [*HEAD_OF_EARLY_ENDS, *early_ends(told[name])]
-    made = [*HEAD]
-    rows = zip(told["rolls"][name], sets_of(told["rolls"], name))
-    for number, (row, sets) in enumerate(rows, start=1):
-        call = row["call"] if number == 1 else row["call"].split()[0]
-        then = "; ".join(then_of(row, number))
-        made.append(f"| `{call}` | {published(row['publish'], sets)} | {then} |")
-    return made
+        items = [("-", text) for text in early_ends(told[name])]
+    else:
+        rows = zip(told["rolls"][name], sets_of(told["rolls"], name))
+        items = [(f"{number}.", step(number, *row)) for number, row in enumerate(rows, start=1)]
+    return [line for mark, text in items for line in item(mark, text)]
+
+
+def step(number, row, sets):
+    """A call, what it has published, and what follows once all servers have that."""
+    call = row["call"] if number == 1 else row["call"].split()[0]
+    then = "; ".join(then_of(row, number))
+    return f"`{call}`: {published(row['publish'], sets)}. Then {then}."
+
+
+def item(mark, text):
+    """An item of a list, with its mark."""
+    indent = " " * (len(mark) + 1)
+    return wrap(f"{mark} {text}", 100, subsequent_indent=indent, break_on_hyphens=False)
 
 
 def early_ends(rows):
-    """The rolls that take the same back share a row."""
+    """The rolls that take the same back share an item."""
     shared = {}
     for roll, row in rows.items():
         shared.setdefault((*row["publish"],), []).append(f"`{roll}`")
     for kinds, rolls in shared.items():
-        yield f"| {', '.join(rolls)} | {'; '.join(WITHOUT[kind] for kind in kinds)} |"
+        yield f"{', '.join(rolls)}: {'; '.join(WITHOUT[kind] for kind in kinds)}."
 
 
 def commands(name):
