@@ -166,7 +166,7 @@ class Document:
     def course(self, number, name, body):
         """The lines of a list that shows a course."""
         self.blocks += 1
-        wanted = steps(name)
+        wanted = [*steps(name)]
         if body != wanted:
             self.fault(number, f"the steps differ from those of the course {name!r}")
         return wanted

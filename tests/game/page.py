@@ -1,5 +1,5 @@
 """What docs/RUNBOOKS.md shows of `docs/courses.json`: the steps of a roll, with the sets that the
-tables of `replay/` say; the commands of a roll; and the early ends."""
+tables of `replay/` say; and the commands of a roll."""
 
 from textwrap import wrap
 
@@ -8,15 +8,7 @@ from tables import answers
 from game.book import FIRST_KEYS, courses
 
 ADDS = ("add-ksk K1", "add-ksk K2", "add-zsk Z1", "add-zsk Z2", "add-csk C1")
-TTLS = {"dnskey": "the DNSKEY TTL", "zone": "the zone's TTL", "ds": "the DS TTL"}
-# What an early end takes back.
-WITHOUT = {
-    "dnskey": "the DNSKEY set without the new keys",
-    "zone": "the zone without their signatures",
-    "cds": "CDS without the new key",
-    "ds": "the DS set becomes the old one",
-}
-
+TTLS = {"dnskey": "the DNSKEY TTL", "ds": "the DS TTL"}
 
 def calls_of(rows):
     """The lines of a course, all at one moment and with TTLs of 0, and for each row the number of
@@ -56,58 +48,28 @@ def published(kinds, sets):
     return "; ".join(words[kind] for kind in kinds if kind != "cds") or "nothing"
 
 
-def ttl_of(row):
-    """What a report of a row gives. Of more than one TTL it is that of all that was published."""
-    if "sum" in row:
-        return f"the **sum** of {' and '.join(TTLS[kind] for kind in row['sum'])}"
-    if len(row["report"]) > 1:
-        return "the higher TTL of both"
-    return TTLS[row["report"][0]]
-
-
 def then_of(row, number):
     """What a row has done once all servers have it."""
     if "cds" in row["publish"]:
         yield "CDS out"
     if "then" in row:
         yield ", ".join(f"`{it.split()[0] if it.startswith('done') else it}`" for it in row["then"])
-    else:
-        yield f"`report{number}`: {ttl_of(row)}"
-    if "sum" in row:
+    elif "sum" in row:
+        yield f"`report{number}`: the **sum** of {' and '.join(TTLS[kind] for kind in row['sum'])}"
         yield "don't raise the DNSKEY TTL before `wait2`"
+    else:
+        yield f"`report{number}`"
 
 
 def steps(name):
-    """The steps of a roll or of the first keys, or the early ends, as the lines of a list."""
-    told = courses()
-    if name == "ended early":
-        items = [("-", text) for text in early_ends(told[name])]
-    else:
-        rows = zip(told["rolls"][name], sets_of(told["rolls"], name))
-        items = [(f"{number}.", step(number, *row)) for number, row in enumerate(rows, start=1)]
-    return [line for mark, text in items for line in item(mark, text)]
-
-
-def step(number, row, sets):
-    """A call, what it has published, and what follows once all servers have that."""
-    call = row["call"] if number == 1 else row["call"].split()[0]
-    then = "; ".join(then_of(row, number))
-    return f"`{call}`: {published(row['publish'], sets)}. Then {then}."
-
-
-def item(mark, text):
-    """An item of a list, with its mark."""
-    indent = " " * (len(mark) + 1)
-    return wrap(f"{mark} {text}", 100, subsequent_indent=indent, break_on_hyphens=False)
-
-
-def early_ends(rows):
-    """The rolls that take the same back share an item."""
-    shared = {}
-    for roll, row in rows.items():
-        shared.setdefault((*row["publish"],), []).append(f"`{roll}`")
-    for kinds, rolls in shared.items():
-        yield f"{', '.join(rolls)}: {'; '.join(WITHOUT[kind] for kind in kinds)}."
+    """The steps of a roll, or of the first keys, as the lines of a list: a call, what it has
+    published, and what follows once all servers have that."""
+    rolls = courses()["rolls"]
+    for number, (row, sets) in enumerate(zip(rolls[name], sets_of(rolls, name)), start=1):
+        call = row["call"] if number == 1 else row["call"].split()[0]
+        then = "; ".join(then_of(row, number))
+        line = f"{number}. `{call}`: {published(row['publish'], sets)}. Then {then}."
+        yield from wrap(line, 100, subsequent_indent="   ", break_on_hyphens=False)
 
 
 def commands(name):
