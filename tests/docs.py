@@ -14,11 +14,11 @@ range all of them. A block of `json` has the value of its file, on other lines. 
 docs/courses.json has the commands of the roll whose name follows, and one of a transcript of
 tests/command the lines of some ranges, without the moment of a command.
 
-A line `<!--course:NAME-->` has the table of that course below it, up to an empty line.
+A line `<!--course:NAME-->` has the steps of that course below it, up to an empty line.
 
 What is compared:
 
-- each block and each table with its file; a block that names none may show neither calls nor
+- each block and each course with its file; a block that names none may show neither calls nor
   answers;
 - each answer that a text quotes, as `chain safe`: it has to be an answer of an example; after a
   script that is shown without answers it has to be an answer of that script;
@@ -43,7 +43,7 @@ from tables import answers  # noqa: E402
 
 import contracts  # noqa: E402
 import pictures  # noqa: E402
-from game.page import command_lines, table  # noqa: E402
+from game.page import command_lines, steps  # noqa: E402
 
 STORED = TOP / "replay" / "scripts.txt"
 
@@ -164,11 +164,11 @@ class Document:
         return wanted
 
     def course(self, number, name, body):
-        """The lines of a table that shows a course."""
+        """The lines of a list that shows a course."""
         self.blocks += 1
-        wanted = table(name)
+        wanted = [*steps(name)]
         if body != wanted:
-            self.fault(number, f"the table differs from that of the course {name!r}")
+            self.fault(number, f"the steps differ from those of the course {name!r}")
         return wanted
 
     def value(self, number, path, body):

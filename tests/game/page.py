@@ -1,22 +1,14 @@
-"""What docs/RUNBOOKS.md shows of `docs/courses.json`: the table of a roll, with the sets that the
-tables of `replay/` say; the commands of a roll; and the table of early ends."""
+"""What docs/RUNBOOKS.md shows of `docs/courses.json`: the steps of a roll, with the sets that the
+tables of `replay/` say; and the commands of a roll."""
+
+from textwrap import wrap
 
 from tables import answers
 
 from game.book import FIRST_KEYS, courses
 
 ADDS = ("add-ksk K1", "add-ksk K2", "add-zsk Z1", "add-zsk Z2", "add-csk C1")
-TTLS = {"dnskey": "the DNSKEY TTL", "zone": "the zone's TTL", "ds": "the DS TTL"}
-# What an early end takes back.
-WITHOUT = {
-    "dnskey": "the DNSKEY set without the new keys",
-    "zone": "the zone without their signatures",
-    "cds": "CDS without the new key",
-    "ds": "the DS set becomes the old one",
-}
-HEAD = ["| Call | Publish | Then |", "|---|---|---|"]
-HEAD_OF_EARLY_ENDS = ["| Ended early | Publish, and watch |", "|---|---|"]
-
+TTLS = {"dnskey": "the DNSKEY TTL", "ds": "the DS TTL"}
 
 def calls_of(rows):
     """The lines of a course, all at one moment and with TTLs of 0, and for each row the number of
@@ -43,30 +35,17 @@ def sets_of(rolls, name):
         yield {kind: keys.split(",") for kind, keys in (it.split("=") for it in sets.split(" "))}
 
 
-def listed(names):
-    *others, last = names
-    return f"{', '.join(others)} and {last}" if others else last
-
-
 def published(kinds, sets):
-    """What a row has published."""
+    """What a row has published, as the key set prints it. CDS goes with the DS set."""
+    def shown(*names):
+        return " ".join(f"{name}={','.join(sets[name])}" for name in names)
+
     words = {
-        "dnskey": f"the DNSKEY set of {listed(sets['dnskey'])}, "
-                  f"signed by {listed(sets['signers'])}",
-        "zone": f"the zone, signed by {listed(sets['zone'])}",
-        "cds": f"CDS for {listed(sets['ds'])}",
-        "ds": f"the DS set becomes {listed(sets['ds'])}",
+        "dnskey": f"`{shown('dnskey', 'signers')}`",
+        "zone": f"`{shown('zone')}`",
+        "ds": f"`{shown('ds')}`",
     }
-    return "; ".join(words[kind] for kind in kinds) or "nothing"
-
-
-def ttl_of(row):
-    """What a report of a row gives. Of more than one TTL it is that of all that was published."""
-    if "sum" in row:
-        return f"the **sum** of {listed([TTLS[kind] for kind in row['sum']])}"
-    if len(row["report"]) > 1:
-        return "the higher TTL of both"
-    return TTLS[row["report"][0]]
+    return "; ".join(words[kind] for kind in kinds if kind != "cds") or "nothing"
 
 
 def then_of(row, number):
@@ -75,33 +54,22 @@ def then_of(row, number):
         yield "CDS out"
     if "then" in row:
         yield ", ".join(f"`{it.split()[0] if it.startswith('done') else it}`" for it in row["then"])
-    else:
-        yield f"`report{number}`: {ttl_of(row)}"
-    if "sum" in row:
+    elif "sum" in row:
+        yield f"`report{number}`: the **sum** of {' and '.join(TTLS[kind] for kind in row['sum'])}"
         yield "don't raise the DNSKEY TTL before `wait2`"
+    else:
+        yield f"`report{number}`"
 
 
-def table(name):
-    """The table of a roll, of the first keys, or of early ends."""
-    told = courses()
-    if name == "ended early":
-        return [*HEAD_OF_EARLY_ENDS, *early_ends(told[name])]
-    made = [*HEAD]
-    rows = zip(told["rolls"][name], sets_of(told["rolls"], name))
-    for number, (row, sets) in enumerate(rows, start=1):
+def steps(name):
+    """The steps of a roll, or of the first keys, as the lines of a list: a call, what it has
+    published, and what follows once all servers have that."""
+    rolls = courses()["rolls"]
+    for number, (row, sets) in enumerate(zip(rolls[name], sets_of(rolls, name)), start=1):
         call = row["call"] if number == 1 else row["call"].split()[0]
         then = "; ".join(then_of(row, number))
-        made.append(f"| `{call}` | {published(row['publish'], sets)} | {then} |")
-    return made
-
-
-def early_ends(rows):
-    """The rolls that take the same back share a row."""
-    shared = {}
-    for roll, row in rows.items():
-        shared.setdefault((*row["publish"],), []).append(f"`{roll}`")
-    for kinds, rolls in shared.items():
-        yield f"| {', '.join(rolls)} | {'; '.join(WITHOUT[kind] for kind in kinds)} |"
+        line = f"{number}. `{call}`: {published(row['publish'], sets)}. Then {then}."
+        yield from wrap(line, 100, subsequent_indent="   ", break_on_hyphens=False)
 
 
 def commands(name):
