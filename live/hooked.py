@@ -1,6 +1,6 @@
 #!/usr/bin/python3
 """A signer behind a hook, as a provider's service would be: `hooked.py FOLDER LETTERS VERB` answers
-a verb of docs/SIGNERS.md. Its database is `state.json` in the folder, and what it gives is in
+a verb of `vaqsider act --help`. Its database is `state.json` in the folder, and what it gives is in
 `zone.signed`, which it makes with dnssec-signzone."""
 
 import asyncio

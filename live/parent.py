@@ -12,7 +12,9 @@ NEGATIVE, LONG = 2, 3600
 
 class Parent:
     """The root zone. It is signed again whenever a DS set changes, and its servers get it one by
-    one. Each other DS set keeps its signature."""
+    one. Each other DS set keeps its signature, as at a registry: of an equal set BIND keeps the old
+    one with its TTL, takes the new signature in, and may answer without AD until it has checked
+    that."""
 
     def __init__(self, folder, fleet, zones, port):
         self.folder, self.fleet, self.zones, self.port = folder, fleet, zones, port

@@ -47,7 +47,7 @@ PAGES = {
 }
 BULLET = "\\(bu"
 # Sections that have no place in a manual.
-LEFT_OUT = {"Building", "A picture"}
+LEFT_OUT = {"Building"}
 
 RELEASED = re.compile(r"^## (?P<version>\d[\d.]*) - (?P<date>\d{4}-\d\d-\d\d)$", re.MULTILINE)
 # What a line of text may have in it: code, a picture, a link, bold text.
@@ -55,8 +55,6 @@ INLINE = re.compile(
     r"`(?P<code>[^`]+)`|!\[[^]]*\]\([^)]*\)"
     r"|\[(?P<text>[^]]*)\]\((?P<target>[^)\s]*)\)|\*\*(?P<bold>[^*]+)\*\*"
 )
-# A word of the command in the table of its README.
-WORD = re.compile(r"^\| `(\w+) [A-Z]", re.MULTILINE)
 ITEM = re.compile(r"(?P<mark>-|\d+\.) +(?P<text>.*)")
 # An item of a table of contents.
 CONTENTS = re.compile(r"\[[^]]*\]\(#")
@@ -199,17 +197,18 @@ def body(document, is_first):
 
 
 def words():
-    """The words of the command, in the order of its README, with the options that it prints."""
+    """What the command prints as its help: of all, with the exit statuses, and of each word."""
     sys.path.insert(0, str(TOP / "command"))
-    from vaqsider.cli import main
+    from vaqsider.cli import HELP, WORD, main
 
     os.environ["COLUMNS"] = "76"
     yield ".SH WORDS AND OPTIONS"
-    for name in WORD.findall((TOP / "command" / "README.md").read_text(encoding="utf-8")):
+    names = [word["name"] for word in WORD.finditer(HELP.read_text(encoding="ascii"))]
+    for title, *word in [("All words, and the exit statuses",), *zip(names, names)]:
         printed = io.StringIO()
         with contextlib.redirect_stdout(printed), contextlib.suppress(SystemExit):
-            main([name, "--help"])
-        yield f".SS {plain(name)}"
+            main([*word, "--help"])
+        yield f".SS {plain(title)}"
         yield from verbatim(printed.getvalue().splitlines())
 
 

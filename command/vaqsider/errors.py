@@ -10,8 +10,8 @@ STATUSES = {
     OK: ("done; check, watch: all is well", ()),
     DUE: ("check, watch: something is due; call, plan: the key set refused a line", ()),
     WARNING: ("a line can't be true; call: it was not made for that reason", ()),
-    BROKEN: ("the chain of trust is broken, or a file is damaged; check, zones: or it is missing, "
-             "or a program is", ("Damaged", "Malformed")),
+    BROKEN: ("the chain of trust is broken, or a file is damaged, or torn at its end; check, "
+             "zones: or it is missing, or a program is", ("Damaged", "Malformed")),
     USAGE: ("the command line, or the line of a call, is wrong",
             ("FileExistsError", "Misnamed", "WrongArgument")),
     UNAVAILABLE: ("a program, a file or a server is missing, or fails",

@@ -23,10 +23,10 @@ STOPS = (
     "named may roll nothing from now on: take dnssec-policy (or auto-dnssec) and inline-signing out"
     " of the zone of {zone}, and let its file be the signed one that 'vaqsider act' writes",
     "keep the keys' .private files where they are: 'vaqsider act --keys {folder}' signs by them",
-    "only after the first 'vaqsider act': 'rndc reconfig', then 'rndc reload {zone}'. Until then"
-    " named gives what it has signed. If you stay with named as signer, see --signer bind-inline",
     "put named's last serial, of 'rndc zonestatus {zone}', into the unsigned zone, if 'act' writes"
     " another file than named's signed one",
+    "only after the first 'vaqsider act': 'rndc reconfig', then 'rndc reload {zone}'. Until then"
+    " named gives what it has signed. If you stay with named as signer, see --signer bind-inline",
     "move the .state files away, so that no dnssec-policy goes on from them",
 )
 
