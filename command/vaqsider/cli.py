@@ -325,7 +325,8 @@ def parser(only=None):
     as_it_is = argparse.RawDescriptionHelpFormatter
     top = Parser(
         prog="vaqsider",
-        description="Keys and rolls of DNSSEC zones, by a proved key set.",
+        description="Keys and rolls of DNSSEC zones, by a proved key set: the library for C,\n"
+        "or the program if the library isn't there.",
         epilog=None if only else _epilog(),
         formatter_class=as_it_is,
     )
