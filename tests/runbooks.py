@@ -1,5 +1,5 @@
 #!/usr/bin/env python3
-"""Plays operators who follow `docs/courses.json` to the letter, from which the tables of
+"""Plays operators who follow `docs/courses.json` to the letter, from which the lists of
 `docs/RUNBOOKS.md` are made, and looks at whatever caches may hold. There is no network, and the
 only clock is the game's. The key set is that of `replay/tables.py`.
 

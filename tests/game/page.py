@@ -10,6 +10,7 @@ from game.book import FIRST_KEYS, courses
 ADDS = ("add-ksk K1", "add-ksk K2", "add-zsk Z1", "add-zsk Z2", "add-csk C1")
 TTLS = {"dnskey": "the DNSKEY TTL", "ds": "the DS TTL"}
 
+
 def calls_of(rows):
     """The lines of a course, all at one moment and with TTLs of 0, and for each row the number of
     lines up to its call."""
@@ -49,7 +50,8 @@ def published(kinds, sets):
 
 
 def then_of(row, number):
-    """What a row has done once all servers have it."""
+    """What a row has done once all servers have it. Without more words a report has the highest TTL
+    of what was published."""
     if "cds" in row["publish"]:
         yield "CDS out"
     if "then" in row:
@@ -58,6 +60,7 @@ def then_of(row, number):
         yield f"`report{number}`: the **sum** of {' and '.join(TTLS[kind] for kind in row['sum'])}"
         yield "don't raise the DNSKEY TTL before `wait2`"
     else:
+        assert {*row["report"]} == {*row["publish"]} - {"cds"}
         yield f"`report{number}`"
 
 
