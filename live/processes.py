@@ -31,7 +31,11 @@ PACKAGES = {
     "pdnsutil": "pdns-server",
     "pdns_control": "pdns-server",
     "setpriv": "util-linux",
+    "unshare": "util-linux",
+    "mount": "mount",
     "softhsm2-util": "softhsm2",
+    "ods-enforcerd": "opendnssec-enforcer-sqlite3",
+    "ods-signerd": "opendnssec-signer",
 }
 # Those without a program in the folders of programs.
 LIBRARIES = {

@@ -10,10 +10,13 @@ import running
 from by_command import TTL, WARNING
 from from_bind import is_signed, publish
 from keys import run
+from opendnssec import LEAVES, RESTS, KnotOfItsToken, OpenDnssec
 from processes import Failed
 from signers import Knot, Named, OfBind, Pdns, PdnsByApi
 
 PATIENCE = 30
+# A serial that the signer from before, which goes on meanwhile, doesn't reach.
+AHEAD = 1000
 # The flags of a key that is in use, as serde writes them for the crate `domain`.
 FLAGS = {"available": True, "old": False, "signer": True, "present": True, "at_parent": False}
 STAMPS = dict.fromkeys(("creation", "published", "visible", "ds_visible", "rrsig_visible",
@@ -70,15 +73,74 @@ async def taken_over(operator):
         await signer.has_ds()
     await signer.is_taken_over()
     await running.come(operator, running.words_of_import(operator))
-    signer.serves = True
+    await go_on(operator)
+    await roll_each(operator)
+
+
+async def go_on(operator):
+    """The first act."""
+    operator.signer.serves = True
     began = time.time()
     await operator.type(*operator.words_of_act())
     running.took(operator, act=time.time() - began)
+
+
+async def roll_each(operator):
     await operator.compare(False)
     await running.is_right(operator)
     await running.replace_one(operator, "zsk-roll")
     await running.replace_one(operator, "ksk-roll")
     await operator.type("check", operator.script)
+
+
+async def from_opendnssec(zone):
+    """OpenDNSSEC signs, and its keys don't come in while it rolls one. Its enforcer stops, then
+    Knot has the keys in its token, and only then its signer stops."""
+    operator = running.Running(zone)
+    operator.signer = before = OpenDnssec(operator)
+    await before.start(2)
+    await publish(operator, await whole(before))
+    at_work = [asyncio.ensure_future(it)
+               for it in (transferred(operator, before), before.renews())]
+    try:
+        await in_its_roll(operator, before)
+        await running.come(operator, running.words_of_import(operator))
+        await before.stop("enforcer")
+        operator.signer = knot = KnotOfItsToken(operator)
+        await knot.start_after(before, operator.served + AHEAD)
+        await knot.take(operator.script)
+        await go_on(operator)
+    finally:
+        for it in at_work:
+            it.cancel()
+    await operator.compare(False)
+    await running.is_right(operator)
+    await before.stop("signer")
+    await roll_each(operator)
+
+
+async def in_its_roll(operator, before):
+    """No key comes in before the parent's DS is known, nor in a roll of OpenDNSSEC's."""
+    words = running.words_of_import(operator)
+    await operator.type(*words, ends=(WARNING,))
+    await before.has_ds()
+    began = time.time()
+    await before.shows(RESTS, "--debug")
+    running.took(operator, ds=time.time() - began)
+    await before.rolls()
+    await operator.type(*words, ends=(WARNING,))
+    await before.shows(LEAVES, "--debug")
+    await operator.type(*words, ends=(WARNING,))
+    await before.shows(RESTS, "--debug")
+    running.took(operator, ds_and_roll=time.time() - began)
+
+
+async def transferred(operator, signer):
+    """Servers take each version that a signer gives."""
+    while True:
+        made = await signer.given()
+        operator.publish(made.to_text(relativize=False))
+        await asyncio.sleep(0.5)
 
 
 async def whole(signer):
@@ -97,4 +159,5 @@ HONEST = {
     "takeover-knot": takeover(Knot),
     "takeover-bind-inline": takeover(Named),
     "takeover-dnst": takeover(Dnst),
+    "takeover-opendnssec": from_opendnssec,
 }

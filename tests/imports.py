@@ -131,17 +131,23 @@ def _of_knot(**times):
     return tell
 
 
-# What OpenDNSSEC 2.1.12 prints, for tags of the test's keys.
+# What OpenDNSSEC 2.1.12 prints, for tags of the test's keys; and what it prints of a ZSK that has
+# left, that leaves, whose record servers don't give any more, and that it has only just made.
 DEBUG, VERBOSE = ((TOP / "tests" / "opendnssec" / it).read_text() for it in ("debug", "verbose"))
+LEFT, LEAVES, NEW = (("hidden", "NA", "hidden"), ("unretentive", "NA", "hidden"),
+                     ("hidden", "(null)", "(null)"))
 
 
-def _of_ods(ds="omnipresent", zsk="omnipresent", served=("K1", "Z1")):
+def _of_ods(ds="omnipresent", zsk="omnipresent", old=LEFT, served=("K1", "Z1"), socket=None):
     def tell(keys):
         def said(words, *_):
-            text = DEBUG if "--debug" in words else VERBOSE
-            return text.format(ds=ds, zsk=zsk, k1=keys["K1"].tag, z1=keys["Z1"].tag)
+            where = ["--socket", socket] if socket else []
+            if list(words[:-1]) != ["ods-enforcer", *where, "key", "list"]:
+                return ""
+            text = DEBUG if words[-1] == "--debug" else VERBOSE
+            return text.format(ds=ds, zsk=zsk, old=old, k1=keys["K1"].tag, z1=keys["Z1"].tag)
 
-        args = Namespace(records=lambda: [Key.of(keys[it].data) for it in served])
+        args = Namespace(source=socket, records=lambda: [Key.of(keys[it].data) for it in served])
         with mock.patch.object(opendnssec, "said", said):
             return opendnssec.tell(ZONE, args)
 
@@ -217,8 +223,13 @@ ROWS = (
     ("Knot, a key that comes", _of_knot(active=0), KZ, "published and not active"),
     ("Knot, a key to come", _of_knot(publish=2 * 10**9, active=0), "K1:k", "is to come in"),
     ("OpenDNSSEC", _of_ods(), KZ, ""),
-    ("OpenDNSSEC, before ds-seen", _of_ods(ds="rumoured"), KZ, "ds-seen"),
+    ("OpenDNSSEC, by its socket", _of_ods(socket="run/enforcer.sock"), KZ, ""),
+    ("OpenDNSSEC, before ds-seen", _of_ods(ds="rumoured"), KZ, "ds-seen', once"),
+    ("OpenDNSSEC, before ds-gone", _of_ods(ds="unretentive"), KZ, "ds-gone', once"),
+    ("OpenDNSSEC, before its DS", _of_ods(ds="hidden"), KZ, "wait until"),
     ("OpenDNSSEC, a ZSK that comes", _of_ods(zsk="rumoured"), KZ, "says omnipresent"),
+    ("OpenDNSSEC, a ZSK that leaves", _of_ods(old=LEAVES), KZ, "is unretentive, hidden"),
+    ("OpenDNSSEC, a ZSK that is only just made", _of_ods(old=NEW), KZ, "is hidden, new, new"),
     ("OpenDNSSEC, another version", _of_ods(zsk="certain"), None, "a state that isn't known"),
     ("OpenDNSSEC, other servers", _of_ods(served=("K1",)), None, "give no DNSKEY record"),
     ("dnst", _of_dnst(), KZ, ""),

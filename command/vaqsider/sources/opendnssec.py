@@ -10,8 +10,15 @@ from ..signers import Key
 from ..signers.daemon import said
 from . import Asked, Found, Told, expect
 
-THERE, OUT, NONE = "omnipresent", "hidden", "NA"
-STATES = {THERE, OUT, "rumoured", "unretentive", NONE}
+THERE, OUT, NONE, COMES, GOES = "omnipresent", "hidden", "NA", "rumoured", "unretentive"
+# A key that the enforcer has only just made has no states yet.
+NEW = "(null)"
+STATES = {THERE, OUT, COMES, GOES, NEW, NONE}
+# What the operator has to say of a DS record that comes or goes.
+DS_WAITS = {
+    COMES: "'ods-enforcer key ds-seen', once the parent has it; then",
+    GOES: "'ods-enforcer key ds-gone', once the parent has it no more; then",
+}
 # A row of `--debug`: zone, role, the states of DS, DNSKEY and both kinds of signatures, two flags,
 # and the number of the key in its store; and one of `--verbose`.
 DEBUG = re.compile(r"(?P<zone>\S+)\s+(?P<role>KSK|ZSK|CSK)\s+(?P<ds>\S+)\s+(?P<dnskey>\S+)\s+"
@@ -23,14 +30,16 @@ STOPS = (
     "'ods-enforcer stop' first: the enforcer rolls nothing from then on. The signer goes on to"
     " renew signatures meanwhile",
     "the private halves stay in the PKCS#11 store, as the objects {ids}: what signs from now on has"
-    " to reach them there. --signer 'hook COMMAND' has any such signer driven",
-    "only after the first 'vaqsider act', whose serial has to be higher: 'ods-signer stop'",
+    " to reach them there. Knot can, by 'keymgr ZONE import-pkcs11'; --signer 'hook COMMAND'"
+    " has any other such signer driven",
+    "only after the first 'vaqsider act', whose serial has to be higher, and once all servers have"
+    " it: 'ods-signer stop'",
 )
 
 
 def tell(zone: str, asked: Asked) -> Told:
     """What the enforcer says. The records of its keys are taken from the servers."""
-    rows, tags = _rows(zone), _tags()
+    rows, tags = _rows(zone, asked.source), _tags(asked.source)
     records = {(it.tag, it.algorithm): it for it in asked.records()}
     keys, moving, ids = [], [], []
     for row in rows:
@@ -38,14 +47,21 @@ def tell(zone: str, asked: Asked) -> Told:
         if counts == [OUT] * len(counts):
             continue
         at = tags.get(row["id"].lower())
-        moving += _moving(row, counts, at)
-        if at not in records:
+        is_moving = set(counts) != {THERE}
+        if is_moving:
+            moving.append(_moving(row, counts, at))
+        if at in records:
+            ids.append(row["id"])
+            keys.append(_found(row, records[at]))
+        elif not is_moving:
             raise Failure(f"the servers give no DNSKEY record of the key {at or row['id']}",
                           UNAVAILABLE)
-        ids.append(row["id"])
-        role = row["role"].upper()
-        keys.append(Found(records[at], role != "ZSK", role != "KSK", reference=_uri(row["id"])))
     return Told(keys, moving, [it.format(ids=" ".join(ids)) for it in STOPS])
+
+
+def _found(row: re.Match, key: Key) -> Found:
+    role = row["role"].upper()
+    return Found(key, role != "ZSK", role != "KSK", reference=_uri(row["id"]))
 
 
 def _uri(number: str) -> str:
@@ -53,18 +69,18 @@ def _uri(number: str) -> str:
     return "pkcs11:id=" + "".join(f"%{number[at:at + 2]}" for at in range(0, len(number), 2))
 
 
-def _rows(zone: str) -> list[re.Match]:
+def _rows(zone: str, socket: str | None) -> list[re.Match]:
     """The rows of the zone's keys."""
-    found = filter(None, map(DEBUG.fullmatch, _list("--debug")))
+    found = filter(None, map(DEBUG.fullmatch, _list("--debug", socket)))
     name = zone.rstrip(".").lower()
     rows = [it for it in found if it["zone"].rstrip(".").lower() == name]
     expect(bool(rows), f"ods-enforcer key list: no keys of {zone} that are known")
     return rows
 
 
-def _tags() -> dict[str, tuple[int, int]]:
+def _tags(socket: str | None) -> dict[str, tuple[int, int]]:
     """The tag and the algorithm of each key, by its number in the store."""
-    found = filter(None, map(VERBOSE.fullmatch, _list("--verbose")))
+    found = filter(None, map(VERBOSE.fullmatch, _list("--verbose", socket)))
     return {it["id"].lower(): (int(it["tag"]), int(it["algorithm"])) for it in found}
 
 
@@ -75,14 +91,16 @@ def _states(row: re.Match) -> list[str]:
     return [it for it in states if it != NONE]
 
 
-def _moving(row: re.Match, counts: list[str], at: tuple[int, int] | None) -> list[str]:
+def _moving(row: re.Match, counts: list[str], at: tuple[int, int] | None) -> str:
     """What is in progress with a key."""
-    if set(counts) == {THERE}:
-        return []
-    waits = "'ods-enforcer key ds-seen', once the parent has it" if row["ds"] not in (
-        THERE, NONE) else "wait until 'ods-enforcer key list --debug' says omnipresent"
-    return [f"key {at[0] if at else row['id']} is {', '.join(counts)}: {waits}"]
+    states = ", ".join("new" if it == NEW else it for it in counts)
+    waits = ["wait until 'ods-enforcer key list --debug' says omnipresent"]
+    if row["ds"] in DS_WAITS:
+        waits.insert(0, DS_WAITS[row["ds"]])
+    return f"key {at[0] if at else row['id']} is {states}: {' '.join(waits)}"
 
 
-def _list(how: str) -> list[str]:
-    return said(("ods-enforcer", "key", "list", how)).splitlines()
+def _list(how: str, socket: str | None) -> list[str]:
+    """What the enforcer says by its socket, which a setting of its own may have elsewhere."""
+    where = ("--socket", socket) if socket else ()
+    return said(("ods-enforcer", *where, "key", "list", how)).splitlines()
