@@ -1,5 +1,5 @@
-"""Makes docs/contracts.txt: for each function that docs/PROOF.md names its contract, clause by
-clause with the definitions that it cites and their files, and where its proof stands.
+"""Makes docs/contracts.txt: for each public function its contract, clause by clause with the
+definitions that it cites and their files, and where its proof stands.
 `tests/docs.py --write` writes it, and without `--write` it compares."""
 
 import re
@@ -7,16 +7,15 @@ from pathlib import Path
 
 TOP = Path(__file__).resolve().parent.parent
 CRATES = TOP / "crates"
-PAGE, INDEX = TOP / "docs" / "PROOF.md", TOP / "docs" / "contracts.txt"
+INDEX = TOP / "docs" / "contracts.txt"
 # The crates of the gate promise nothing.
 OF_THE_GATE = {"dnssec_tests", "callers"}
 
 HEAD = """\
-The contracts that PROOF.md names: the file of the function, then for each clause the definitions
+The contracts of public functions: the file of the function, then for each clause the definitions
 that it cites, each with its file in specs/. Below stands where the proof is, if it has lines of its
 own. Written by tests/docs.py --write.
 """
-NAME = re.compile(r"`(?:[A-Z]\w*::)?([a-z]\w*)`")
 # A public function with the clauses of its contract, up to its body.
 FUNCTION = re.compile(r"^ *pub fn (?P<name>\w+)\b(?P<head>.*?)^ *\{", re.MULTILINE | re.DOTALL)
 CLAUSE = re.compile(r"^ *ensures (?P<name>\w*) ?(?P<says>\{.*?)(?=^ *ensures |\Z)",
@@ -59,13 +58,13 @@ def proof_of(crate, path, name):
 
 def made():
     """The index as it should be."""
-    named, defined = set(NAME.findall(PAGE.read_text())), definitions()
+    defined = definitions()
     lines = [HEAD]
     for crate in crates():
         for path in sorted(crate.glob("src/**/*.rt")):
             for match in FUNCTION.finditer(path.read_text()):
                 told = [*clauses(match["head"], defined)]
-                if match["name"] in named and told:
+                if told:
                     place = proof_of(crate, path, match["name"])
                     proof = [f"    proof: {place}"] if place else []
                     lines += [f"{match['name']}: {path.relative_to(CRATES)}", *told, *proof]
