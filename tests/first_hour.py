@@ -218,7 +218,8 @@ def done(lines: list[str]) -> tuple[list[Call], list[str]]:
             faults += [f"these are beside the folder: {left}"] if left else []
         finally:
             running = room.end()
-        return calls, faults + ([f"{running} processes are left"] if running else [])
+        faults += [f"{running} processes are left"] if running and not faults else []
+        return calls, faults
 
 
 def changed(lines: dict[int, str], change: str) -> list[str]:
