@@ -38,7 +38,7 @@ PACKAGES = {"nsd": "nsd", "nsd-control": "nsd", "dnssec-keygen": "bind9-utils",
 PATHS = "/usr/local/bin:/usr/bin:/bin"
 # How many seconds the page may take, how often it is looked at, and how soon a server has to end;
 # and how many pages run side by side.
-MOST, OFTEN, SOON, AT_ONCE = 200, 1, 3, 4
+MOST, OFTEN, SOON, AT_ONCE = 300, 1, 3, 4
 # What `delv` says, and the words that a person may type: none makes a call.
 VALID, UNSIGNED = "; fully validated", "; unsigned answer"
 TYPED = {"init", "tick", "status", "check", "policy"}
@@ -218,7 +218,8 @@ def done(lines: list[str]) -> tuple[list[Call], list[str]]:
             faults += [f"these are beside the folder: {left}"] if left else []
         finally:
             running = room.end()
-        return calls, faults + ([f"{running} processes are left"] if running else [])
+        faults += [f"{running} processes are left"] if running and not faults else []
+        return calls, faults
 
 
 def changed(lines: dict[int, str], change: str) -> list[str]:
@@ -241,7 +242,18 @@ def is_seen(lines: dict[int, str], change: str) -> bool:
     return bool(faults)
 
 
-def lacking(port: int) -> Iterator[str]:
+def tried(lines: dict[int, str], changes: list[str]) -> int:
+    """Tries each change, some at once. The status is 0 if all are seen."""
+    if unknown := [it for it in changes if it.partition("=")[0] not in map(str, lines)]:
+        print(f"first_hour: no block has the lines {' '.join(unknown)}")
+        return 64
+    with ThreadPoolExecutor(AT_ONCE) as pool:
+        seen = list(pool.map(lambda it: is_seen(lines, it), changes))
+    print(f"first_hour: {seen.count(True)} of {len(seen)} changed lines are seen")
+    return 0 if all(seen) else 1
+
+
+def lacking() -> Iterator[str]:
     """What this machine lacks for the page."""
     paths = f"{PATHS}:/usr/sbin:/sbin"
     missing = {of for name, of in PACKAGES.items() if not shutil.which(name, path=paths)}
@@ -249,6 +261,10 @@ def lacking(port: int) -> Iterator[str]:
         yield f"missing here, and needed: apt-get install {' '.join(sorted(missing))}"
     if not KEYSET.exists():
         yield f"{KEYSET} is missing: make build makes it"
+
+
+def taken(port: int) -> Iterator[str]:
+    """Why the server can't have the port."""
     for kind in (socket.SOCK_DGRAM, socket.SOCK_STREAM):
         with socket.socket(socket.AF_INET, kind) as probe:
             probe.setsockopt(socket.SOL_SOCKET, socket.SO_REUSEADDR, kind == socket.SOCK_STREAM)
@@ -262,17 +278,12 @@ def main() -> int:
     # What it has started ends with it.
     signal.signal(signal.SIGTERM, lambda *_: sys.exit(1))
     lines, begun = lines_of(PAGE.read_text()), time.monotonic()
-    if why := list(lacking(port_of(lines))):
+    changes = sys.argv[1:]
+    if why := [*lacking(), *(taken(port_of(lines)) if not changes else ())]:
         print(*(f"first_hour: {it}" for it in why), sep="\n")
         return 1
-    if changes := sys.argv[1:]:
-        if unknown := [it for it in changes if it.partition("=")[0] not in map(str, lines)]:
-            print(f"first_hour: no block has the lines {' '.join(unknown)}")
-            return 64
-        with ThreadPoolExecutor(AT_ONCE) as pool:
-            seen = list(pool.map(lambda it: is_seen(lines, it), changes))
-        print(f"first_hour: {seen.count(True)} of {len(seen)} changed lines are seen")
-        return 0 if all(seen) else 1
+    if changes:
+        return tried(lines, changes)
     calls, faults = done(list(lines.values()))
     print(*faults, sep="\n", end="\n" if faults else "")
     answers, ticks = (sum(call.words[index] == word for call in calls)
