@@ -53,9 +53,9 @@ DEVICE = 2, b"", b"input or output fault\n"
 # The longest path that a program may be called by.
 LONGEST = 4096
 
-# A word in the first cell of a row of the README, and a status.
-WORD = re.compile(r"^\| `(--\w+|\w+)` \|", re.MULTILINE)
-ENDS = re.compile(r"^\| (\d+) \|", re.MULTILINE)
+# A word at the head of an item of the README, and a status.
+WORD = re.compile(r"^- `(--\w+|\w+)`:", re.MULTILINE)
+ENDS = re.compile(r"^- (\d+):", re.MULTILINE)
 
 # What each word reads and writes.
 WORDS = {
