@@ -14,7 +14,7 @@ from pathlib import Path
 
 from keyset import Notes, WrongArgument
 from keyset.lines import Line
-from keyset.notes import Seen, to_report
+from keyset.notes import Seen
 
 from . import act, advice, calling, cli, hooks, policies, resting, shortnames, signers, status
 from . import watching, words
@@ -256,21 +256,18 @@ class Tick:
             self.read()
             self.do(self.next())
             return
-        line = self.reported(said.line, kinds) if word.startswith("report") else said.line
+        line = self.reported(said.line) if word.startswith("report") else said.line
         made = calling.call(self.script, line, self.clock, known=self.lines)
         if not made.kept:
             raise Done(WARNING, "; ".join(made.text()), event=REFUSED)
         self.is_cds_out = False
         self.say("called", [f"{made.line}: {made.reply}"])
 
-    def reported(self, line: str, kinds: list[str]) -> str:
-        """A report with the TTL that is said, or the one of CDS or the sum, if that is higher. A
-        clock may be behind then, and ahead at the wait."""
+    def reported(self, line: str) -> str:
+        """A report with the TTL that is said, and what clocks may differ by: one may be behind at the
+        report, and ahead at the wait."""
         word, roll, ttl, moment = line.split(" ")
-        seen = Seen(self.notes.lines, int(moment))
-        held = {kind: max(ttls) for kind, ttls in seen.ttls.items()}
-        ttl = to_report(int(ttl), kinds, roll, held) + 2 * self.policy.clock
-        return f"{word} {roll} {ttl} {moment}"
+        return f"{word} {roll} {int(ttl) + 2 * self.policy.clock} {moment}"
 
     def kinds(self) -> dict[str, list[str]]:
         """The kinds of sets that each roll in progress asks to watch."""
