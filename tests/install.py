@@ -198,7 +198,7 @@ def expect_other_folder(room, library):
     prefix, libraries = room / "other", "lib/x86_64-linux-gnu"
     packaging("install", prefix, "--library", library, "--libdir", libraries)
     build_in_c(prefix, room / "roll", libraries)
-    expect(list((prefix / "lib").iterdir()) == [prefix / libraries], "libraries are in two places")
+    expect(not [*(prefix / "lib").glob("*keyset*")], "libraries are in two places")
 
 
 def expect_parts(room, library, whole):
