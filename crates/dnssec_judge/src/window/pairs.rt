@@ -1,89 +1,75 @@
-//! Any two sets of the windows are tested once: each new set with all sets of the other kinds.
-ghost use Rattle.std.specs.Prelude.{◌≡◌, ◌&&◌};
-ghost use Rattle.dnssec_sets.specs.Sets.{keys_hold, set_of_held, zone_holds};
-ghost use Rattle.dnssec_judge.specs.Inner.Window.{all_in, new_in, pair_holds};
+//! Any two sets of the windows are tested once: each new set with all sets of the other kind.
+ghost use Rattle.std.specs.Prelude.{◌≡◌, ◌&&◌, ℕ, true};
+ghost use Rattle.dnssec_sets.specs.Sets.{keys_hold, set_of, zone_holds};
+ghost use Rattle.dnssec_judge.specs.Inner.Window.{AllHold, Keeps, Tested, all_in, new_in};
 
 use super::Window;
-use dnssec_sets::{Found, Held, Trust};
+use dnssec_sets::OpenSet;
 
-/// What a set of a window is to another set. Which two hold depends on it.
-#[derive(Clone, Copy)]
-pub(crate) enum Pair {
-    /// A DS set, which names a key that is in the DNSKEY set and signs it.
-    DsOfKeys,
-    /// A DNSKEY set, for a DS set.
-    KeysOfDs,
-    /// A DNSKEY set, for the keys that sign the zone.
-    KeysOfSigners,
-    /// The keys that sign the zone, one of them in the DNSKEY set.
-    SignersOfKeys,
+/// Whether each set that came at position `tested` or later holds with all sets of the other kind.
+pub(crate) fn new_sets_hold(ds: &Window, dnskey: &Window, zone: &Window, tested: usize) -> bool
+    ensures { (n : ℕ) → result ≡ true → Keeps n ds.now → Keeps n dnskey.now → Keeps n zone.now →
+        Tested tested ds.now dnskey.now zone.now → AllHold ds.now dnskey.now zone.now }
+{
+    let mut new_ds = ds.new_sets(tested).iter();
+    let mut new_keys = dnskey.new_sets(tested).iter();
+    let mut new_signers = zone.new_sets(tested).iter();
+    new_ds.all(|ds| dnskey.keys_hold_with(ds))
+        && new_keys.all(|keys| ds.ds_hold_with(keys) && zone.signers_hold_with(keys))
+        && new_signers.all(|zone| dnskey.keys_hold_with_signers(zone))
 }
 
-impl Pair {
-    /// Whether the set of a window holds with the other one, which may be by the key of before.
-    #[inline(always)]
-    fn test<'a>(self, held: &'a Held, other: &'a Held, before: Option<Found<'a>>) -> Trust<'a>
-        ensures { result.holds ≡ pair_holds self (set_of_held other.now) (set_of_held held.now) }
-    {
-        match self {
-            Pair::DsOfKeys => held.trusts_keys_of(other, before),
-            Pair::KeysOfDs => other.trusts_keys_of(held, before),
-            Pair::KeysOfSigners => held.trusts_signers(other, before),
-            Pair::SignersOfKeys => other.trusts_signers(held, before),
-        }
-    }
-}
-
+// If there are many sets, each of these first asks what is common to all. So most sets are tested
+// once, and not with each of the others.
 impl Window {
-    /// Whether each set that came at position `tested` or later holds with each set of the other
-    /// window.
-    #[inline(always)]
-    pub(crate) fn new_hold(&self, other: &Window, pair: Pair, tested: usize) -> bool
-        ensures { result ≡ new_in self.now tested (λ p. all_in other.now (pair_holds pair p)) }
-    {
-        let begin = self.begin();
-        for held in &self.sets {
-            if held.last < begin || held.since < tested {
-                continue;
-            }
-            if !other.all_hold(pair, held) {
-                return false;
-            }
-        }
-        true
+    /// The sets that came at position `tested` or later.
+    fn new_sets(&self, tested: usize) -> &[OpenSet] {
+        let first = self.sets.partition_point(|set| set.since < tested);
+        let (_, new) = self.sets.split_at(first);
+        new
     }
 
-    /// Whether each DNSKEY set that came at position `tested` or later is trusted by each DS set,
-    /// and trusts all zone signers.
-    pub(crate) fn new_keys_trust(&self, ds: &Window, zone: &Window, tested: usize) -> bool
-        ensures { result ≡ new_in self.now tested (λ q. all_in ds.now (λ p. keys_hold p q)
-            && all_in zone.now (λ z. zone_holds q z)) }
+    /// Whether the DS set holds with each DNSKEY set of the window.
+    fn keys_hold_with(&self, ds: &OpenSet) -> bool
+        ensures { (n : ℕ) → Keeps n self.now →
+            result ≡ all_in self.now (λ q. keys_hold (set_of ds.now) q) }
     {
-        let begin = self.begin();
-        self.sets.iter().all(|dnskey| {
-            dnskey.last < begin
-                || dnskey.since < tested
-                || ds.all_hold(Pair::DsOfKeys, dnskey) && zone.all_hold(Pair::SignersOfKeys, dnskey)
-        })
+        match self.common() {
+            Some(common) if ds.names_key_of(common) => true,
+            _ => self.sets.iter().all(|keys| ds.holds_with_keys(keys)),
+        }
     }
 
-    /// Whether each set of the window holds with the other set. It is first tested by the key by
-    /// which the one before it held.
-    #[inline(always)]
-    fn all_hold(&self, pair: Pair, other: &Held) -> bool
-        ensures { result ≡ all_in self.now (pair_holds pair (set_of_held other.now)) }
+    /// Whether each DS set of the window holds with the DNSKEY set.
+    fn ds_hold_with(&self, keys: &OpenSet) -> bool
+        ensures { (n : ℕ) → Keeps n self.now →
+            result ≡ all_in self.now (λ p. keys_hold p (set_of keys.now)) }
     {
-        let begin = self.begin();
-        let mut by = None;
-        for held in &self.sets {
-            if begin <= held.last {
-                let trust = pair.test(held, other, by);
-                if !trust.holds {
-                    return false;
-                }
-                by = trust.by;
-            }
+        match self.common() {
+            Some(common) if common.names_key_of(keys) => true,
+            _ => self.sets.iter().all(|ds| ds.holds_with_keys(keys)),
         }
-        true
+    }
+
+    /// Whether the DNSKEY set holds with all zone signers of the window.
+    fn signers_hold_with(&self, keys: &OpenSet) -> bool
+        ensures { (n : ℕ) → Keeps n self.now →
+            result ≡ all_in self.now (λ z. zone_holds (set_of keys.now) z) }
+    {
+        match self.common() {
+            Some(common) if keys.holds_with_signers(common) => true,
+            _ => self.sets.iter().all(|zone| keys.holds_with_signers(zone)),
+        }
+    }
+
+    /// Whether each DNSKEY set of the window holds with the zone signers.
+    fn keys_hold_with_signers(&self, zone: &OpenSet) -> bool
+        ensures { (n : ℕ) → Keeps n self.now →
+            result ≡ all_in self.now (λ q. zone_holds q (set_of zone.now)) }
+    {
+        match self.common() {
+            Some(common) if common.holds_with_signers(zone) => true,
+            _ => self.sets.iter().all(|keys| keys.holds_with_signers(zone)),
+        }
     }
 }
