@@ -327,7 +327,7 @@ ROWS = [
     Row("equal sums of positions", 8000, equal_sums, "lines² · keys"),
     Row("the same beside a reference of 1 MB", 1500,
         lambda count: equal_sums(count, 0, 1_000_000), "lines² · bytes of the reference"),
-    Row("two sets of each kind in turn, then broken", 16384, two_sets, "lines²"),
+    Row("two sets of each kind in turn, then broken", 16384, two_sets, "lines"),
     Row("sets that were retired, then rolls", 32768, retired, "lines · sets retired"),
     Row("sets before the first DS", 8192, first_ds_last, "lines³"),
     Row("waits of two rolls in turn", 24000, two_rolls_waits, "lines · keys"),

@@ -40,7 +40,7 @@ module _ (xs ys : List Held) (e : map parts_of ys ≡ map parts_of xs) (i : ℕ)
       shown (Some h) = refl
 
 module _ (xs ys : List Held) (e : map parts_of ys ≡ map parts_of xs) where
-  stretched : (spans : List Span) → stretches ys spans ≡ stretches xs spans
+  pub stretched : (spans : List Span) → stretches ys spans ≡ stretches xs spans
   stretched [] = refl
   stretched (s ∷ ss) =
       let one = place-same xs ys e s.place in let more = stretched ss in

@@ -1,18 +1,68 @@
-//! The first sets without a chain, once a test has failed: the spans are searched in their order.
-ghost use Rattle.std.specs.Prelude.{◌≡◌, max};
+//! The first sets without a chain, once a test has failed: the first spans of the sets are searched
+//! in their order.
+ghost use Rattle.std.specs.Prelude.{◌≡◌, ◌⊎◌, ℕ, max, true, Some, IfOk, IfErr, slice_get};
 ghost use Rattle.std.specs.Option.{option_copied};
+ghost use Rattle.dnssec_base.specs.declared.error.Error.TheVariants.{OutOfMemory};
 ghost use Rattle.dnssec_sets.specs.Sets.{keys_hold, set_of_any, set_of_held, sets_have_chain};
 ghost use Rattle.dnssec_sets.specs.Sets.{zone_holds};
-ghost use Rattle.dnssec_judge.specs.Inner.Window.{all_pass, first_ds, first_failing, first_keys};
+ghost use Rattle.dnssec_judge.specs.Inner.Window.{HaveFirsts, all_pass, first_ds, first_failing};
+ghost use Rattle.dnssec_judge.specs.Inner.Window.{first_keys};
 ghost use Rattle.dnssec_judge.specs.Inner.Window.{set_at_place, stretches_of};
 
 use super::{Span, Window};
 use crate::verdict::Broken;
-use dnssec_sets::Held;
+use dnssec_keyset::Error;
+use dnssec_sets::{Held, clone_sets};
+use std::alloc::Global;
+use std::collections::VecDeque;
+
+/// The first DS set, with a DNSKEY set and zone signers, that has no chain.
+pub(crate) fn find_broken(
+    alloc: Global,
+    ds: &Window,
+    dnskey: &Window,
+    zone: &Window,
+    at: usize,
+) -> Result<Option<Broken>, Error>
+    ensures ok { IfOk result (λ found. found ≡ first_ds at ds.now.floor (stretches_of ds.now)
+        dnskey.now.floor (stretches_of dnskey.now) zone.now.floor (stretches_of zone.now)) }
+    ensures err { IfErr result (λ e. e ≡ OutOfMemory) }
+{
+    let ds = ds.firsts(alloc)?;
+    let dnskey = dnskey.firsts(alloc)?;
+    let zone = zone.firsts(alloc)?;
+    Ok(ds.find_ds(&dnskey, &zone, at))
+}
 
 impl Window {
+    /// A window to search in, with the first span of each set: what a set lacks at one position, it
+    /// lacks at each.
+    fn firsts(&self, alloc: Global) -> Result<Self, Error>
+        ensures floor { IfOk result (λ w. w.floor ≡ self.now.floor) }
+        ensures firsts { IfOk result (λ w.
+            HaveFirsts (stretches_of w) (stretches_of self.now)) }
+        ensures err { IfErr result (λ e. e ≡ OutOfMemory) }
+    {
+        let mut is_met = Vec::new(alloc);
+        is_met.resize(self.sets.len(), false)?;
+        let mut spans = VecDeque::new(alloc);
+        for span in &self.spans {
+            if meet(&mut is_met, span.place) {
+                continue;
+            }
+            spans.push_back(*span)?;
+        }
+        let sets = clone_sets(alloc, &self.sets)?;
+        Ok(Window {
+            floor: self.floor,
+            dues: Vec::new(alloc),
+            spans,
+            sets,
+        })
+    }
+
     /// The window's first DS set, with a DNSKEY set and zone signers, that has no chain.
-    pub(crate) fn find_ds(&self, dnskey: &Window, zone: &Window, at: usize) -> Option<Broken>
+    fn find_ds(&self, dnskey: &Window, zone: &Window, at: usize) -> Option<Broken>
         ensures { result ≡ first_ds at self.now.floor (stretches_of self.now)
             dnskey.now.floor (stretches_of dnskey.now) zone.now.floor (stretches_of zone.now) }
     {
@@ -138,6 +188,22 @@ impl Window {
     {
         self.floor.max(span.from)
     }
+}
+
+/// Meets a place, and answers whether it was met before.
+fn meet(is_met: &mut Vec<bool>, place: usize) -> bool
+    ensures was { result ≡ true → slice_get is_met.old.items place ≡ Some true }
+    ensures met { (p : ℕ) → slice_get is_met.new.items p ≡ Some true →
+        (p ≡ place) ⊎ (slice_get is_met.old.items p ≡ Some true) }
+{
+    if is_met.len() <= place {
+        return false;
+    }
+    if is_met[place] {
+        return true;
+    }
+    is_met[place] = true;
+    false
 }
 
 /// Whether the sets have a chain.
