@@ -23,8 +23,8 @@ pub struct Held {
     pub since: usize,
     /// The last position at which it was published, but not at the one before.
     pub last: usize,
-    /// Sets with other sums are other sets.
-    sum: usize,
+    /// Sets with other digests are other sets.
+    digest: usize,
 }
 
 impl Held {
@@ -38,17 +38,17 @@ impl Held {
             signers: KeyList::Empty,
             since: 0,
             last: 0,
-            sum: 0,
+            digest: 0,
         }
     }
 
-    /// The set of a position, with its sum. What it has in common with the set before it is shared.
+    /// The set of a position, with its digest. What it has in common with the set before it is shared.
     pub fn new(
         alloc: Global,
         at: usize,
         keys: &[PublishedKey],
         signers: &[PublishedKey],
-        sum: usize,
+        digest: usize,
         before: Option<&Held>,
     ) -> Result<Self, Error>
         ensures ok { IfOk result (λ h. (set_of_held h ≡ (map id_of keys.now, map id_of signers.now))
@@ -67,7 +67,7 @@ impl Held {
             signers,
             since: at,
             last: at,
-            sum,
+            digest,
         })
     }
 
@@ -81,22 +81,22 @@ impl Held {
             signers: self.signers.try_clone(alloc)?,
             since: self.since,
             last: self.last,
-            sum: self.sum,
+            digest: self.digest,
         })
     }
 
-    /// Whether it is this set, which has this sum.
-    pub fn is(&self, keys: &[PublishedKey], signers: &[PublishedKey], sum: usize) -> bool
+    /// Whether it is this set, which has this digest.
+    pub fn is(&self, keys: &[PublishedKey], signers: &[PublishedKey], digest: usize) -> bool
         ensures { result ≡ true →
             set_of_held self.now ≡ (map id_of keys.now, map id_of signers.now) }
     {
-        if self.sum != sum {
+        if self.digest != digest {
             return false;
         }
         self.has(keys, signers)
     }
 
-    /// The same, for who has no sum of the set.
+    /// The same, for who has no digest of the set.
     pub fn has(&self, keys: &[PublishedKey], signers: &[PublishedKey]) -> bool
         ensures { result ≡ same_set (set_of_held self.now)
             (map id_of keys.now, map id_of signers.now) }

@@ -11,5 +11,5 @@ mod shared;
 mod trust;
 
 pub use held::{Held, clone_sets};
-pub use shared::sum_of;
+pub use shared::digest_of;
 pub use trust::{Found, Trust};

@@ -104,13 +104,21 @@ pub(crate) fn share_all(alloc: Global, keys: &[SharedKey]) -> Result<Vec<SharedK
     Ok(shared)
 }
 
-/// The sum of the positions at which the keys were added. Lists with other sums have other keys.
-pub fn sum_of(keys: &[PublishedKey]) -> usize {
-    let mut sum = 0usize;
+/// A digest of the positions at which the keys of a set, and those that sign it, were added. Sets
+/// with other digests are other sets.
+pub fn digest_of(keys: &[PublishedKey], signers: &[PublishedKey]) -> usize {
+    let digest = mixed(keys.len(), keys);
+    mixed(digest, signers)
+}
+
+/// The digest with more keys.
+fn mixed(digest: usize, keys: &[PublishedKey]) -> usize {
+    let mut digest = digest;
     for key in keys {
-        sum = sum.wrapping_add(key.added);
+        let mixed = (digest ^ key.added).wrapping_mul(0x9E37_79B9_7F4A_7C15);
+        digest = mixed ^ (mixed >> 32);
     }
-    sum
+    digest
 }
 
 /// Whether the lists have the same keys.
