@@ -198,7 +198,9 @@ def expect_other_folder(room, library):
     prefix, libraries = room / "other", "lib/x86_64-linux-gnu"
     packaging("install", prefix, "--library", library, "--libdir", libraries)
     build_in_c(prefix, room / "roll", libraries)
-    expect(not [*(prefix / "lib").glob("*keyset*")], "libraries are in two places")
+    beside = {prefix / "lib" / name for name in ("systemd", "sysusers.d")}
+    expect({*(prefix / "lib").iterdir()} == {prefix / libraries, *beside},
+           "libraries are in two places")
 
 
 def expect_parts(room, library, whole):
