@@ -19,8 +19,8 @@ PYTHON ?= $(shell for python in python3 /usr/bin/python3; do \
 PACKAGES = python3-dnspython python3-cryptography python3-jsonschema
 
 PROGRAM = crates/keyset/out/keyset
-PARTS = dnssec_base dnssec_key dnssec_zone dnssec_keyset dnssec_run dnssec_network dnssec_sets \
-	dnssec_judge dnssec_script dnssec_record dnssec_status dnssec_notes keyset
+# The program's crates: keyset and those that stand before it.
+PARTS = $(shell sed -n 's/^\([a-z_]*\):.*/\1/p; /^keyset$$/q' crates.txt)
 SOURCES = crates.txt \
 	$(wildcard $(foreach part,$(PARTS),$(addprefix crates/$(part)/,src specs proofs)))
 
