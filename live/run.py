@@ -25,8 +25,10 @@ DEBIANS = "/usr/bin/python3"
 # Debian's packages of modules.
 MODULES = {"dns": "python3-dnspython", "cryptography": "python3-cryptography"}
 # The most seconds that the short form and the whole run may take.
-SHORT, WHOLE = 600, 3600
+SHORT, WHOLE = 600, 2400
 FAULTS_SHOWN = 8
+# Why a run ends before its scenes.
+ENDS = {asyncio.TimeoutError: "it took too long", asyncio.CancelledError: "interrupted"}
 # The seconds for which clients go on after a scene.
 AFTER = 8
 
@@ -39,7 +41,7 @@ def given():
     parser.add_argument("--port", type=int, default=PORT)
     parser.add_argument("--seed", default=str(int(time.time())), help="of TTLs and of delays")
     parser.add_argument("--rounds", type=int, default=1, help="so often each honest scene")
-    parser.add_argument("--at-once", type=int, default=8, help="scenes side by side")
+    parser.add_argument("--at-once", type=int, default=14, help="scenes side by side")
     parser.add_argument("--limit", type=int, help="the most seconds for it")
     parser.add_argument("--keyset", default=str(KEYSET), help="the program")
     parser.add_argument("--folder", help="a new folder for its files and logs, which is left")
@@ -101,7 +103,7 @@ class Run:
 
     def __init__(self, world, scenes, at_once):
         self.world, self.scenes, self.at_once = world, scenes, at_once
-        self.failed, self.began = 0, time.monotonic()
+        self.failed, self.left, self.began = 0, list(scenes), time.monotonic()
 
     async def run(self):
         await self.world.begin()
@@ -122,6 +124,7 @@ class Run:
             self.world.processes.check()
             began = time.monotonic()
             wrong = await play(self.world.made[scene.zone], scene)
+        self.left.remove(scene)
         clients, seconds = self.clients(scene), time.monotonic() - began
         said = "FAILED" if wrong else "ok"
         print(row(scene.zone, seconds, clients.counts, len(clients.faults)), said, flush=True)
@@ -170,7 +173,7 @@ async def main_task(run, limit):
 
 def main():
     arguments = given()
-    from scenes import chosen
+    from scenes import chosen, not_among
     scenes = chosen(arguments.scenes, arguments.short, arguments.rounds)
     if arguments.list:
         print(*(scene.name for scene in scenes), sep="\n")
@@ -187,12 +190,11 @@ def main():
         with contextlib.closing(world):
             try:
                 asyncio.run(main_task(run, limit))
-            except asyncio.TimeoutError:
-                sys.exit("it took too long")
-            except asyncio.CancelledError:
-                sys.exit("interrupted")
-            except Failed as error:
-                sys.exit(str(error))
+            except (*ENDS, Failed) as error:
+                left = " ".join(scene.name for scene in run.left)
+                sys.exit(f"{ENDS.get(type(error), error)}\nnot played to the end: {left}")
+    if not arguments.scenes:
+        print("not played:", *not_among(scenes))
     print(f"{len(scenes)} scenes, {run.failed} failures")
     return bool(run.failed)
 

@@ -137,3 +137,9 @@ def chosen(names, short, rounds):
         if scene.name in names or not names and is_played(scene.name, short)
         if number == 1 or not scene.is_lie
     ]
+
+
+def not_among(scenes):
+    """The names of all other scenes."""
+    names = {scene.name for scene in scenes}
+    return [scene.name for scene in SCENES if scene.name not in names]
