@@ -130,7 +130,15 @@ class Run:
         print(row(scene.zone, seconds, clients.counts, len(clients.faults)), said, flush=True)
         if wrong:
             self.failed += 1
-            print(f"    {wrong}", *clients.faults[:FAULTS_SHOWN], sep="\n    ", flush=True)
+            said = (*clients.faults[:FAULTS_SHOWN], *self.reasons(scene.zone, clients))
+            print(f"    {wrong}", *said, sep="\n    ", flush=True)
+
+    def reasons(self, zone, clients):
+        """What resolvers, and a cache before one, say of their SERVFAIL."""
+        for resolver in sorted({fault.resolver for fault in clients.faults}):
+            for name in (resolver, f"cache-of-{resolver}"):
+                lines = self.world.processes.lines(name, "SERVFAIL", zone)
+                yield from (f"{name}: {line}" for line in lines[:FAULTS_SHOWN])
 
 
 def missing_packages():

@@ -39,6 +39,7 @@ SCENES = [
     *(Scene(name, play, "A", False) for name, play in running.HONEST.items()),
     *(Scene(name, play, "A", False, most=by_itself.MOST)
       for name, play in by_itself.HONEST.items()),
+    *(Scene(name, play, "A", False) for name, play in by_itself.OF_SIGNERS.items()),
     Scene("resolvers-restarted", one_signer.restarted, "A", False),
     *(Scene(name, play, "A", False) for name, play in one_signer.LONG.items()),
     *(Scene(name, play, "AB", False) for name, play in two_signers.HONEST.items()),
@@ -88,6 +89,7 @@ ONLY_WHOLE = {
     "from-bind-csk",
     "from-bind-serial-by-date",
     *running.HONEST,
+    *by_itself.OF_SIGNERS,
     *takeovers.HONEST,
     *offline.HONEST,
     "server-without-address",
