@@ -134,10 +134,10 @@ class Run:
             print(f"    {wrong}", *said, sep="\n    ", flush=True)
 
     def reasons(self, zone, clients):
-        """What resolvers, and a cache before one, say of their SERVFAIL."""
+        """What the resolvers of these faults, and a cache before one, say of the zone."""
         for resolver in sorted({fault.resolver for fault in clients.faults}):
             for name in (resolver, f"cache-of-{resolver}"):
-                lines = self.world.processes.lines(name, "SERVFAIL", zone)
+                lines = self.world.processes.lines(name, zone.rstrip("."))
                 yield from (f"{name}: {line}" for line in lines[:FAULTS_SHOWN])
 
 
@@ -170,13 +170,19 @@ async def main_task(run, limit):
     waiting = asyncio.ensure_future(interrupted.wait())
     await asyncio.wait((running, waiting), timeout=limit, return_when=asyncio.FIRST_COMPLETED)
     is_late = not (running.done() or waiting.done())
-    # (A task that gets an answer just as it is cancelled may go on: it is cancelled once more.)
-    while not running.done():
-        running.cancel()
-        await asyncio.wait((running,), timeout=0.5)
+    await end_the_others()
     if is_late:
         raise asyncio.TimeoutError
     running.result()
+
+
+async def end_the_others():
+    """Ends all other tasks. One that gets an answer just as it is cancelled may go on: so each is
+    cancelled until it ends."""
+    while left := asyncio.all_tasks() - {asyncio.current_task()}:
+        for task in left:
+            task.cancel()
+        await asyncio.wait(left, timeout=0.5)
 
 
 def main():
