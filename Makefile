@@ -127,7 +127,7 @@ scenes: build
 
 # Servers fail in it, so it has servers of its own.
 by-itself: build ## lets zones roll by themselves for 20 minutes, on real name servers
-	@live/run.py --port 15354 by-itself by-itself-other-rolls by-itself-csk
+	@live/run.py --port 15354 by-itself by-itself-other-rolls by-itself-csk by-itself-algorithms
 
 # It needs Debian's nsd, bind9-utils and bind9-dnsutils, and the port that the page names.
 first-hour: python build ## does what docs/first-hour.md says, on real servers, in two minutes

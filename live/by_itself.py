@@ -6,6 +6,7 @@ runs: its database is compared with the status after each roll.
 Those with files have servers that fail, so they are played by their names only."""
 
 import asyncio
+import itertools
 import json
 import os
 import random
@@ -33,8 +34,9 @@ MOST = SECONDS + 300
 # that stands still (longer than that a resolver behind a cache doesn't wait), and how slow the
 # registrar is.
 CLOCK, AWAY, STILL, SLOW = 3, 3, 1, 5
-# A roll is over so many seconds after its key's time, with all that is done to it.
-BOUND = 120
+# A roll is over so many seconds after its key's time, with all that is done to it. If a policy
+# changes, then after so many seconds.
+BOUND, CHANGES = 120, 150
 NEEDED = 2
 # The scene in which servers fail, and the first serial of a signer that runs.
 FAILS, FIRST = "by-itself", 2
@@ -67,16 +69,17 @@ ON_EVENT = "#!/bin/sh\ncat >>events\n"
 @dataclass(frozen=True)
 class Wanted:
     """A policy: its rolls, how long keys live by it, how the parent gets the DS set, what signs,
-    and for how long nobody touches the zone."""
+    for how long nobody touches the zone, and what rolls it has later, in turn."""
 
     rolls: str
     lifetimes: dict
     is_told: bool = False
     signer: Optional[type] = None
     seconds: int = SECONDS
+    later: tuple = ()
 
-    def text(self, **places):
-        lines = [self.rolls, *(f"{role}-lifetime {of}s" for role, of in self.lifetimes.items())]
+    def text(self, rolls, **places):
+        lines = [rolls, *(f"{role}-lifetime {of}s" for role, of in self.lifetimes.items())]
         parent = f"parent hook\non-ds {places['folder']}/on-ds" if self.is_told else "parent cds"
         keygen = " ".join([*KEYGEN, *(self.signer.times_of_keys if self.signer else ())])
         return POLICY.format(
@@ -88,6 +91,8 @@ WANTED = {
     "by-itself-other-rolls": Wanted(
         "policy 13 ksk-double-ds-roll zsk-double-signature-roll", {"ksk": 170, "zsk": 90}, True),
     "by-itself-csk": Wanted("policy 13 csk-roll", {"csk": 100}),
+    "by-itself-algorithms": Wanted("policy 13 ksk-roll zsk-roll", {}, later=(
+        "policy 14 csk-roll", "policy 13 csk-roll", "policy 14 ksk-roll zsk-roll")),
     "by-itself-pdns": Wanted(
         "policy 13 ksk-roll zsk-roll", {"ksk": 110, "zsk": 60}, False, Pdns, OF_SIGNER),
     "by-itself-knot": Wanted("policy 13 ksk-double-ds-roll zsk-double-signature-roll",
@@ -114,9 +119,7 @@ class Unattended(Running):
             await self.changes()
         else:
             await self.signer.start(FIRST)
-        places = {"servers": " ".join(self.zone.servers), "parents": " ".join(PARENT),
-                  "port": self.zone.world.port, "folder": self.folder, "signing": self.signing()}
-        self.script.with_suffix(".policy").write_text(self.wanted.text(**places))
+        self.write_policy(self.wanted.rolls)
         for name, text in (("on-ds", ON_DS), ("on-event", ON_EVENT)):
             (self.folder / name).write_text(text)
             (self.folder / name).chmod(0o755)
@@ -125,6 +128,12 @@ class Unattended(Running):
                         ttl)
         # (Usual delays, which it counts before there are notes, are longer than these lifetimes.)
         await self.type("policy", "check", self.script, ends=(OK, NEEDED))
+
+    def write_policy(self, rolls):
+        text = self.wanted.text(
+            rolls, servers=" ".join(self.zone.servers), parents=" ".join(PARENT),
+            port=self.zone.world.port, folder=self.folder, signing=self.signing())
+        replace(self.script.with_suffix(".policy"), text)
 
     def signing(self):
         """The lines of the policy that say how the zone is signed: an act's options."""
@@ -139,7 +148,8 @@ class Unattended(Running):
 
     async def goes_on(self):
         """All that goes on beside ticks, until the time is over or something fails."""
-        parts = [self.primary(), self.parent(), self.changing(), self.jumping(), self.timer()]
+        parts = [self.primary(), self.parent(), self.changing(), self.jumping(), self.timer(),
+                 self.wishing()]
         tasks = [asyncio.ensure_future(part) for part in parts]
         try:
             await asyncio.gather(*tasks)
@@ -226,6 +236,15 @@ class Unattended(Running):
             await asyncio.sleep(self.dice.uniform(30, 90))
             await self.changes()
 
+    async def wishing(self):
+        """Somebody wants other keys, by another algorithm or in other roles."""
+        later = self.wanted.later
+        for rolls in itertools.cycle((*later, self.wanted.rolls)) if later else ():
+            await asyncio.sleep(min(CHANGES, self.until - time.monotonic()))
+            if self.is_over():
+                return
+            self.write_policy(rolls)
+
     async def changes(self):
         self.counts["changes of the zone"] += 1
         if self.signer is None:
@@ -292,6 +311,9 @@ class Unattended(Running):
         await self.type("check", self.script, "--json", ends=(0, 1))
 
     def expected(self):
+        """Each roll, and how long keys live until it comes."""
+        if self.wanted.later:
+            return [("algorithm-roll", CHANGES)]
         rolls = self.wanted.rolls.split()[2:]
         return [(roll, self.wanted.lifetimes[roll[:3]]) for roll in rolls]
 
