@@ -32,8 +32,8 @@ prove = mkdir -p crates/$(1)/out && cd crates/$(1) && \
 	{ rt $(2) >out/build.log 2>&1 || { cat out/build.log >&2; exit 1; }; }
 
 .PHONY: run build lib install uninstall made noted arm armed dist try-dist check fmt clean test \
-	wrong live by-itself first-hour machines docs memory test-lib test-arm test-go valgrind asan \
-	fuzz types mutants signers help python modules packages logs
+	wrong live scenes by-itself first-hour machines docs memory test-lib test-arm test-go valgrind \
+	asan fuzz types mutants signers help python modules packages logs
 
 # The proved program answers if it is newer than its sources, else one that is built at once.
 run: ## answers SCRIPT: make run SCRIPT=FILE
@@ -116,16 +116,18 @@ signers: modules build ## signs by real tools, of files and of PowerDNS, Knot an
 machines: modules build ## lets machines share zones over PostgreSQL, and kills them
 	@$(PYTHON) tests/machines.py
 
-# It needs the packages that live/README.md names.
-live: ## rolls keys on real name servers, within an hour; LIVE=--short within ten minutes
+# It needs the packages that live/README.md names. Its parts run side by side, each to its end, and
+# it fails if one of them does.
+live: ## rolls keys on real name servers, within half an hour; LIVE=--short within ten minutes
 	@echo 'first the program is proved: half an hour, or seconds if its proof is kept'
-	@$(MAKE) --no-print-directory build
+	@$(MAKE) --no-print-directory -k -j3 $(if $(LIVE),scenes,scenes by-itself first-hour)
+	@echo 'live: no failure. Left out: $(if $(LIVE),by-itself and first-hour,nothing)'
+scenes: build
 	@live/run.py $(LIVE)
-	@[ -n '$(LIVE)' ] || $(MAKE) --no-print-directory by-itself first-hour
 
-# Servers fail in it, so no other scene is played beside it.
-by-itself: ## lets zones roll by themselves for 20 minutes, on real name servers
-	@live/run.py by-itself by-itself-other-rolls by-itself-csk
+# Servers fail in it, so it has servers of its own.
+by-itself: build ## lets zones roll by themselves for 20 minutes, on real name servers
+	@live/run.py --port 15354 by-itself by-itself-other-rolls by-itself-csk by-itself-algorithms
 
 # It needs Debian's nsd, bind9-utils and bind9-dnsutils, and the port that the page names.
 first-hour: python build ## does what docs/first-hour.md says, on real servers, in two minutes

@@ -1,10 +1,12 @@
 """Zones that nobody touches: `vaqsider tick` does all by a policy with lifetimes of seconds. It is
 killed at random, runs twice at once, and by a clock that jumps; servers fail and come back; and the
-parent reads CDS when it likes, or has a registrar that is slow.
+parent reads CDS when it likes, or has a registrar that is slow. BIND's tools sign, or a signer that
+runs: its database is compared with the status after each roll.
 
-They disturb the servers of all zones, so they are played by their names only."""
+Those with files have servers that fail, so they are played by their names only."""
 
 import asyncio
+import itertools
 import json
 import os
 import random
@@ -13,40 +15,50 @@ import sys
 import time
 from collections import Counter
 from dataclasses import dataclass
+from typing import Optional
 
 from asking import ask, data_of, is_signed_by_ds
-from by_command import DS_TTL, OK, TTL, Operator
-from keys import Version, plain_records
+from by_command import DS_TTL, OK, TTL
 from parent import NEGATIVE
 from places import CHILD, PARENT
 from processes import Failed, end
+from running import Running
+from signers import Knot, Named, Pdns, replace
 
-# For how long each scene is played, and the most that one may take with its end, in seconds.
+# For how long each scene is played, that of a signer that runs, and the most that one may take with
+# its end, in seconds.
 SECONDS = int(os.environ.get("BY_ITSELF_SECONDS", "1200"))
+OF_SIGNER = 300
 MOST = SECONDS + 300
 # How far the clock of a tick is wrong at most, how long a server is away that has crashed, and one
 # that stands still (longer than that a resolver behind a cache doesn't wait), and how slow the
 # registrar is.
 CLOCK, AWAY, STILL, SLOW = 3, 3, 1, 5
-# A roll is over so many seconds after its key's time, with all that is done to it.
-BOUND = 120
+# A roll is over so many seconds after its key's time, with all that is done to it. If a policy
+# changes, then after so many seconds.
+BOUND, CHANGES = 120, 150
 NEEDED = 2
+# The scene in which servers fail, and the first serial of a signer that runs.
+FAILS, FIRST = "by-itself", 2
 POLICY = """\
 {rolls}
-keygen dnssec-keygen -q
-zone-file zone
-out zone.signed
+keygen {keygen}
+{signing}
 server {servers}
 parent-server {parents}
 port {port}
-signatures 10min
-renew-before 5min
 patience 4min
 clock {clock}s
 purge 60s
 on-event {folder}/on-event
 {parent}
 """
+KEYGEN = ("dnssec-keygen", "-q")
+OF_FILES = """\
+zone-file zone
+out zone.signed
+signatures 10min
+renew-before 5min"""
 # What runs the command with a clock that is wrong by so many seconds.
 WRONG = ("import sys, time; right, by = time.time, int(sys.argv.pop(1)); "
          "time.time = lambda: right() + by; from vaqsider.cli import main; sys.exit(main())")
@@ -56,16 +68,22 @@ ON_EVENT = "#!/bin/sh\ncat >>events\n"
 
 @dataclass(frozen=True)
 class Wanted:
-    """A policy: its rolls, how long keys live by it, and how the parent gets the DS set."""
+    """A policy: its rolls, how long keys live by it, how the parent gets the DS set, what signs,
+    for how long nobody touches the zone, and what rolls it has later, in turn."""
 
     rolls: str
     lifetimes: dict
     is_told: bool = False
+    signer: Optional[type] = None
+    seconds: int = SECONDS
+    later: tuple = ()
 
-    def text(self, **places):
-        lines = [self.rolls, *(f"{role}-lifetime {of}s" for role, of in self.lifetimes.items())]
+    def text(self, rolls, **places):
+        lines = [rolls, *(f"{role}-lifetime {of}s" for role, of in self.lifetimes.items())]
         parent = f"parent hook\non-ds {places['folder']}/on-ds" if self.is_told else "parent cds"
-        return POLICY.format(rolls="\n".join(lines), parent=parent, clock=CLOCK, **places)
+        keygen = " ".join([*KEYGEN, *(self.signer.times_of_keys if self.signer else ())])
+        return POLICY.format(
+            rolls="\n".join(lines), parent=parent, clock=CLOCK, keygen=keygen, **places)
 
 
 WANTED = {
@@ -73,10 +91,18 @@ WANTED = {
     "by-itself-other-rolls": Wanted(
         "policy 13 ksk-double-ds-roll zsk-double-signature-roll", {"ksk": 170, "zsk": 90}, True),
     "by-itself-csk": Wanted("policy 13 csk-roll", {"csk": 100}),
+    "by-itself-algorithms": Wanted("policy 13 ksk-roll zsk-roll", {}, later=(
+        "policy 14 csk-roll", "policy 13 csk-roll", "policy 14 ksk-roll zsk-roll")),
+    "by-itself-pdns": Wanted(
+        "policy 13 ksk-roll zsk-roll", {"ksk": 110, "zsk": 60}, False, Pdns, OF_SIGNER),
+    "by-itself-knot": Wanted("policy 13 ksk-double-ds-roll zsk-double-signature-roll",
+                             {"ksk": 110, "zsk": 60}, False, Knot, OF_SIGNER),
+    "by-itself-inline": Wanted(
+        "policy 13 ksk-roll zsk-roll", {"ksk": 110, "zsk": 60}, True, Named, OF_SIGNER),
 }
 
 
-class Unattended(Operator):
+class Unattended(Running):
     """Nobody: a timer runs ticks. The primary loads what they have written, and the parent does
     what it reads or is told."""
 
@@ -84,29 +110,46 @@ class Unattended(Operator):
         super().__init__(zone)
         self.wanted, self.dice, self.counts = wanted, random.Random(zone.dice.random()), Counter()
         self.script = self.folder / "by-itself.script"
-        self.until, self.wrong_by, self.last = time.monotonic() + SECONDS, 0, ""
+        self.until, self.wrong_by, self.last = time.monotonic() + wanted.seconds, 0, ""
+        self.signer = wanted.signer(self) if wanted.signer else None
 
     async def begin(self):
         """An unsigned zone and a policy. These ten lines are all that anybody writes."""
-        places = {"servers": " ".join(self.zone.servers), "parents": " ".join(PARENT),
-                  "port": self.zone.world.port, "folder": self.folder}
-        self.script.with_suffix(".policy").write_text(self.wanted.text(**places))
+        if self.signer is None:
+            await self.changes()
+        else:
+            await self.signer.start(FIRST)
+        self.write_policy(self.wanted.rolls)
         for name, text in (("on-ds", ON_DS), ("on-event", ON_EVENT)):
             (self.folder / name).write_text(text)
             (self.folder / name).chmod(0o755)
-        self.changes()
         ttl = self.zone.first.longest
         await self.type("init", self.zone.name, "--script", self.script, "--before", NEGATIVE, ttl,
                         ttl)
         # (Usual delays, which it counts before there are notes, are longer than these lifetimes.)
         await self.type("policy", "check", self.script, ends=(OK, NEEDED))
 
+    def write_policy(self, rolls):
+        text = self.wanted.text(
+            rolls, servers=" ".join(self.zone.servers), parents=" ".join(PARENT),
+            port=self.zone.world.port, folder=self.folder, signing=self.signing())
+        replace(self.script.with_suffix(".policy"), text)
+
+    def signing(self):
+        """The lines of the policy that say how the zone is signed: an act's options."""
+        if self.signer is None:
+            return OF_FILES
+        words = [str(word) for word in (*self.signer.options(), *self.signer.files())]
+        return "\n".join(f"{option[2:]} {value}"
+                         for option, value in zip(words[::2], words[1::2]))
+
     def is_over(self):
         return time.monotonic() > self.until
 
     async def goes_on(self):
         """All that goes on beside ticks, until the time is over or something fails."""
-        parts = [self.primary(), self.parent(), self.changing(), self.jumping(), self.timer()]
+        parts = [self.primary(), self.parent(), self.changing(), self.jumping(), self.timer(),
+                 self.wishing()]
         tasks = [asyncio.ensure_future(part) for part in parts]
         try:
             await asyncio.gather(*tasks)
@@ -117,10 +160,25 @@ class Unattended(Operator):
     # ---- the timer
 
     async def timer(self):
+        rolled = 0
         while not self.is_over():
-            count = 2 if self.dice.random() < 0.1 else 1
+            count, killed = 2 if self.dice.random() < 0.1 else 1, self.counts["killed"]
             await asyncio.gather(*(self.tick() for _ in range(count)))
+            if self.signer and self.counts["killed"] == killed and self.rolled() > rolled:
+                rolled = self.rolled()
+                await self.look_into_database()
             await asyncio.sleep(self.dice.uniform(0.2, 1))
+
+    def rolled(self):
+        """How many rolls are done."""
+        lines = self.script.read_text().splitlines()
+        return sum(line.startswith("done ") for line in lines)
+
+    async def look_into_database(self):
+        """The signer has what the script says."""
+        would = json.loads(await self.type(*self.words_of_act(), "--dry-run"))
+        await self.compare(would["cds"])
+        self.counts["looks into the database"] += 1
 
     async def tick(self):
         """A tick, which is killed at some moment, or ends."""
@@ -159,24 +217,44 @@ class Unattended(Operator):
     async def primary(self):
         """Loads the signed zone whenever it is another one."""
         while not self.is_over():
-            if self.signed.exists() and (text := self.signed.read_text()) != self.last:
+            text = await self.given()
+            if text not in (None, self.last):
                 self.last = text
                 self.publish(text)
-            await asyncio.sleep(0.1)
+            await asyncio.sleep(0.1 if self.signer is None else 0.5)
+
+    async def given(self):
+        """The signed zone, as it is now."""
+        if self.signer is None:
+            return self.signed.read_text() if self.signed.exists() else None
+        made = await self.signer.given()
+        return None if made is None else made.to_text(relativize=False)
 
     async def changing(self):
         """Somebody changes the zone."""
         while not self.is_over():
             await asyncio.sleep(self.dice.uniform(30, 90))
-            self.changes()
+            await self.changes()
 
-    def changes(self):
+    async def wishing(self):
+        """Somebody wants other keys, by another algorithm or in other roles."""
+        later = self.wanted.later
+        for rolls in itertools.cycle((*later, self.wanted.rolls)) if later else ():
+            await asyncio.sleep(min(CHANGES, self.until - time.monotonic()))
+            if self.is_over():
+                return
+            self.write_policy(rolls)
+
+    async def changes(self):
         self.counts["changes of the zone"] += 1
-        records = list(plain_records(self.zone.name, Version(1, TTL, TTL), self.zone.letters))
-        more = f"changed.{self.zone.name} {TTL} IN TXT {self.counts['changes of the zone']}"
-        draft = self.file.with_suffix(".draft")
-        draft.write_text("\n".join([f"$TTL {TTL}", *records, more, ""]))
-        draft.replace(self.file)
+        if self.signer is None:
+            replace(self.file, "\n".join([f"$TTL {TTL}", *self.records(), ""]))
+        else:
+            await self.signer.change(self.serial + 1)
+
+    def records(self):
+        count = self.counts["changes of the zone"]
+        return [*super().records(), f"changed.{self.zone.name} {TTL} IN TXT {count}"]
 
     # ---- the parent
 
@@ -233,6 +311,9 @@ class Unattended(Operator):
         await self.type("check", self.script, "--json", ends=(0, 1))
 
     def expected(self):
+        """Each roll, and how long keys live until it comes."""
+        if self.wanted.later:
+            return [("algorithm-roll", CHANGES)]
         rolls = self.wanted.rolls.split()[2:]
         return [(roll, self.wanted.lifetimes[roll[:3]]) for roll in rolls]
 
@@ -275,7 +356,7 @@ def scene(name):
         operator = Unattended(zone, WANTED[name])
         await operator.begin()
         parts = [operator.goes_on()]
-        if name == "by-itself":
+        if name == FAILS:
             parts.append(failing(zone.world, operator.until, operator.dice, operator.counts))
         tasks = [asyncio.ensure_future(part) for part in parts]
         try:
@@ -290,4 +371,5 @@ def scene(name):
     return played
 
 
-HONEST = {name: scene(name) for name in WANTED}
+HONEST = {name: scene(name) for name, wanted in WANTED.items() if wanted.signer is None}
+OF_SIGNERS = {name: scene(name) for name in WANTED if name not in HONEST}

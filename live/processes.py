@@ -112,6 +112,12 @@ class Processes:
     def signal(self, name, number):
         self.running[name].send_signal(number)
 
+    def lines(self, name, word):
+        """What a server has printed, of the lines that have this word."""
+        path = self.folder / f"{name}.log"
+        text = path.read_text(errors="replace") if path.exists() else ""
+        return [line for line in text.splitlines() if word in line]
+
     def check(self):
         """Fails if a server has ended."""
         for name, process in self.running.items():

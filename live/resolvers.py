@@ -25,6 +25,7 @@ server:
   harden-algo-downgrade: {strict}
   max-udp-size: 4096
   val-log-level: 2
+  log-servfail: yes
   ede: yes
 remote-control:
   control-enable: no

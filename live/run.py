@@ -25,8 +25,10 @@ DEBIANS = "/usr/bin/python3"
 # Debian's packages of modules.
 MODULES = {"dns": "python3-dnspython", "cryptography": "python3-cryptography"}
 # The most seconds that the short form and the whole run may take.
-SHORT, WHOLE = 600, 3600
+SHORT, WHOLE = 600, 2400
 FAULTS_SHOWN = 8
+# Why a run ends before its scenes.
+ENDS = {asyncio.TimeoutError: "it took too long", asyncio.CancelledError: "interrupted"}
 # The seconds for which clients go on after a scene.
 AFTER = 8
 
@@ -39,7 +41,7 @@ def given():
     parser.add_argument("--port", type=int, default=PORT)
     parser.add_argument("--seed", default=str(int(time.time())), help="of TTLs and of delays")
     parser.add_argument("--rounds", type=int, default=1, help="so often each honest scene")
-    parser.add_argument("--at-once", type=int, default=8, help="scenes side by side")
+    parser.add_argument("--at-once", type=int, default=14, help="scenes side by side")
     parser.add_argument("--limit", type=int, help="the most seconds for it")
     parser.add_argument("--keyset", default=str(KEYSET), help="the program")
     parser.add_argument("--folder", help="a new folder for its files and logs, which is left")
@@ -101,7 +103,7 @@ class Run:
 
     def __init__(self, world, scenes, at_once):
         self.world, self.scenes, self.at_once = world, scenes, at_once
-        self.failed, self.began = 0, time.monotonic()
+        self.failed, self.left, self.began = 0, list(scenes), time.monotonic()
 
     async def run(self):
         await self.world.begin()
@@ -122,12 +124,21 @@ class Run:
             self.world.processes.check()
             began = time.monotonic()
             wrong = await play(self.world.made[scene.zone], scene)
+        self.left.remove(scene)
         clients, seconds = self.clients(scene), time.monotonic() - began
         said = "FAILED" if wrong else "ok"
         print(row(scene.zone, seconds, clients.counts, len(clients.faults)), said, flush=True)
         if wrong:
             self.failed += 1
-            print(f"    {wrong}", *clients.faults[:FAULTS_SHOWN], sep="\n    ", flush=True)
+            said = (*clients.faults[:FAULTS_SHOWN], *self.reasons(scene.zone, clients))
+            print(f"    {wrong}", *said, sep="\n    ", flush=True)
+
+    def reasons(self, zone, clients):
+        """What the resolvers of these faults, and a cache before one, say of the zone."""
+        for resolver in sorted({fault.resolver for fault in clients.faults}):
+            for name in (resolver, f"cache-of-{resolver}"):
+                lines = self.world.processes.lines(name, zone.rstrip("."))
+                yield from (f"{name}: {line}" for line in lines[:FAULTS_SHOWN])
 
 
 def missing_packages():
@@ -159,18 +170,24 @@ async def main_task(run, limit):
     waiting = asyncio.ensure_future(interrupted.wait())
     await asyncio.wait((running, waiting), timeout=limit, return_when=asyncio.FIRST_COMPLETED)
     is_late = not (running.done() or waiting.done())
-    # (A task that gets an answer just as it is cancelled may go on: it is cancelled once more.)
-    while not running.done():
-        running.cancel()
-        await asyncio.wait((running,), timeout=0.5)
+    await end_the_others()
     if is_late:
         raise asyncio.TimeoutError
     running.result()
 
 
+async def end_the_others():
+    """Ends all other tasks. One that gets an answer just as it is cancelled may go on: so each is
+    cancelled until it ends."""
+    while left := asyncio.all_tasks() - {asyncio.current_task()}:
+        for task in left:
+            task.cancel()
+        await asyncio.wait(left, timeout=0.5)
+
+
 def main():
     arguments = given()
-    from scenes import chosen
+    from scenes import chosen, not_among
     scenes = chosen(arguments.scenes, arguments.short, arguments.rounds)
     if arguments.list:
         print(*(scene.name for scene in scenes), sep="\n")
@@ -187,12 +204,11 @@ def main():
         with contextlib.closing(world):
             try:
                 asyncio.run(main_task(run, limit))
-            except asyncio.TimeoutError:
-                sys.exit("it took too long")
-            except asyncio.CancelledError:
-                sys.exit("interrupted")
-            except Failed as error:
-                sys.exit(str(error))
+            except (*ENDS, Failed) as error:
+                left = " ".join(scene.name for scene in run.left)
+                sys.exit(f"{ENDS.get(type(error), error)}\nnot played to the end: {left}")
+    if not arguments.scenes:
+        print("not played:", *not_among(scenes))
     print(f"{len(scenes)} scenes, {run.failed} failures")
     return bool(run.failed)
 

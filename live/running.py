@@ -50,8 +50,7 @@ class Running(Operator):
         made = await self.signer.key(*flag, algorithm=algorithm) if self.signer else None
         if made is None:
             made = await super().key(*flag, algorithm=algorithm)
-            for option in ("-P", "-A"):
-                await run(self.folder, "dnssec-settime", option, "none", made)
+            await run(self.folder, "dnssec-settime", *Named.times_of_keys, made)
         return made
 
     def words_of_act(self):

@@ -39,6 +39,7 @@ SCENES = [
     *(Scene(name, play, "A", False) for name, play in running.HONEST.items()),
     *(Scene(name, play, "A", False, most=by_itself.MOST)
       for name, play in by_itself.HONEST.items()),
+    *(Scene(name, play, "A", False) for name, play in by_itself.OF_SIGNERS.items()),
     Scene("resolvers-restarted", one_signer.restarted, "A", False),
     *(Scene(name, play, "A", False) for name, play in one_signer.LONG.items()),
     *(Scene(name, play, "AB", False) for name, play in two_signers.HONEST.items()),
@@ -88,6 +89,7 @@ ONLY_WHOLE = {
     "from-bind-csk",
     "from-bind-serial-by-date",
     *running.HONEST,
+    *by_itself.OF_SIGNERS,
     *takeovers.HONEST,
     *offline.HONEST,
     "server-without-address",
@@ -137,3 +139,9 @@ def chosen(names, short, rounds):
         if scene.name in names or not names and is_played(scene.name, short)
         if number == 1 or not scene.is_lie
     ]
+
+
+def not_among(scenes):
+    """The names of all other scenes."""
+    names = {scene.name for scene in scenes}
+    return [scene.name for scene in SCENES if scene.name not in names]

@@ -32,6 +32,7 @@ direct-dnskey=yes
 SQLITE = "launch=gsqlite3\ngsqlite3-database={folder}/db\ngsqlite3-dnssec=yes\n"
 SCHEMA = Path("/usr/share/doc/pdns-backend-sqlite3/schema.sqlite3.sql")
 API = "webserver=yes\nwebserver-address={here}\nwebserver-port={port}\napi=yes\napi-key={secret}\n"
+OTHER_TEXT = "UPDATE records SET content = ? WHERE name = ? AND type = 'TXT'"
 # What PowerDNS has of each key, in any of its databases.
 CRYPTOKEYS = "SELECT flags, active, published, content FROM cryptokeys"
 KNOT = """\
@@ -113,13 +114,20 @@ def is_past(moment):
     return 0 < moment <= time.time()
 
 
+def replace(path, text):
+    """Puts another file in the place of one that somebody may be reading."""
+    draft = path.with_suffix(".draft")
+    draft.write_text(text)
+    draft.replace(path)
+
+
 class Signer:
     """A signer of one zone."""
 
     # The tools by which the command has it work; the name of its source for `import`; whether it
-    # signs by a CSK beside the KSK and the ZSK of its algorithm, as a CSK roll wants; and how the
-    # zone denies.
-    tools, source, rolls_to_csk, denial = (), None, False, "NSEC"
+    # signs by a CSK beside the KSK and the ZSK of its algorithm, as a CSK roll wants; how the zone
+    # denies; and the options by which dnssec-keygen gives a key no times.
+    tools, source, rolls_to_csk, denial, times_of_keys = (), None, False, "NSEC", ()
 
     def __init__(self, operator):
         self.operator, self.zone, self.port = operator, operator.zone, free_port()
@@ -132,7 +140,10 @@ class Signer:
         """The unsigned zone, in a file."""
         self.operator.serial = serial
         text = f"$TTL {TTL}\n" + "\n".join(self.operator.records()) + "\n"
-        (self.folder / "zone").write_text(text)
+        replace(self.folder / "zone", text)
+
+    async def change(self, serial):
+        """The unsigned zone has other records, in this version."""
 
     def options(self):
         return ["--signer", self.name]
@@ -207,6 +218,18 @@ class Pdns(Signer):
         await self.util("load-zone", self.zone.name, "zone")
         self.process("pdns_server", f"--config-dir={self.folder}")
         await self.is_up()
+
+    async def change(self, serial):
+        """In the database, as its users do it."""
+        self.operator.serial = serial
+        record = self.operator.records()[-1]
+        name, content = record.split()[0].rstrip("."), record.split()[-1]
+        await asyncio.to_thread(self.written, OTHER_TEXT, (f'"{content}"', name))
+        await self.util("increase-serial", self.zone.name)
+
+    def written(self, statement, values):
+        with sqlite3.connect(self.folder / "db") as database:
+            database.execute(statement, values)
 
     async def util(self, *words):
         return await run(self.folder, "pdnsutil", f"--config-dir={self.folder}", *words)
@@ -312,6 +335,10 @@ class Knot(Signer):
         self.conf("on")
         await self.reload()
 
+    async def change(self, serial):
+        self.write(serial)
+        await run(self.folder, "knotc", "-c", "knot.conf", "zone-reload", self.zone.name)
+
     async def reload(self):
         await run(self.folder, "knotc", "-c", "knot.conf", "reload")
         await asyncio.sleep(1)
@@ -398,6 +425,7 @@ class Named(Signer):
     """A running named, by the times of its keys, which are in the operator's folder."""
 
     name, tools, source = "bind-inline", ("rndc", "dnssec-settime"), "bind"
+    times_of_keys = ("-P", "none", "-A", "none")
 
     async def start(self, serial):
         self.write(serial)
@@ -424,7 +452,14 @@ class Named(Signer):
         for flag in (("-f", "KSK"), ()):
             await run(self.operator.folder, "dnssec-keygen", "-q", "-a", "13", *flag,
                       self.zone.name)
-        await run(self.folder, "rndc", "-c", "rndc.conf", "sign", self.zone.name)
+        await self.rndc("sign")
+
+    async def rndc(self, word):
+        await run(self.folder, "rndc", "-c", "rndc.conf", word, self.zone.name)
+
+    async def change(self, serial):
+        self.write(serial)
+        await self.rndc("reload")
 
     async def is_taken_over(self):
         """It goes on by the times of its keys."""

@@ -206,9 +206,9 @@ class Inline:
 
     def _when_given(self) -> tuple[str, ...]:
         """Nothing, once named gives what the times of its keys ask for: it takes CDS out a moment
-        after it has signed."""
-        wanted = self.now([])
-        self._wait(lambda: list(self.given().differences(wanted)))
+        after it has signed. By a clock that was set back a bit, a time of just now has yet to
+        come: so they are read each time."""
+        self._wait(lambda: list(self.given().differences(self.now([]))))
         return ()
 
     def _wait(self, left: Callable[[], list[str]]) -> None:
