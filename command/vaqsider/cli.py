@@ -81,14 +81,15 @@ def on_call(args):
 
 
 def on_status(args):
-    from . import shortnames, status
+    from . import resting, shortnames, status
 
     told, screens, ends_with = [], [], [OK]
     for path in args.SCRIPT:
         try:
             lines, zone = status.read(path, clock())
             told.append(zone)
-            screens.append("\n".join(status.screen(zone, shortnames.names(lines))))
+            last = resting.of_ticks(path)
+            screens.append("\n".join(status.screen(zone, shortnames.names(lines), last)))
         except Exception as error:
             ends_with.append(_said(error).status)
     ends_with += [BROKEN for zone in told if not zone["chain"]["safe"]]

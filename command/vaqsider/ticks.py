@@ -16,7 +16,7 @@ from typing import Iterable, TextIO
 from keyset import Locked
 
 from . import hooks, journal, policies, resting, words
-from .ending import PARENT_LACKS, RUN_LOW, STUCK, Clock, Deed, End, Log
+from .ending import MEANS, PARENT_LACKS, RUN_LOW, STUCK, Clock, Deed, End, Log
 from .errors import BROKEN, DUE, FAULTY, OK, WARNING, Failure, Silent, failure_of
 from .policies import Commands
 from .resting import Rest
@@ -24,8 +24,7 @@ from .ticking import DEEDS, Tick
 
 # How many zones are ticked at once, if nobody says it.
 JOBS = 8
-# What the status of a tick means; and the events that only their kind makes new, not their text.
-MEANS = {OK: "rests", DUE: "waits", WARNING: "needs a person", BROKEN: "broken"}
+# The events that only their kind makes new, not their text.
 KINDS = (STUCK, PARENT_LACKS, RUN_LOW)
 
 
