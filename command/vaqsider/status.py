@@ -98,7 +98,8 @@ def screen(told, names=None, last=None):
         yield f"\n  {roll['roll']} was ended early: {BEFORE_ANEW[goes_on(last)]}"
         yield from (f"    {text}" for text in words.asks(roll["asked"], told["published"]))
     if last is not None:
-        yield f"\n  the last tick, at {words.moment(last.moment)}, {MEANS[last.status]}: {last.text}"
+        when, how = words.moment(last.moment), MEANS[last.status]
+        yield f"\n  the last tick, at {when}, {how}: {last.text}"
 
 
 def _keys(told, names):
