@@ -204,6 +204,29 @@ def goes_on() -> Iterator[str]:
             yield f"with {status} it waits for {told}, after {last!r}: {said}"
 
 
+def unread() -> Iterator[str]:
+    """A policy that can't be read: a person is told once, and `zones` says it. Once it is right, all
+    goes on."""
+    world = World()
+    with folder() as here, living(world, ""):
+        for path in set(here.glob("*.script")) - {here / f"{ZONE}.script"}:
+            path.unlink()
+        list(passing(world, 3600))
+        policy = Path(f"{ZONE}.policy")
+        right = policy.read_text()
+        policy.write_text(f"{right}zsk-lifetime soon\n")
+        ends = list(passing(world, 180, "--on-event", "tell", every=60))
+        said, _ = typed(["zones", "."], world.now)
+        metrics, _ = typed(["zones", ".", "--prometheus"], world.now)
+        if {status for status, _ in ends} != {2} or events(world) != ["needs a person"]:
+            yield f"with a wrong policy it ends with {ends[-1]}, and tells {events(world)}"
+        if not re.search(r"safe +you ", said) or not re.search(r"tick_status{[^}]+} 2\n", metrics):
+            yield f"with a wrong policy zones shows {said}, {metrics}"
+        policy.write_text(right)
+        if {status for status, _ in passing(world, DAY)} != {0}:
+            yield "with the right policy it doesn't go on"
+
+
 def shown(world: World) -> str:
     """What is said of the zone at this moment."""
     words = (["status", f"{ZONE}.script"], ["check", f"{ZONE}.script"], ["zones", "."])
@@ -289,5 +312,5 @@ def analyzed(*words: str) -> subprocess.CompletedProcess[str]:
                           stderr=subprocess.STDOUT)
 
 
-CHECKS = (low, silent, commands, clock, fast, changed, purge, older, goes_on, names, running, page,
-          units)
+CHECKS = (low, silent, commands, clock, fast, changed, purge, older, goes_on, unread, names,
+          running, page, units)

@@ -3,7 +3,7 @@
 from pathlib import Path
 
 from . import check, looks, resting, status, words
-from .errors import BROKEN, OK, UNAVAILABLE, Failure, failure_of
+from .errors import BROKEN, OK, UNAVAILABLE, WARNING, Failure, failure_of
 
 METRICS = {
     "chain_safe": "1 if the chain of trust held all the time, else 0",
@@ -54,6 +54,7 @@ def _of_status(told, now, last):
     moment = min((end for end in ends if end), default=None)
     waiting = {roll["waits_for"] for roll in told["rolls"]}
     waiting |= {status.goes_on(last) for _ in told["ended"]}
+    waiting |= {status.YOU} if last is not None and last.status >= WARNING else set()
     who = next((who for who in status.WAITING if who in waiting), "nobody")
     return {"zone": told["zone"], "chain_safe": told["chain"]["safe"], "waits_for": who,
             "next": moment, "next_seconds": moment and moment - int(now)}
