@@ -39,19 +39,42 @@ vaqsider ({release}-{revision}) unstable; urgency=medium
 """
 
 
-# Python's compiled files of a package that is no module of Debian's Python.
+# The user that ticks run as, by cron too where systemd isn't there; and Python's compiled files of
+# a package that is no module of Debian's Python. Zones are their operator's: the user stays, and
+# so does each folder, also at a purge.
 POSTINST = """\
 #!/bin/sh
 set -e
+if [ "$1" = configure ]; then
+	if command -v systemd-sysusers >/dev/null; then
+		systemd-sysusers vaqsider.conf
+	elif ! getent passwd vaqsider >/dev/null; then
+		useradd --system --user-group --home-dir /var/lib/vaqsider --no-create-home \\
+			--shell /usr/sbin/nologin vaqsider
+	fi
+fi
 if command -v py3compile >/dev/null; then
 	py3compile -p vaqsider /usr/share/vaqsider
+fi
+if [ -d /run/systemd/system ]; then
+	systemctl --system daemon-reload >/dev/null || true
 fi
 """
 PRERM = """\
 #!/bin/sh
 set -e
+if [ "$1" = remove ] && [ -d /run/systemd/system ]; then
+	deb-systemd-invoke stop 'vaqsider@*.timer' 'vaqsider@*.service' >/dev/null || true
+fi
 if command -v py3clean >/dev/null; then
 	py3clean -p vaqsider /usr/share/vaqsider
+fi
+"""
+POSTRM = """\
+#!/bin/sh
+set -e
+if [ -d /run/systemd/system ]; then
+	systemctl --system daemon-reload >/dev/null || true
 fi
 """
 # What lintian needn't say, with the reason.
@@ -84,7 +107,8 @@ class Package:
 
 PACKAGES = (
     Package(
-        "vaqsider", "net", ("programs", "command"), re.compile("bin/|share/(vaqsider|man|doc)/"),
+        "vaqsider", "net", ("programs", "command"),
+        re.compile(r"bin/|lib/(systemd|sysusers\.d)/|share/(vaqsider|man|doc)/"),
         {
             "Depends": f"python3 (>= 3.9), {LIBRARY} (= {{version}}), libc6 (>= 2.34)",
             "Recommends": "python3-dnspython (>= 2.3), python3-cryptography, "
@@ -94,7 +118,7 @@ PACKAGES = (
         "It keeps the keys that sign a zone, and says which action is due and when a\n"
         "step of a roll may be made. No list of calls that keeps its rules leaves\n"
         "resolvers without a chain of trust: that is proved.",
-        (("postinst", POSTINST), ("prerm", PRERM)),
+        (("postinst", POSTINST), ("prerm", PRERM), ("postrm", POSTRM)),
         OVERRIDES + HELP,
     ),
     Package(

@@ -12,13 +12,15 @@ A shared object of an older interface stays, since programs may be linked to it.
 
 import argparse
 import os
+import pwd
 import subprocess
 import sys
+from contextlib import suppress
 from pathlib import Path
 
 sys.dont_write_bytecode = True
 
-from layout import BUILT, PARTS, Layout  # noqa: E402
+from layout import BUILT, PARTS, USERS, Layout  # noqa: E402
 from trees import Missing, install, uninstall  # noqa: E402
 
 
@@ -38,6 +40,15 @@ def tell_loader(folder):
         return "run ldconfig as root: the loader then finds the library"
     subprocess.run(["ldconfig"], check=True)
     return None
+
+
+def tell_user(users):
+    """Says what is left to do for the units of systemd: they run as a user of their own."""
+    name = users.stem
+    with suppress(KeyError):
+        pwd.getpwnam(name)
+        return None
+    return f"run 'systemd-sysusers {users}' as root: it makes the user {name}, as whom ticks run"
 
 
 def arguments():
@@ -70,6 +81,9 @@ def do(given):
     yield f"installed {len(names)} files below {root}"
     if "library" in parts and not given.destdir:
         if left := tell_loader(root / given.libdir):
+            yield left
+    if "command" in parts and not given.destdir:
+        if left := tell_user(root / USERS / "vaqsider.conf"):
             yield left
 
 

@@ -8,8 +8,8 @@ After what `rt ci` prints comes a line for each crate, which the gate prints too
     proof of CRATE over SUM: LINE
 
 SUM is that of the toolchain, of HANDLES, and of all files that the proof has read: those of the
-crate and of the crates below it, with their lines of crates.txt. LINE is the last line of the proof,
-or says that the crate is kept: `rt ci` found that an earlier run on the same machine had proved the
+crate and of the crates below it, with their lines of crates.txt. LINE is the proof's last line, or
+says that the crate is kept: `rt ci` found that an earlier run on the same machine had proved the
 same files. A crate whose files changed meanwhile has no line. `make dist` reads such lines.
 """
 

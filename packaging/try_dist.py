@@ -97,7 +97,8 @@ int main(void)
     printf("%u %u %u\n", opened, made, (unsigned)keyset_calls(&session));
     keyset_close(&session);
     struct keyset_answered named = keyset_version_text(release, sizeof release);
-    int is_this = named.length == strlen("@VERSION@") && !memcmp(release, "@VERSION@", named.length);
+    int is_named = named.length == strlen("@VERSION@");
+    int is_this = is_named && !memcmp(release, "@VERSION@", named.length);
     return !is_this || keyset_version() != KEYSET_VERSION;
 }
 """
@@ -127,6 +128,13 @@ def using(text, examples):
     return text.replace("@EXAMPLES@", examples)
 
 
+# The unit of ticks is there, and its user, who can own a folder of zones.
+OF_TICKS = f"""
+unit=/usr/lib/systemd/system/vaqsider@.service
+user=$(sed -n 's/^User=//p' "$unit")
+install -d -o "$user" -g "$user" /var/lib/vaqsider
+install -o "$user" @EXAMPLES@/{EXAMPLE}.script /var/lib/vaqsider/example.com.script
+"""
 INSTALLED = "/usr/local/share/doc/vaqsider/examples"
 OF_DEBIAN = "/usr/share/doc/vaqsider/examples"
 TARBALL = "vaqsider-*-@MACHINE@-linux.tar.gz"
@@ -152,8 +160,11 @@ test ! -e /usr/local/share/vaqsider
 dpkg -i /dist/libkeyset[0-9]*_@DEBIAN@.deb /dist/vaqsider_*_@DEBIAN@.deb
 proved /usr/bin/keyset /usr/lib/@FOLDER@/@SHARED@
 {using(BY_PROGRAM + BY_COMMAND, OF_DEBIAN)}
+{using(OF_TICKS, OF_DEBIAN)}
 dpkg -P vaqsider $(dpkg-query -W -f '${{Package}} ' 'libkeyset*')
 test ! -e /usr/bin/keyset
+test ! -e "$unit"
+test "$(stat -c %U /var/lib/vaqsider/example.com.script)" = vaqsider
 """),
     Trial("libkeyset-dev_*_@DEBIAN@.deb", "dpkg, and gcc", ("gcc", "libc6-dev", "pkg-config"), f"""
 dpkg -i /dist/libkeyset[0-9]*_@DEBIAN@.deb /dist/libkeyset-dev_*_@DEBIAN@.deb

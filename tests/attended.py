@@ -165,7 +165,7 @@ def purge() -> Iterator[str]:
 
 def older() -> Iterator[str]:
     """A program that doesn't know the word `next` is named, and nothing is done."""
-    from keyset import Unavailable, programs
+    from keyset import Unavailable, engine, programs
 
     run = programs.run
 
@@ -175,10 +175,62 @@ def older() -> Iterator[str]:
         return run(word, text)
 
     with folder(), living(World(), SPLIT, asks=False) as world:
-        with mock.patch.object(programs, "run", knows_not):
+        without_library = mock.patch.object(engine, "_has_library", lambda: False)
+        with without_library, mock.patch.object(programs, "run", knows_not):
             status, said = tick(world)
         if status != 2 or "older than the command" not in said or len(lines()) > 1:
             yield f"without the word it ends with {status}: {said}"
+
+
+def goes_on() -> Iterator[str]:
+    """`status`, `check` and `zones` say who goes on: a tick, or a person if that needs one."""
+    world = World()
+    with folder() as here, living(world, ""):
+        for path in set(here.glob("*.script")) - {here / f"{ZONE}.script"}:
+            path.unlink()
+        ends = [(tick(world)[0], shown(world))]
+        Path(f"{ZONE}.policy").rename("policy")
+        ends.append((1, shown(world)))
+        Path("policy").rename(f"{ZONE}.policy")
+        world.now -= 1
+        ends.append((tick(world)[0], shown(world)))
+    wanted = [(1, ("tick", "waits: ns1: no answer")), (1, ("you", "")),
+              (2, ("you", "needs a person: its last moment,"))]
+    for (status, (who, says)), (found, said) in zip(wanted, ends):
+        last = "".join(re.findall(r"the last tick, at [^,]+, (.*)", said))
+        told = re.findall(r"(?:algorithm-roll.* waits for|  safe) +(\w+)", said)
+        is_said = last.startswith(says) if says else not last
+        if found != status or told != 3 * [who] or not is_said:
+            yield f"with {status} it waits for {told}, after {last!r}: {said}"
+
+
+def unread() -> Iterator[str]:
+    """A policy that can't be read: a person is told once, and `zones` says it. Once it is right, all
+    goes on."""
+    world = World()
+    with folder() as here, living(world, ""):
+        for path in set(here.glob("*.script")) - {here / f"{ZONE}.script"}:
+            path.unlink()
+        list(passing(world, 3600))
+        policy = Path(f"{ZONE}.policy")
+        right = policy.read_text()
+        policy.write_text(f"{right}zsk-lifetime soon\n")
+        ends = list(passing(world, 180, "--on-event", "tell", every=60))
+        said, _ = typed(["zones", "."], world.now)
+        metrics, _ = typed(["zones", ".", "--prometheus"], world.now)
+        if {status for status, _ in ends} != {2} or events(world) != ["needs a person"]:
+            yield f"with a wrong policy it ends with {ends[-1]}, and tells {events(world)}"
+        if not re.search(r"safe +you ", said) or not re.search(r"tick_status{[^}]+} 2\n", metrics):
+            yield f"with a wrong policy zones shows {said}, {metrics}"
+        policy.write_text(right)
+        if {status for status, _ in passing(world, DAY)} != {0}:
+            yield "with the right policy it doesn't go on"
+
+
+def shown(world: World) -> str:
+    """What is said of the zone at this moment."""
+    words = (["status", f"{ZONE}.script"], ["check", f"{ZONE}.script"], ["zones", "."])
+    return "".join(typed(it, world.now)[0] for it in words)
 
 
 def names() -> Iterator[str]:
@@ -260,4 +312,5 @@ def analyzed(*words: str) -> subprocess.CompletedProcess[str]:
                           stderr=subprocess.STDOUT)
 
 
-CHECKS = (low, silent, commands, clock, fast, changed, purge, older, names, running, page, units)
+CHECKS = (low, silent, commands, clock, fast, changed, purge, older, goes_on, unread, names,
+          running, page, units)

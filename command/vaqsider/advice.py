@@ -1,5 +1,5 @@
-"""What to do next with a zone, as the program says it. Nothing else of this command knows how that
-is asked."""
+"""What to do next with a zone, as the proved key set says it: the library, or the program if that
+isn't there. Nothing else of this command knows how that is asked."""
 
 from __future__ import annotations
 
@@ -7,7 +7,8 @@ import re
 from dataclasses import dataclass
 from typing import Sequence
 
-from keyset import Unavailable, programs
+import keyset
+from keyset import Unavailable
 from keyset.lines import FORMS
 
 from .errors import UNAVAILABLE, Failure
@@ -52,11 +53,10 @@ def parsed(line: str) -> Said:
 
 
 def ask(policy: Sequence[str], lines: Sequence[str], notes: Sequence[str], now: int) -> str:
-    """What the program answers, by the lines of a policy for it, a script and its notes, at a
-    second since 1970."""
+    """What is answered, by the lines of a policy, of a script and of its notes, at a second since
+    1970."""
     try:
-        text = [*policy, "", *lines, "", *notes, f"next {now}"]
-        return programs.run("next", text).strip("\n")
+        return keyset.next_line(policy, lines, notes, now).strip("\n")
     except (Unavailable, ValueError) as error:
         raise Failure(NOT_KNOWN if NO_WORD in str(error) else str(error), UNAVAILABLE) from None
 

@@ -11,7 +11,7 @@ from keyset import Lines, Notes
 from keyset.lines import OF_CLOCK
 from keyset.members import roles_of
 
-from . import looks, status, words
+from . import looks, resting, status, words
 from .errors import BROKEN, DUE, OK, WARNING, failure_of
 from .history import SAFE, History
 
@@ -61,7 +61,7 @@ def _findings(file, path, now):
         yield from false_claims(history, path, now)
         yield from _of_clock(Notes(path), now)
     status.whole(path, file)
-    told = status.at(history.status, now)
+    told = status.at(history.status, now, status.goes_on(resting.of_ticks(path)))
     yield from _due(told)
     if any(told["published"].values()):
         yield from _of_look(path, len(file.lines), now)

@@ -30,7 +30,7 @@ def on_init(args):
 
     from keyset import Notes
 
-    from . import calling, keyfiles
+    from . import calling, keyfiles, policies
 
     files = [keyfiles.read(path) for path in args.KEYFILE]
     zone = re.sub(r"(?<=[^.])\.$", "", args.ZONE)
@@ -44,8 +44,10 @@ def on_init(args):
     if seen:
         seen.keep(path, lines, Notes(path))
     keys = ",".join(file.path.name for file in files) or "KEYS"
-    call = f"vaqsider call {shlex.quote(str(path))} 'start algorithm-roll - {keys} now'"
-    text = [f"{path}: {len(lines)} lines", *([] if args.signed else [f"next: {call}"])]
+    script = shlex.quote(str(path))
+    call = "" if args.signed else f"call {script} 'start algorithm-roll - {keys} now'"
+    word = f"tick {script}" if policies.place_of(path).exists() else call
+    text = [f"{path}: {len(lines)} lines", *([f"next: vaqsider {word}"] if word else [])]
     return OK, text, {"script": str(path), "lines": lines}
 
 
@@ -81,14 +83,15 @@ def on_call(args):
 
 
 def on_status(args):
-    from . import shortnames, status
+    from . import resting, shortnames, status
 
     told, screens, ends_with = [], [], [OK]
     for path in args.SCRIPT:
         try:
             lines, zone = status.read(path, clock())
             told.append(zone)
-            screens.append("\n".join(status.screen(zone, shortnames.names(lines))))
+            last = resting.of_ticks(path)
+            screens.append("\n".join(status.screen(zone, shortnames.names(lines), last)))
         except Exception as error:
             ends_with.append(_said(error).status)
     ends_with += [BROKEN for zone in told if not zone["chain"]["safe"]]

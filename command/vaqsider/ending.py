@@ -5,6 +5,10 @@ from __future__ import annotations
 from dataclasses import dataclass
 from typing import Callable
 
+from .errors import BROKEN, DUE, OK, WARNING
+
+# What the status of a tick means.
+MEANS = {OK: "rests", DUE: "waits", WARNING: "needs a person", BROKEN: "broken"}
 # What an operator's command is told of, beside what needs a person for another reason.
 REFUSED, STUCK, PARENT_LACKS, RUN_LOW = "refused", "stuck", "parent lacks", "signatures run low"
 

@@ -28,7 +28,8 @@ ENDS = (".private", ".state", ".key")
 
 @dataclass(frozen=True)
 class Maker:
-    """Makes keys for a zone by its policy. `folder` has its key files, and `name` is its script's."""
+    """Makes keys for a zone by its policy. `folder` has its key files, and `name` is that of its
+    script."""
 
     zone: str
     policy: Policy
@@ -104,7 +105,6 @@ class Maker:
                 left.mkdir(mode=0o700, exist_ok=True)
                 moved += _move(path, left)
         return moved
-
 
     def purge(self, name: str) -> list[str]:
         """Deletes the files of a key that has left."""

@@ -1,5 +1,5 @@
-"""What is wrong with a policy: for itself, and for a zone with its TTLs. Spans are those of the plan
-of each roll."""
+"""What is wrong with a policy: for itself, and for a zone with its TTLs. Spans are those of the
+plan of each roll."""
 
 from __future__ import annotations
 

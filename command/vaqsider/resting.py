@@ -11,7 +11,7 @@ from typing import Iterable
 
 from keyset.notes import path_of
 
-from . import place
+from . import place, policies
 
 SUFFIX = ".rest"
 
@@ -61,6 +61,11 @@ def read(script: str | Path) -> Rest | None:
         return rest if is_right and all(type(it) is int for it in numbers) else None
     except (OSError, ValueError, TypeError, RecursionError):
         return None
+
+
+def of_ticks(script: str | Path) -> Rest | None:
+    """How the last tick ended, if ticks look after this script: then it has a policy."""
+    return read(script) if policies.place_of(script).exists() else None
 
 
 def keep(script: str | Path, rest: Rest) -> None:

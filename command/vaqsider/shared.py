@@ -2,8 +2,9 @@
 only added, each with its number as the key: so no line is written over, and of two writers one is
 refused. A line is committed there before it is in a file, and a file before anything is published.
 
-A machine takes one zone after another, which no other one has meanwhile, brings its files up to what
-is committed, and ticks it there. Key files, unsigned and signed zones are where the policy says."""
+A machine takes one zone after another, which no other one has meanwhile, brings its files up to
+what is committed, and ticks it there. Key files, unsigned and signed zones are where the policy
+says."""
 
 from __future__ import annotations
 
@@ -62,8 +63,8 @@ def _unreachable(error: psycopg.Error) -> Failure:
 
 
 class Store:
-    """The zones of a database. One connection keeps the zone that is ticked, and another one commits
-    each line at once."""
+    """The zones of a database. One connection keeps the zone that is ticked, and another one
+    commits each line at once."""
 
     def __init__(self, url: str) -> None:
         try:

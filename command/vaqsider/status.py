@@ -5,11 +5,14 @@ from keyset import Damaged, Lines, Malformed, Torn
 from keyset.errors import EARLY
 from keyset.lines import FORMS
 
-from . import words
+from . import resting, words
+from .ending import MEANS
+from .errors import WARNING
 from .history import SAFE
 
-WAITING = YOU, PARENT, CACHES = "you", "parent", "caches"
+WAITING = YOU, TICK, PARENT, CACHES = "you", "tick", "parent", "caches"
 LOST = "a line before it may be lost; if it never was accepted, take it out"
+BEFORE_ANEW = {YOU: "do this before you start anew", TICK: "a tick does this before all else"}
 LABELS = {"ds": "DS", "dnskey": "DNSKEY", "signers": "signers", "zone": "zone"}
 
 
@@ -38,14 +41,20 @@ def read(path, now):
         raise Damaged(path, error.line, f"malformed: {error.reason}") from None
     if found:
         raise Damaged(path, *found)
-    return lines, at(told, now)
+    return lines, at(told, now, goes_on(resting.of_ticks(path)))
 
 
-def at(told, now):
-    """The status at this moment: if a wait is over, it waits for you."""
+def goes_on(last):
+    """Who makes the next call, by how the last tick ended: a tick, unless that needs a person."""
+    return YOU if last is None or last.status >= WARNING else TICK
+
+
+def at(told, now, who):
+    """The status at this moment: if a wait is over, it waits for who goes on."""
     for roll in told["rolls"]:
-        if isinstance(roll["not_before"], int) and roll["not_before"] <= now:
-            roll["waits_for"] = YOU
+        is_over = isinstance(roll["not_before"], int) and roll["not_before"] <= now
+        if is_over or roll["waits_for"] == YOU:
+            roll["waits_for"] = who
     return told
 
 
@@ -71,8 +80,8 @@ def is_asked(told, action):
     return any(action in actions for actions in asked(told).values())
 
 
-def screen(told, names=None):
-    """The lines of the screen. Keys may have short names too."""
+def screen(told, names=None, last=None):
+    """The lines of the screen. Keys may have short names too, and the last tick its end."""
     places = {name: place for name, place in told["chain"].items() if name != "safe"}
     verdict = SAFE if told["chain"]["safe"] else f"chain {keyset.Broken(**places)}"
     yield f"{told['zone']}: {verdict}"
@@ -86,8 +95,11 @@ def screen(told, names=None):
         yield from (f"    {text}" for text in words.asks(roll["due"], told["published"]))
         yield f"    then: {comes_next(roll)}"
     for roll in told["ended"]:
-        yield f"\n  {roll['roll']} was ended early: do this before you start anew"
+        yield f"\n  {roll['roll']} was ended early: {BEFORE_ANEW[goes_on(last)]}"
         yield from (f"    {text}" for text in words.asks(roll["asked"], told["published"]))
+    if last is not None:
+        when, how = words.moment(last.moment), MEANS[last.status]
+        yield f"\n  the last tick, at {when}, {how}: {last.text}"
 
 
 def _keys(told, names):

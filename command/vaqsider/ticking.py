@@ -39,8 +39,8 @@ TAKEN = "Key tag already present"
 @dataclass
 class Tick:
     """A tick of a script by its policy. `acted` are the acts of this tick, by the number of lines,
-    whether CDS was to be in, and the unsigned zone; `stood` is what it has read of the signed file; and `is_cds_out`
-    says that no server gives CDS any more."""
+    whether CDS was to be in, and the unsigned zone; `stood` is what it has read of the signed file;
+    and `is_cds_out` says that no server gives CDS any more."""
 
     script: Path
     policy: Policy
@@ -264,8 +264,8 @@ class Tick:
         self.say("called", [f"{made.line}: {made.reply}"])
 
     def reported(self, line: str) -> str:
-        """A report with the TTL that is said, and what clocks may differ by: one may be behind at the
-        report, and ahead at the wait."""
+        """A report with the TTL that is said, and what clocks may differ by: one may be behind at
+        the report, and ahead at the wait."""
         word, roll, ttl, moment = line.split(" ")
         return f"{word} {roll} {int(ttl) + 2 * self.policy.clock} {moment}"
 

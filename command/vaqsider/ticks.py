@@ -16,16 +16,15 @@ from typing import Iterable, TextIO
 from keyset import Locked
 
 from . import hooks, journal, policies, resting, words
-from .ending import PARENT_LACKS, RUN_LOW, STUCK, Clock, Deed, End, Log
+from .ending import MEANS, PARENT_LACKS, RUN_LOW, STUCK, Clock, Deed, End, Log
 from .errors import BROKEN, DUE, FAULTY, OK, WARNING, Failure, Silent, failure_of
-from .policies import Commands
+from .policies import Commands, Policy
 from .resting import Rest
 from .ticking import DEEDS, Tick
 
 # How many zones are ticked at once, if nobody says it.
 JOBS = 8
-# What the status of a tick means; and the events that only their kind makes new, not their text.
-MEANS = {OK: "rests", DUE: "waits", WARNING: "needs a person", BROKEN: "broken"}
+# The events that only their kind makes new, not their text.
 KINDS = (STUCK, PARENT_LACKS, RUN_LOW)
 
 
@@ -54,15 +53,24 @@ def tick(script: str | Path, clock: Clock, log: Log, most: int = DEEDS,
         if kept is not None and kept.holds(path, clock()):
             return End(OK, kept.text, kept.until)
         with journal.alone(path) as lines:
-            made = Tick(path, policies.read(path).by(commands), clock, log, lines, most)
+            policy, fault = _policy(path)
+            made = Tick(path, policy.by(commands), clock, log, lines, most)
             since = kept.since if kept is not None and kept.status else int(clock())
-            end = made.of_signatures(_in_time(made, _ended(made), since))
+            end = fault or made.of_signatures(_in_time(made, _ended(made), since))
             _keep(made, end, kept, since)
             return end
     except Locked as error:
         return End(OK if journal.place_of(path).name in str(error) else DUE, str(error))
     except Exception as error:
         return End(*fault_of(error))
+
+
+def _policy(path: Path) -> tuple[Policy, End | None]:
+    """The policy of a script. If it can't be read, that is how the tick ends."""
+    try:
+        return policies.read(path), None
+    except Exception as error:
+        return Policy(), End(*fault_of(error))
 
 
 def _ended(made: Tick) -> End:

@@ -3,7 +3,7 @@
 from pathlib import Path
 
 from . import check, looks, resting, status, words
-from .errors import BROKEN, OK, UNAVAILABLE, Failure, failure_of
+from .errors import BROKEN, OK, UNAVAILABLE, WARNING, Failure, failure_of
 
 METRICS = {
     "chain_safe": "1 if the chain of trust held all the time, else 0",
@@ -43,16 +43,18 @@ def zones(folder, now, progress=lambda done, of: None, counts=False):
             fault = str(failure_of(error)).removeprefix(f"{path}: ")
             yield {**zone, "chain_safe": False, "fault": fault}
             continue
-        yield {**zone, **_of_status(told, now), **look, "lines": len(lines)}
+        of_status = _of_status(told, now, resting.of_ticks(path))
+        yield {**zone, **of_status, **look, "lines": len(lines)}
 
 
-def _of_status(told, now):
-    """The zone's name, its verdict, whom it waits for, and until when."""
+def _of_status(told, now, last):
+    """The zone's name, its verdict, whom it waits for, and until when, by the last tick."""
     waits = [roll for roll in told["rolls"] if roll["waits_for"] == status.CACHES]
     ends = [it["not_before"] for it in waits if isinstance(it["not_before"], int)]
     moment = min((end for end in ends if end), default=None)
     waiting = {roll["waits_for"] for roll in told["rolls"]}
-    waiting |= {status.YOU for _ in told["ended"]}
+    waiting |= {status.goes_on(last) for _ in told["ended"]}
+    waiting |= {status.YOU} if last is not None and last.status >= WARNING else set()
     who = next((who for who in status.WAITING if who in waiting), "nobody")
     return {"zone": told["zone"], "chain_safe": told["chain"]["safe"], "waits_for": who,
             "next": moment, "next_seconds": moment and moment - int(now)}
