@@ -222,7 +222,7 @@ def running() -> Iterator[str]:
 
 
 def unable() -> Iterator[str]:
-    """A roll that the signer can't do isn't begun, neither by a tick nor when it is asked for, and a
+    """A roll that the signer can't do isn't begun, neither by a tick nor if it is asked for, and a
     person is told why, once. Once the signer can, the next tick begins it."""
     world = World()
     with folder(), living(world, "ksk-lifetime 7d\nsigner hook signer\non-event tell\n"):
