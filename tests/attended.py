@@ -273,6 +273,27 @@ def running() -> Iterator[str]:
             yield f"options that it doesn't take end with {status}: {said}"
 
 
+def unable() -> Iterator[str]:
+    """A roll that the signer can't do isn't begun, neither by a tick nor if it is asked for, and a
+    person is told why, once. Once the signer can, the next tick begins it."""
+    world = World()
+    with folder(), living(world, "ksk-lifetime 7d\nsigner hook signer\non-event tell\n"):
+        world.able = 1
+        status, said = list(passing(world, 8 * DAY, every=6 * 3600))[-1]
+        why = "signer hook signer can't do a ksk-roll: two keys"
+        if status != 2 or why not in said or events(world) != ["refused"]:
+            yield f"a roll that the signer can't do ends with {status}: {said}, {events(world)}"
+        words = ["roll", f"{ZONE}.script", "ksk", "--yes"]
+        said, status = typed(words, world.now)
+        if status != 1 or "start ksk-roll" not in said or "two keys" not in said:
+            yield f"if it is asked for, that ends with {status}: {said}"
+        if any(it.startswith("start ksk-roll") for it in lines()):
+            yield f"it is begun all the same: {lines()}"
+        world.able = 2
+        if tick(world)[0] > 1 or not lines()[-1].startswith("start ksk-roll"):
+            yield f"a signer that can do it doesn't help: {lines()}"
+
+
 def page() -> Iterator[str]:
     """A page goes to its file whole, or leaves what is there."""
     world = World()
@@ -313,4 +334,4 @@ def analyzed(*words: str) -> subprocess.CompletedProcess[str]:
 
 
 CHECKS = (low, silent, commands, clock, fast, changed, purge, older, goes_on, unread, names,
-          running, page, units)
+          running, unable, page, units)

@@ -81,30 +81,29 @@ def _by_times(**of_zsk):
     return prepare
 
 
-def _of_pdns(*flags, **how):
+def _of_pdns(*flags, stay=False, **how):
     def tell(keys):
         fake = stores.Pdns()
         for name, (active, published) in zip(("K1", "Z1", "K2"), flags):
             fake.keys.append({"key": keys[name], "active": active, "published": published})
         vars(fake).update(how)
         with fake.installed():
-            told = pdns.tell(ZONE, Namespace(source=None))
-            expect_private(told)
-            return told
+            told = pdns.tell(ZONE, Namespace(source=None, stay=stay))
+            return told if stay else expect_private(told)
 
     return tell
 
 
-def _of_api(*flags, **how):
+def _of_api(*flags, stay=False, **how):
     def tell(keys):
         fake = stores.PdnsApi()
         for name, (active, published) in zip(("K1", "Z1", "K2"), flags):
             fake.keys.append({"key": keys[name], "active": active, "published": published})
         vars(fake).update(how)
         with fake.installed():
-            told = pdns.tell_by_api(ZONE, Namespace(source="http://pdns", store="secret"))
-            expect_private(told)
-            return told
+            args = Namespace(source="http://pdns", store="secret", stay=stay)
+            told = pdns.tell_by_api(ZONE, args)
+            return told if stay else expect_private(told)
 
     return tell
 
@@ -114,6 +113,7 @@ def expect_private(told):
     texts = {it.private() for it in told.keys}
     if len(texts) != len(told.keys) or not all("PrivateKey: " in it for it in texts):
         raise Failure(f"private halves: {texts}")
+    return told
 
 
 def _of_knot(**times):
@@ -203,6 +203,7 @@ ROWS = (
      "is to leave (Delete)"),
     ("PowerDNS", _of_pdns((True, True), (True, True)), KZ, ""),
     ("PowerDNS with a CSK", _of_pdns((True, True)), "K1:kz", ""),
+    ("PowerDNS's database", _of_pdns((True, True), (True, True), stay=True), KZ, ""),
     ("PowerDNS, in a roll", _of_pdns((True, True), (True, True), (False, True)), "K1:k K2: Z1:z",
      "published and not active"),
     ("PowerDNS, the other way", _of_pdns((True, True), (True, False)), KZ,
@@ -211,6 +212,7 @@ ROWS = (
     ("PowerDNS without keys", _of_pdns(), None, "has no keys"),
     ("another pdnsutil", _of_pdns((True, True), version="9"), None, "isn't known"),
     ("PowerDNS by its API", _of_api((True, True), (True, True)), KZ, ""),
+    ("PowerDNS's database, by its API", _of_api((True, True), (True, True), stay=True), KZ, ""),
     ("PowerDNS by its API, in a roll", _of_api((True, True), (True, True), (False, True)),
      "K1:k K2: Z1:z", "published and not active"),
     ("PowerDNS by its API, another version", _of_api((True, True), lacks=("dnskey",)), None,
@@ -306,7 +308,7 @@ def serve(zone_tag: int = 46350) -> None:
         "SOA": text.format("SOA", "ns. h. 7 3600 600 86400 60") +
         text.format("RRSIG", signed.format("SOA", zone_tag)),
         "NS": text.format("NS", "ns1.") + text.format("RRSIG", signed.format("NS", zone_tag)),
-        "CDS": "", "CDNSKEY": "",
+        "CDS": "", "CDNSKEY": "", "NSEC3PARAM": text.format("NSEC3PARAM", "1 0 0 ab"),
     }
     for kind, rows_ in made.items():
         Path(f"ns1.{kind}").write_text(rows_)
@@ -342,6 +344,7 @@ def come():
         said, ends = typed(ASKED, 1132)
         text = Path("new.script").read_text() if Path("new.script").exists() else ""
         if ends or "done algorithm-roll" not in text or "1. named may roll" not in said \
+                or "--nsec3 '1 0 0 ab'" not in said \
                 or Path("new.import").exists() or not Path("new.notes").exists():
             yield f"import ends with {ends}: {said}{text}"
         said, ends = typed(ASKED, 1200)
@@ -350,7 +353,8 @@ def come():
 
 
 # Sources whose private halves stay where they are, and what these are called.
-STAY = {"Knot": r"knot:id\d+", "OpenDNSSEC": r"pkcs11:id=(%[0-9a-f]{2})+"}
+STAY = {"Knot": r"knot:id\d+", "OpenDNSSEC": r"pkcs11:id=(%[0-9a-f]{2})+",
+        "PowerDNS's database": r"pdns:\d+", "PowerDNS's database, by its API": r"pdns:\d+"}
 
 
 def references():
@@ -359,9 +363,22 @@ def references():
     for name, tell, _, _ in ROWS:
         if name in STAY:
             with folder():
-                found = {it.reference for it in tell(adaptors.make()).keys}
+                keys = tell(adaptors.make()).keys
+                found = {it.reference for it in keys if it.private is None}
             if len(found) != 2 or not all(re.fullmatch(STAY[name], str(it)) for it in found):
                 yield f"{name} calls private halves {found}"
+    for words, wanted in (([], f"{KSK} {KSK[:-4]}.private 13"), (["--stay"], f"{KSK} pdns:1 13")):
+        fake = stores.Pdns()
+        with folder(), fake.installed():
+            serve()
+            fake.keys += [{"key": Key.of(keyfiles.read(it).data), "active": True,
+                           "published": True} for it in (KSK, ZSK)]
+            said, ends = typed(["import", "pdns", *ASKED[2:3], *ASKED[5:], "--unchanged", *words],
+                               1000)
+            text = Path("new.script").read_text() if Path("new.script").exists() else ""
+            is_out = Path(KSK).with_suffix(".private").is_file()
+        if ends or wanted not in text or is_out == bool(words):
+            yield f"an import of PowerDNS's keys {words} ends with {ends}: {said}{text}"
     for is_here, wanted in ((False, f"{KSK} knot:id 13"), (True, f"{KSK} {KSK[:-4]}.private 13")):
         with folder(), mock.patch.dict(importing.SOURCES, bind=_stored):
             serve()

@@ -68,7 +68,8 @@ class Servers:
 class World:
     """The zone's servers and those of its parent. A parent that reads CDS takes it after a while.
     `held` is what caches may hold of each kind, each with the moment when it was given last. The
-    clock of the maker of keys is `ahead` by so many seconds."""
+    clock of the maker of keys is `ahead` by so many seconds. A signer that runs is `able` to sign a
+    DNSKEY set by so many keys."""
 
     now: int = BEGIN
     reads_cds: bool = True
@@ -82,6 +83,7 @@ class World:
     ttls: dict[str, int] = field(default_factory=lambda: dict(TTLS))
     signed: dict[str, list] = field(default_factory=dict)
     ahead: int = 0
+    able: int = 9
 
     def passes(self, seconds: int) -> None:
         """Lets time pass. Between two versions of a server nothing changes in what caches may
@@ -222,7 +224,10 @@ class World:
             self.zone.publish(self.now, self._running())
         if verb == "now":
             return json.dumps(self.signed or dict.fromkeys(SETS, []))
-        return json.dumps({"ttls": {"dnskey": 60, "zone": 60}}.get(verb, {}))
+        count = sum(it["signers"] for it in asked.get("keys", ()))
+        told = {"ttls": {"dnskey": 60, "zone": 60},
+                "lacks": {"lacks": ["two keys"] if count > self.able else []}}
+        return json.dumps(told.get(verb, {}))
 
     def _running(self) -> dict:
         """What a signer that runs gives, in the form of `records_of`."""

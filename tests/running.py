@@ -162,9 +162,13 @@ class OfPdns(Server):
     def prepare(self) -> None:
         Path("pdns.conf").write_text(self.database() + PDNS.format(
             here=self.here, at=HERE, port=self.port))
-        subprocess.run(["pdnsutil", "--config-dir=.", "load-zone", ORIGIN, "zone"], check=True,
-                       stdout=subprocess.DEVNULL, stderr=subprocess.DEVNULL)
+        self.util("load-zone", ORIGIN, "zone")
         self.store = self.adaptor()
+
+    @staticmethod
+    def util(*words: str) -> None:
+        subprocess.run(["pdnsutil", "--config-dir=.", *words], check=True,
+                       stdout=subprocess.DEVNULL, stderr=subprocess.DEVNULL)
 
     def database(self) -> str:
         with sqlite3.connect("db") as database:
@@ -333,6 +337,8 @@ def course(name: str):
             for text in COURSES[name]:
                 wanted = adaptors.sets(keys, text)
                 yield from (f"{name}: {text}: {it}" for it in step(server, known, wanted))
+            if name.startswith("pdns"):
+                yield from (f"{name}: {it}" for it in own_cds(server, known))
             if name == "pdns":
                 yield from locked(server, known, adaptors.sets(keys, COURSES[name][0]))
         finally:
@@ -357,6 +363,19 @@ def step(server: Server, known, wanted: Sets):
             return
         time.sleep(0.3)
     yield from (f"the server gives: {it}" for it in left)
+
+
+def own_cds(server: Server, known):
+    """CDS that PowerDNS gives of its own is said."""
+    server.util("set-publish-cds", ORIGIN)
+    try:
+        server.store.now(known)
+        yield "it gives CDS of its own, and nothing is said"
+    except Failure as failure:
+        if "by PUBLISH-CDS:" not in str(failure):
+            yield f"CDS of its own: {failure}"
+    server.util("unset-publish-cds", ORIGIN)
+    server.store.now(known)
 
 
 def locked(server: Server, known, wanted: Sets):

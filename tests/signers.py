@@ -36,6 +36,7 @@ sec DS 1 13 2 0000000000000000000000000000000000000000000000000000000000000000
 odd TYPE65534 \# 3 010203
 $TTL 7
 last A 127.0.0.9"""
+SIGNERS = ("bind", "ldns")
 # Options of an act, one after another on the same zone, and what its NSEC3 records begin with.
 WAYS = (
     ("", None),
@@ -103,6 +104,18 @@ def ways(script: str, signer: str):
             yield f"{script} by {signer} {words}: {status} {text}{said if not status else ''}"
 
 
+def cds(script: str):
+    """By each signer CDS comes in, signed by the keys that have to, once it is due."""
+    now = time.time() + 1
+    for call in ("report1 algorithm-roll 0 now", "wait1 algorithm-roll now"):
+        typed(["call", script, call], now := now + 2)
+    for signer in SIGNERS:
+        text, status = act(script, f"--signer {signer}", now)
+        found = Path("signed").read_text()
+        if status or not all(f"\t{it}\t" in found for it in ("CDS", "CDNSKEY")) or verified(None):
+            yield f"{script} by {signer} with CDS: {status} {text}{verified(None)}"
+
+
 def changes(script: str):
     """A zone that is changed after it was signed isn't put in place."""
     before, signer = Path("signed").read_text(), shutil.which("dnssec-signzone")
@@ -155,10 +168,13 @@ def main() -> int:
         Path("zone").write_text(ZONE)
         made = keys()
         scripts = [begin([made[name] for name in names]) for names in SETS]
-        for script, signer in itertools.product(scripts, ("bind", "ldns")):
+        for script, signer in itertools.product(scripts, SIGNERS):
             faults += ways(script, signer)
             count += len(WAYS)
         faults += [*changes(scripts[0]), *raw(scripts[0]), *mistake(scripts[0])]
+        Path("signed").unlink()
+        faults += [fault for script in scripts for fault in cds(script)]
+        count += len(scripts) * len(SIGNERS)
     print(*faults, f"signers: {count} versions, {len(CHANGES)} changes", sep="\n")
     return 1 if faults else 0
 

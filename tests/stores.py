@@ -60,6 +60,8 @@ class Pdns(Fake):
         super().__init__()
         self.zone, self.keys, self.records = zone, [], {"CDS": [], "CDNSKEY": []}
         self.serial, self.direct, self.version, self.nsec3 = 1, "yes", "4.7", None
+        # What has it give CDS of its own: metadata of the zone, and a setting for all zones.
+        self.metadata, self.default = [], ""
 
     def is_change(self, words) -> bool:
         reading = ("show-zone", "list-zone", "export-zone-key", "current-config")
@@ -73,7 +75,8 @@ class Pdns(Fake):
     def does(self, words) -> str:
         words = [it for it in words if not it.startswith("--config-dir")]
         if words[0] == "pdns_control":
-            return f"# direct-dnskey\tIt is\ndirect-dnskey={self.direct}\n"
+            return (f"# direct-dnskey\tIt is\ndirect-dnskey={self.direct}\n"
+                    f"# default-publish-cds\tIt is\ndefault-publish-cds={self.default}\n")
         verb, zone, *rest = words[1:]
         if zone != self.zone:
             raise Failure(f"pdnsutil: No such zone in the database: {zone}", 69)
@@ -87,7 +90,8 @@ class Pdns(Fake):
         rows = ["This is a Native zone"]
         if not any(it["active"] for it in self.keys):
             rows.append("Zone is not actively secured")
-        rows += ["Metadata items: None", "Zone has NSEC semantics"]
+        rows += [f"Metadata items: {'' if self.metadata else 'None'}"]
+        rows += [*(f"\t{kind}\t2" for kind in self.metadata), "Zone has NSEC semantics"]
         rows += ["keys: "] if self.keys else [f"No keys for zone '{self.zone}'."]
         for number, it in enumerate(self.keys, start=1):
             key, act = it["key"], "\t  Active" if it["active"] else "\tInactive"
@@ -174,7 +178,8 @@ class PdnsApi(Pdns):
         if path.startswith("/zones?"):
             return []
         if path == "/config":
-            return [{"name": "direct-dnskey", "type": "ConfigSetting", "value": self.direct}]
+            return [{"name": name, "type": "ConfigSetting", "value": value} for name, value in
+                    (("direct-dnskey", self.direct), ("default-publish-cds", self.default))]
         rest = path.removeprefix(f"/zones/{self.zone}.").strip("/").split("/")
         return getattr(self, f"_{method.lower()}")(*rest, told=told)
 
@@ -183,6 +188,8 @@ class PdnsApi(Pdns):
             return {"privatekey": self.export_zone_key(number)}
         if what == "cryptokeys":
             return [self._told(number, it) for number, it in enumerate(self.keys, start=1)]
+        if what == "metadata":
+            return [{"kind": kind, "metadata": ["2"], "type": "Metadata"} for kind in self.metadata]
         rows = [("SOA", 300, [f"ns. h. {self.serial} 3600 600 86400 60"]), ("NS", 7200, ["ns."])]
         rows += [(kind, 60, data) for kind, data in self.records.items() if data]
         return {"presigned": self.presigned, "rrsets": [

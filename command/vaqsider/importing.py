@@ -31,12 +31,14 @@ SUFFIX = ".import"
 
 @dataclass(frozen=True)
 class Came:
-    """What an import has done: the script with its lines, or from when on to look again."""
+    """What an import has done: the script with its lines, and the parameters of the zone's NSEC3,
+    if it has that; or from when on to look again."""
 
     script: Path
     lines: list[str]
     told: Told
     again: int | None = None
+    nsec3: str | None = None
 
     @property
     def status(self) -> int:
@@ -48,12 +50,15 @@ class Came:
             yield f"next: the same import, from {words.moment(self.again)} on"
             return
         yield f"{self.script}: {len(self.lines)} lines"
+        if self.nsec3:
+            yield f"the zone has NSEC3 by {self.nsec3}: another signer gives NSEC, unless you " \
+                f"say --nsec3 '{self.nsec3}', or set it there (with opt-out by the flag 1)"
         yield "what the other system has to do now, in this order:"
         yield from (f"{number}. {text}" for number, text in enumerate(self.told.stops, start=1))
 
     def as_json(self) -> dict:
         return {"script": str(self.script), "lines": self.lines, "again": self.again,
-                "stops": self.told.stops}
+                "stops": self.told.stops, "nsec3": self.nsec3}
 
 
 def come(args: Namespace, clock: Callable[[], float]) -> Came:
@@ -65,7 +70,7 @@ def come(args: Namespace, clock: Callable[[], float]) -> Came:
         raise Failure(f"{script}: File exists", USAGE)
     if args.before is None:
         raise Failure("--before: say the highest TTLs that servers gave", USAGE)
-    asked = Asked(args.source, args.store, lambda: _records(zone, args))
+    asked = Asked(args.source, args.store, lambda: _records(zone, args), args.stay)
     told = SOURCES[args.SYSTEM](zone, asked)
     if told.moving:
         text = "it is rolling keys, so they don't come in yet"
@@ -89,10 +94,11 @@ def _looked(args, script, zone, files, told, clock) -> Came:
     if not args.unchanged and moment < again:
         _write(kept, {"look": look, "since": since})
         return Came(script, [], told, again)
+    nsec3 = _served(zone, args, "NSEC3PARAM")
     calling.begin(script, lines, args.before)
     seen.keep(script, lines, Notes(script))
     kept.unlink(missing_ok=True)
-    return Came(script, lines, told)
+    return Came(script, lines, told, nsec3=next(iter(nsec3), None))
 
 
 def _lines(zone: str, files, moment: int) -> list[str]:
@@ -170,9 +176,13 @@ def _new(path: Path, text: str, mode: int) -> None:
 
 def _records(zone: str, args: Namespace) -> list[Key]:
     """The DNSKEY records that the zone's servers give."""
+    return [Key.of(it) for it in _served(zone, args, "DNSKEY")]
+
+
+def _served(zone: str, args: Namespace, kind: str) -> list[str]:
+    """The records of a type that the zone's servers give, in order."""
     places = looking.Places.of(zone, args)
     servers = places.of_kind("dnskey", zone)
     answers = asking.side_by_side(
-        lambda server: asking.ask(server, places.port, zone, "DNSKEY"), servers)
-    return sorted({Key.of(it.to_text()) for answer in answers for it in answer.records},
-                  key=lambda it: it.data)
+        lambda server: asking.ask(server, places.port, zone, kind), servers)
+    return sorted({it.to_text() for answer in answers for it in answer.records})

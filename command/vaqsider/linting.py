@@ -6,6 +6,7 @@ from __future__ import annotations
 import contextlib
 import io
 import shutil
+from argparse import Namespace
 from collections.abc import Iterator
 from dataclasses import dataclass
 from pathlib import Path
@@ -130,18 +131,27 @@ def _of_tools(policy: Policy) -> Iterator[Finding]:
 
 def _of_signer(policy: Policy, spans: Spans) -> list[Finding]:
     """The rolls that its signer can't do."""
-    from . import cli
-
-    args, found = cli.parsed(policy.for_act(f"{EXAMPLE}.script")), []
+    found = []
     for roll in policy.rolls:
         try:
-            signer = signers.planned(args, EXAMPLE)
+            signer = planned(policy, f"{EXAMPLE}.script", EXAMPLE)
             takes_of(policy, roll, spans, signer and Planned(signer.lacks, signer.folders))
         except Failure as failure:
             found.append(_wrong(f"signer {policy.signer}: {failure}"))
     found += (_wrong(f"{name}: {policy.signer} has that in its own settings")
-              for name in signers.not_taken(args))
+              for name in signers.not_taken(_args_of_act(policy, f"{EXAMPLE}.script")))
     return found
+
+
+def planned(policy: Policy, script: str | Path, zone: str) -> Planned | None:
+    """The policy's signer, for a plan."""
+    return signers.planned(_args_of_act(policy, script), zone)
+
+
+def _args_of_act(policy: Policy, script: str | Path) -> Namespace:
+    from . import cli
+
+    return cli.parsed(policy.for_act(script))
 
 
 def _of_words(policy: Policy) -> list[Finding]:

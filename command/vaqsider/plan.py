@@ -17,6 +17,14 @@ from .signers import DELETION, Key, Sets
 TTLS, DELAYS = (86400, 3600, 3600), (86400, 600, 600)
 
 
+class Unable(Failure):
+    """A signer can't do what a line asks for."""
+
+    def __init__(self, line, lacks):
+        self.lacks = "; ".join(lacks)
+        super().__init__(f"{line}: {self.lacks}", DUE)
+
+
 class Plan:
     """The calls of a roll on a copy of a script, each at the moment that the plan has reached, with
     its answer. TTLs, and delays until all servers have a version, are by kind of set."""
@@ -62,7 +70,7 @@ class Plan:
         if set(published["dnskey"]) != self.present:
             lacks += self.signer.away(wanted, self.moment)
         if lacks:
-            raise Failure(f"{line}: {'; '.join(lacks)}", DUE)
+            raise Unable(line, lacks)
 
     def _key(self, told):
         """A key for a signer: by its file, or else by what the script says of it."""

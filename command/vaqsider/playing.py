@@ -12,6 +12,7 @@ from . import advice, plan, words
 from .advice import Said
 from .errors import UNAVAILABLE, Failure
 from .policies import Policy
+from .signers import Planned
 
 # A course of so many deeds at one moment goes round in circles.
 MOST_AT_ONCE = 1000
@@ -21,7 +22,7 @@ MOST_AT_ONCE = 1000
 class Play:
     """A zone that is played from a moment on, with these lines and notes. TTLs, and delays until
     all servers have a version, are by kind of set. `once` has the moments at which rolls of a role
-    were asked for."""
+    were asked for. What the signer can't do ends the course, if there is one."""
 
     policy: Policy
     lines: list[str]
@@ -30,11 +31,13 @@ class Play:
     ttls: dict[str, int]
     delays: dict[str, int]
     once: dict[str, int] = field(default_factory=dict)
+    signer: Planned | None = None
     there: dict[str, int] = field(default_factory=dict)
     made: int = 0
 
     def __post_init__(self) -> None:
-        self.course = plan.Plan(self.lines, self.moment, self.ttls, self.delays)
+        self.course = plan.Plan(
+            self.lines, self.moment, self.ttls, self.delays, self.signer)
         self.lines = list(self.course.keys.lines)
         self.notes = self.notes or [f"before {' '.join(str(self.ttls[kind]) for kind in KINDS)}"]
 

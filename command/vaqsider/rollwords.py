@@ -23,7 +23,7 @@ from . import (
 )
 from .ending import Clock, Log
 from .errors import OK, USAGE, Failure
-from .linting import Spans
+from .linting import Spans, planned
 from .playing import Play
 from .policies import Policy
 
@@ -91,10 +91,10 @@ def _expect(key: str | None, start: str) -> None:
 def _play(
     script: str, policy: Policy, now: int, once: dict[str, int], add: list[str]
 ) -> Play:
-    lines = [*status.read(script, now)[0], *add]
+    lines, told = status.read(script, now)
     spans, notes = Spans.of(script, now), Notes(script).lines
-    asked = {**journal.once_of(script), **once}
-    return Play(policy, lines, notes, now, spans.ttls, spans.delays, asked)
+    asked, signer = {**journal.once_of(script), **once}, planned(policy, script, told["zone"])
+    return Play(policy, [*lines, *add], notes, now, spans.ttls, spans.delays, asked, signer)
 
 
 def _steps(play: Play, of: str) -> Iterator[dict]:

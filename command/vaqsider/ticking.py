@@ -16,8 +16,8 @@ from keyset import Notes, WrongArgument
 from keyset.lines import Line
 from keyset.notes import Seen
 
-from . import act, advice, calling, cli, hooks, policies, resting, shortnames, signers, status
-from . import watching, words
+from . import act, advice, calling, cli, hooks, linting, plan, policies, resting, shortnames
+from . import signers, status, watching, words
 from .advice import Said
 from .ending import PARENT_LACKS, REFUSED, RUN_LOW, STUCK, Clock, Deed, Done, End, Log
 from .errors import BROKEN, DUE, OK, WARNING, Failure
@@ -249,6 +249,8 @@ class Tick:
         """Makes the call that is said. Before a report of the DS set, or the end of a roll that
         waits for it, CDS is out; then the call is asked for once more, with its moment."""
         word, roll = said.line.split(" ")[:2]
+        if word == "start":
+            self._expect_able(said.line)
         kinds = self.kinds().get(roll, []) if word in ("report1", "report2", "done") else []
         if "ds" in kinds and not self.is_cds_out:
             self.take_cds_out()
@@ -262,6 +264,17 @@ class Tick:
             raise Done(WARNING, "; ".join(made.text()), event=REFUSED)
         self.is_cds_out = False
         self.say("called", [f"{made.line}: {made.reply}"])
+
+    def _expect_able(self, start: str) -> None:
+        """The signer can do all of the roll that this line starts. Else it isn't begun."""
+        _, roll, old, new, moment = start.split(" ")
+        spans = linting.Spans.of(self.script, int(moment))
+        able = linting.planned(self.policy, self.script, self.zone)
+        try:
+            plan.Plan(self.lines, int(moment), spans.ttls, spans.delays, able).roll(roll, old, new)
+        except plan.Unable as unable:
+            text = f"signer {self.policy.signer} can't do a {roll}: {unable.lacks}"
+            raise Done(WARNING, text, event=REFUSED) from None
 
     def reported(self, line: str) -> str:
         """A report with the TTL that is said, and what clocks may differ by: one may be behind at

@@ -30,6 +30,10 @@ RECORD = re.compile(r"(?:KSK|ZSK|CSK) DNSKEY = \S+ IN DNSKEY (?P<data>\d+ 3 \d+ 
 # A record as `pdnsutil list-zone` has it.
 LISTED = re.compile(r"(?P<owner>\S+)\t(?P<ttl>\d+)\tIN\t(?P<kind>\S+)\t(?P<data>.*)")
 PRESIGNED = "Zone is presigned"
+# What has PowerDNS give CDS for all its KSKs: a zone's metadata, or a setting for all zones.
+OWN_CDS = ("PUBLISH-CDS", "PUBLISH-CDNSKEY")
+METADATA = re.compile(r"\t(?P<kind>[A-Z0-9-]+)\t(?P<value>.*)")
+SETTING = re.compile(r"^(?P<name>[a-z0-9-]+)=(?P<value>.*)$", re.MULTILINE)
 
 
 @dataclass(frozen=True)
@@ -74,6 +78,25 @@ class PowerDns:
         """The private half of a key, as BIND has it."""
         raise NotImplementedError
 
+    def metadata(self) -> set[str]:
+        """The kinds of metadata that the zone has."""
+        raise NotImplementedError
+
+    def settings(self) -> dict[str, str]:
+        """The settings of PowerDNS."""
+        raise NotImplementedError
+
+    def _expect_no_own_cds(self) -> None:
+        """PowerDNS gives just the CDS that is due."""
+        settings = self.settings()
+        own = [kind for kind in OWN_CDS if kind in self.metadata()]
+        own += [name for name in (f"default-{kind.lower()}" for kind in OWN_CDS)
+                if settings.get(name)]
+        if own:
+            raise Failure(f"PowerDNS gives CDS of its own, by {', '.join(own)}: 'pdnsutil "
+                          f"unset-publish-cds {self.zone}', 'pdnsutil unset-publish-cdnskey "
+                          f"{self.zone}', and no default-publish- in pdns.conf", UNAVAILABLE)
+
     def top(self, kind: str) -> list[Record]:
         name = self.zone.lower()
         return [it for it in self.records()
@@ -87,6 +110,7 @@ class PowerDns:
 
     def now(self, known: list[Key]) -> Sets:
         held = self.held()
+        self._expect_no_own_cds()
         names = {key: key for key in known}
         of = [(it, names.get(it.key, it.key)) for it in held]
         signers, zone = by_flags(key for it, key in of if it.is_active)
@@ -164,7 +188,7 @@ class PowerDns:
         if not keys:
             yield from self.placed({"CDS": [], "CDNSKEY": []}, 0)
             return
-        if not self.has_direct():
+        if self.settings().get("direct-dnskey") != "yes":
             raise Failure("PowerDNS gives CDS to secondaries only with direct-dnskey=yes in "
                           "pdns.conf: add it, and restart PowerDNS", UNAVAILABLE)
         name = dns.name.from_text(self.zone)
@@ -177,10 +201,6 @@ class PowerDns:
 
     def placed(self, data: dict[str, list[str]], ttl: int) -> Iterator[Step]:
         """The sets of the zone's name have these records, or go."""
-        raise NotImplementedError
-
-    def has_direct(self) -> bool:
-        """Whether PowerDNS gives CDS of its database."""
         raise NotImplementedError
 
     def params(self) -> str | None:
@@ -248,9 +268,13 @@ class Pdnsutil(PowerDns):
             yield self.step("replace-rrset", self.zone, "@", kind, str(ttl), *rows) if rows else \
                 self.step("delete-rrset", self.zone, "@", kind)
 
-    def has_direct(self) -> bool:
+    def metadata(self) -> set[str]:
+        lines = said(self.words("show-zone", self.zone)).splitlines()
+        return {it["kind"] for it in map(METADATA.fullmatch, lines) if it}
+
+    def settings(self) -> dict[str, str]:
         text = said(("pdns_control", *self.config, "current-config"))
-        return re.search(r"^direct-dnskey=yes$", text, re.MULTILINE) is not None
+        return {it["name"]: it["value"] for it in SETTING.finditer(text)}
 
     def renew(self) -> Iterator[Step]:
         params = self.params()

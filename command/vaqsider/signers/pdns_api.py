@@ -145,12 +145,18 @@ class Api(PowerDns):
             raise self._odd(f"the private half of {held.key}")
         return told["privatekey"]
 
-    def has_direct(self) -> bool:
+    def metadata(self) -> set[str]:
         try:
-            told = {it["name"]: it["value"] for it in self.ask("GET", "/config")}
+            return {it["kind"] for it in self.ask("GET", self.at("/zones/ZONE/metadata"))
+                    if it["metadata"]}
+        except (KeyError, TypeError):
+            raise self._odd("metadata") from None
+
+    def settings(self) -> dict[str, str]:
+        try:
+            return {it["name"]: it["value"] for it in self.ask("GET", "/config")}
         except (KeyError, TypeError):
             raise self._odd("its settings") from None
-        return told.get("direct-dnskey") == "yes"
 
     # What has to be done
 

@@ -41,12 +41,13 @@ class Told:
 
 @dataclass(frozen=True)
 class Asked:
-    """What a source may need: where its settings are, where its private halves, and the DNSKEY
-    records that the zone's servers give."""
+    """What a source may need: where its settings are, where its private halves, the DNSKEY records
+    that the zone's servers give, and whether private halves that could come out stay there."""
 
     source: str | None
     store: str | None
     records: Callable[[], list[Key]]
+    stay: bool = False
 
 
 class Source(Protocol):

@@ -1,4 +1,5 @@
-"""PowerDNS's keys, by `pdnsutil show-zone` or its API. Their private halves come out there too."""
+"""PowerDNS's keys, by `pdnsutil show-zone` or its API. Their private halves come out there too,
+unless they are to stay: then each is called by its number there."""
 
 from __future__ import annotations
 
@@ -22,17 +23,17 @@ STOPS = (
 
 def tell(zone: str, asked: Asked) -> Told:
     """What PowerDNS has, by its tool."""
-    return _told(zone, Pdnsutil(zone.rstrip(".") + ".", asked.source))
+    return _told(zone, Pdnsutil(zone.rstrip(".") + ".", asked.source), asked.stay)
 
 
 def tell_by_api(zone: str, asked: Asked) -> Told:
     """What PowerDNS has, by its API."""
     if asked.source is None:
         raise Failure("--source: say the URL of PowerDNS's API", USAGE)
-    return _told(zone, Api(zone.rstrip(".") + ".", asked.source, asked.store))
+    return _told(zone, Api(zone.rstrip(".") + ".", asked.source, asked.store), asked.stay)
 
 
-def _told(zone: str, store: PowerDns) -> Told:
+def _told(zone: str, store: PowerDns, stay: bool) -> Told:
     """Its users roll by hand: a key of which only one of both flags is set is in mid-roll."""
     held = store.held()
     expect(bool(held), f"PowerDNS has no keys for {zone}")
@@ -46,6 +47,7 @@ def _told(zone: str, store: PowerDns) -> Told:
         if it.is_active and not it.is_published:
             moving.append(f"key {tag} is active and not published: deactivate-zone-key first")
         if it.is_active or it.is_published:
-            private = partial(store.private, it)
-            keys.append(Found(it.key, it.key in signers, it.key in signs, private))
+            private = None if stay else partial(store.private, it)
+            keys.append(Found(it.key, it.key in signers, it.key in signs, private,
+                              reference=f"pdns:{it.id}"))
     return Told(keys, moving, [it.format(zone=zone) for it in STOPS])
