@@ -11,6 +11,10 @@ from .errors import UNAVAILABLE, Failure
 
 PACKAGES = {"dns": "python3-dnspython", "cryptography": "python3-cryptography"}
 
+# dns.query would load what asks over HTTPS, which takes longer than all else that a word does.
+for name in ("httpx", "requests"):
+    sys.modules.setdefault(name, None)  # type: ignore[arg-type]  # None: it isn't there
+
 try:
     import cryptography  # noqa: F401 (dns.dnssec checks signatures by it)
     import dns.dnssec

@@ -2,8 +2,12 @@
 for one name."""
 
 import os
+import sys
 
-import dns.resolver
+# (dnspython would load what asks over HTTPS, which takes longer than a word of the command.)
+sys.modules["httpx"] = sys.modules["requests"] = None
+
+import dns.resolver  # noqa: E402
 
 
 class Resolver(dns.resolver.Resolver):
