@@ -118,10 +118,11 @@ machines: modules build ## lets machines share zones over PostgreSQL, and kills 
 
 # It needs the packages that live/README.md names. Its parts run side by side, each to its end, and
 # it fails if one of them does.
+BESIDE = by-itself first-hour machines
 live: ## rolls keys on real name servers, within half an hour; LIVE=--short within ten minutes
 	@echo 'first the program is proved: half an hour, or seconds if its proof is kept'
-	@$(MAKE) --no-print-directory -k -j3 $(if $(LIVE),scenes,scenes by-itself first-hour)
-	@echo 'live: no failure. Left out: $(if $(LIVE),by-itself and first-hour,nothing)'
+	@$(MAKE) --no-print-directory -k -j4 scenes $(if $(LIVE),,$(BESIDE))
+	@echo 'live: no failure. Left out: $(if $(LIVE),$(BESIDE),nothing)'
 scenes: build
 	@live/run.py $(LIVE)
 

@@ -31,8 +31,7 @@ SECONDS = int(os.environ.get("BY_ITSELF_SECONDS", "1200"))
 OF_SIGNER = 300
 MOST = SECONDS + 300
 # How far the clock of a tick is wrong at most, how long a server is away that has crashed, and one
-# that stands still (longer than that a resolver behind a cache doesn't wait), and how slow the
-# registrar is.
+# that stands still (after four seconds PowerDNS gives SERVFAIL), and how slow the registrar is.
 CLOCK, AWAY, STILL, SLOW = 3, 3, 1, 5
 # A roll is over so many seconds after its key's time, with all that is done to it. If a policy
 # changes, then after so many seconds.

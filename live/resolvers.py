@@ -38,7 +38,8 @@ UNBOUND_ADDRESS = """\
   stub-addr: {address}@{port}
 """
 # It forgets the cache's answers after a second. So it meets whatever the cache holds. It waits for
-# the cache while that looks for another server: its usual retries are over within a second.
+# the cache while that looks for another server: its usual retries are over within two seconds, and
+# it gives SERVFAIL ("upstream server timeout").
 UNBOUND_FORWARD = """\
 server:
   cache-max-ttl: 1
