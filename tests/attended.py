@@ -295,16 +295,19 @@ def unable() -> Iterator[str]:
 
 
 def page() -> Iterator[str]:
-    """A page goes to its file whole, or leaves what is there."""
+    """A page goes to its file whole, or leaves what is there. A roll that isn't over is shown until
+    now."""
     world = World()
     with folder() as here, living(world, ""):
         for path in set(here.glob("*.script")) - {here / f"{ZONE}.script"}:
             path.unlink()
         tick(world)
-        for option, has in (("--html", "</html>"), ("--prometheus", "vaqsider_tick_status{")):
+        world.passes(1800)
+        for option, has in (("--html", '<line class="now"'), ("--html", "</html>"),
+                            ("--prometheus", "vaqsider_tick_status{")):
             said, status = typed(["zones", here, option, "--out", "page"], world.now)
             if status or said or has not in Path("page").read_text():
-                yield f"{option} --out ends with {status}: {said}"
+                yield f"{option} --out ends with {status}, without {has}: {said}"
         before = Path("page").read_bytes()
         said, status = typed(["zones", "nowhere", "--html", "--out", "page"], world.now)
         if status != 69 or Path("page").read_bytes() != before:

@@ -29,8 +29,11 @@ class Scale:
         self.left = 16 + LETTER * max(map(len, [*made.phases, *made.rows]), default=0)
         end = max(made.end, now) if made.begin > 0 else made.end
         if since is None:
-            last = max(1, made.end - made.last)
-            since, end = max(made.begin, made.last - last // 2), min(end, made.end + last // 2)
+            # A roll that isn't over goes on until now.
+            goes_on = any(bar.end is None for of in made.phases.values() for bar in of)
+            rolled = end if goes_on else made.end
+            last = max(1, rolled - made.last)
+            since, end = max(made.begin, made.last - last // 2), min(end, rolled + last // 2)
         self.begin, self.end = since, max(end, since) + max(1, (end - since) // 20)
 
     def part(self, moment):
@@ -132,8 +135,9 @@ def _names(phases, at, y):
 def _axis(at, y):
     """The axis, and below it what the boxes and the numbers mean."""
     yield f'<line x1="{at.left}" y1="{y}" x2="{at.left + WIDTH}" y2="{y}" stroke="black"/>'
-    for part, anchor in ((0, "start"), (0.5, "middle"), (1, "end")):
-        moment = round(at.begin + part * (at.end - at.begin))
+    places = ((0.5, "middle"), (0, "start"), (1, "end"))
+    labels = {round(at.begin + part * (at.end - at.begin)): anchor for part, anchor in places}
+    for moment, anchor in sorted(labels.items()):
         yield _text(at(moment), y + 14, words.moment(moment), f'text-anchor="{anchor}" {SMALL}')
     for x, (kind, says) in zip((at.left, at.left + 120), SAYS.items()):
         box = f'width="24" height="{BAR}" fill="{FILLS[kind]}" stroke="black"'

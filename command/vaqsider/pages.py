@@ -14,24 +14,30 @@ from .errors import failure_of
 
 HEAD = ("Zone", "Chain", "Waits for", "Next", "Signed until", "Last tick")
 POLICY = "default-src 'none'; style-src 'unsafe-inline'"
-STYLE = ("body{font:16px sans-serif;margin:2em}table{border-collapse:collapse}"
-         "td,th{text-align:left;padding:.2em 1em;border-bottom:1px solid #ccc}"
-         ".wrong{background:#fdd}svg{max-width:100%}")
+# What is wider than the window moves by itself. Pictures are black on white, also on a dark page.
+STYLE = (":root{color-scheme:light dark}body{font:16px sans-serif;margin:1.5em}"
+         "div{overflow-x:auto}table{border-collapse:collapse}"
+         "td,th{text-align:left;vertical-align:top;padding:.2em 1em;border-bottom:1px solid #888}"
+         ".wrong{background:#fdd}"
+         "@media(prefers-color-scheme:dark){.wrong{background:#622}}")
 
 
 def page(found: Iterable[dict], now: float) -> Iterator[str]:
     """The lines of the page, for the zones as `zones` finds them."""
     found = list(found)
     yield '<!DOCTYPE html><html lang="en"><head><meta charset="utf-8"><title>Zones</title>'
+    yield '<meta name="viewport" content="width=device-width">'
     yield f'<meta http-equiv="Content-Security-Policy" content="{POLICY}">'
     yield f"<style>{STYLE}</style></head><body><h1>Zones</h1>"
-    yield f"<p>{len(found)} zones, at {words.moment(int(now))}.</p><table>"
+    yield f"<p>{len(found)} zones, at {words.moment(int(now))}.</p><div><table>"
     yield f"<tr>{''.join(f'<th>{it}</th>' for it in HEAD)}</tr>"
     yield from (_row(number, zone) for number, zone in enumerate(found))
-    yield "</table>"
+    yield "</table></div>"
     for number, zone in enumerate(found):
         yield f'<h2 id="z{number}">{escape(_text(zone["zone"]))}</h2>'
+        yield "<div>"
         yield from _picture(zone, now)
+        yield "</div>"
     yield "</body></html>"
 
 
