@@ -12,7 +12,9 @@ import contextlib
 import os
 from collections.abc import Iterator
 from concurrent.futures import ThreadPoolExecutor
+from functools import partial
 from pathlib import Path
+from typing import Any
 
 from keyset import Lines, Locked, file, locked
 
@@ -48,7 +50,9 @@ READ = "SELECT line FROM vaqsider_line WHERE zone = %s AND file = %s ORDER BY nu
 ADD = "INSERT INTO vaqsider_line (zone, file, number, line) VALUES (%s, %s, %s, %s)"
 
 
-def execute(connection, text: str, *values: object):
+def execute(
+    connection: psycopg.Connection[Any], text: str, *values: object
+) -> psycopg.Cursor[Any]:
     """Each statement is made here."""
     try:
         return connection.execute(text, values or None)
@@ -118,7 +122,7 @@ class Store:
         """Meanwhile each line of the zone's files is committed before it is in its file."""
         paths = {of: os.path.realpath(folder / f"{zone}.{of}") for of in FILES}
         for of, path in paths.items():
-            file.WITNESSES[path] = lambda number, line, of=of: self.add(zone, of, number, line)
+            file.WITNESSES[path] = partial(self.add, zone, of)
         try:
             yield
         finally:

@@ -11,13 +11,14 @@ import functools
 from argparse import Namespace
 from dataclasses import dataclass, field
 from pathlib import Path
+from typing import TYPE_CHECKING
 
 from keyset import Notes, WrongArgument
 from keyset.lines import Line
 from keyset.notes import Seen
 
-from . import act, advice, calling, cli, hooks, linting, plan, policies, resting, shortnames
-from . import signers, status, watching, words
+from . import act, advice, calling, cli, hooks, linting, parents, plan, policies, resting
+from . import shortnames, signers, status, watching, words
 from .advice import Said
 from .ending import PARENT_LACKS, REFUSED, RUN_LOW, STUCK, Clock, Deed, Done, End, Log
 from .errors import BROKEN, DUE, OK, WARNING, Failure
@@ -27,6 +28,9 @@ from .keysets import KeySets
 from .policies import Policy
 from .standing import Places, Standing
 from .zonefile import By
+
+if TYPE_CHECKING:
+    from keyset import Status
 
 # A tick makes at most so many deeds, and tries so many keys for one whose tag is free.
 DEEDS, TRIES = 50, 8
@@ -49,7 +53,8 @@ class Tick:
     journal: Journal
     most: int = DEEDS
     lines: list[str] = field(default_factory=list)
-    told: dict = field(default_factory=dict)
+    # (It says nothing until it is read.)
+    told: Status = field(default_factory=dict)  # type: ignore[assignment]
     acted: set[tuple[int, bool, Unsigned]] = field(default_factory=set)
     is_cds_out: bool = False
     stood: tuple[list[int] | None, Standing | None] | None = None
@@ -312,7 +317,7 @@ class Tick:
         eyes.notes, eyes.lines = self.notes, self.lines
         try:
             look = eyes.ask(self.told, kinds)
-            watching.parents.note(self.notes, self.lines, self.told, look)
+            parents.note(self.notes, self.lines, self.told, look)
             eyes.judge(look, kinds)
         except WrongArgument:
             raise
