@@ -7,6 +7,7 @@ DESTDIR ?=
 LIBDIR ?= lib
 WITHOUT ?=
 RUNS ?= 1000000
+ROLLS ?= 10000
 # Where make try-dist keeps its bare Debians.
 ROOM ?=
 
@@ -32,8 +33,8 @@ prove = mkdir -p crates/$(1)/out && cd crates/$(1) && \
 	{ rt $(2) >out/build.log 2>&1 || { cat out/build.log >&2; exit 1; }; }
 
 .PHONY: run build lib install uninstall made noted arm armed dist try-dist check fmt clean test \
-	wrong live scenes by-itself first-hour machines docs memory test-lib test-arm test-go valgrind \
-	asan fuzz types mutants signers help python modules packages logs
+	wrong game live scenes by-itself first-hour machines docs memory test-lib test-arm test-go \
+	valgrind asan fuzz types mutants signers help python modules packages logs
 
 # The proved program answers if it is newer than its sources, else one that is built at once.
 run: ## answers SCRIPT: make run SCRIPT=FILE
@@ -111,6 +112,10 @@ mutants: modules build ## changes a line of the command at a time: a test has to
 signers: modules build ## signs by real tools, of files and of PowerDNS, Knot and named
 	@$(PYTHON) tests/signers.py
 	@$(PYTHON) tests/running.py
+
+# Each minute it says how far it has come.
+game: python build ## plays ROLLS rolls by what policies say, many zones at once
+	@tests/automatic.py $(ROLLS) 1000 $$(nproc)
 
 # It needs Debian's postgresql and python3-psycopg.
 machines: modules build ## lets machines share zones over PostgreSQL, and kills them

@@ -1,15 +1,17 @@
 #!/usr/bin/env python3
 """Plays zones that roll by themselves: an operator does what `keyset next` says, and nothing else.
 Whatever caches may hold is looked at as in tests/runbooks.py, and each call is made by the key set
-of `replay/tables.py`. What is said is compared with docs/POLICY.md, as `tests/game/policy.py` has
+of `replay/tables.py`. What is said is compared with the definition, as tests/game/what_next.py has
 it, and at its end each script is answered by the program: all its calls are accepted.
 
-    tests/automatic.py [ROLLS [ZONE]]     how many rolls are played at least, from which zone on
+    tests/automatic.py [ROLLS [ZONE [JOBS]]]
+                    how many rolls are played at least, from which zone on, and how many at once
 
-The policies are random, and change on the way: lifetimes, the rolls by which keys are renewed, the
-algorithm, CSKs in place of KSKs and ZSKs and back. A lifetime that is too short has to be refused.
-TTLs and the delays of servers are random too. Then come operators who note what isn't true: some of
-their zones have to break.
+The policies are random, and change on the way: lifetimes and demands, the rolls by which keys are
+renewed, the algorithm, CSKs in place of KSKs and ZSKs and back. A lifetime that is too short has to
+be refused. TTLs, the number of servers and their delays are random too. Then come operators who
+note what isn't true: some of their zones have to break. Each minute standard error says how far it
+has come.
 """
 
 import random
@@ -18,41 +20,66 @@ import sys
 import time
 from collections import Counter
 from dataclasses import dataclass
+from multiprocessing import Pool
 from pathlib import Path
 from typing import Iterator, Optional, Sequence
 
 sys.dont_write_bytecode = True
 TOP = Path(__file__).resolve().parent.parent
-sys.path.insert(0, str(TOP / "replay"))
+sys.path += [str(TOP / "replay"), str(TOP / "library" / "python")]
 
 from judge import chain_line, has_chain, time as judged_time  # noqa: E402
+from keyset import programs  # noqa: E402
 from tables import ROLLS  # noqa: E402
 
+from game.facts import Facts  # noqa: E402
 from game.notes import Notes, Version, due  # noqa: E402
-from game.policy import Facts, Policy, View  # noqa: E402
+from game.policy import CSK, KSK_ROLLS, ZSK_ROLLS, Policy  # noqa: E402
 from game.signer import Operator, Stuck  # noqa: E402
+from game.what_next import AT_REST, View, next_of, shown  # noqa: E402
 from game.zone import SECOND, SLOWEST, Broken, World  # noqa: E402
 
-PROGRAM = TOP / "crates" / "keyset" / "out" / "keyset"
 ROLLS_OF_A_ZONE, ROLLS_IN_THE_GATE = 12, 240
+ALGORITHMS = (8, 13, 14, 15)
 CALLS = ("start", "report1", "wait1", "report2", "wait2", "done", "delete")
 # What an untrue note says: that all servers give a version if one does, or half of a TTL.
 EARLY, HALF = "seen on all servers once one gives it", "half of the TTL"
-# How often the program is asked again, though the page says the same as before.
+# How often the program is asked again, though the definition says the same as before.
 AGAIN = 0.1
+# How often the game says how far it has come, in seconds.
+TOLD = 60
 
 
 class Wrong(Exception):
     """`next` said what it must not say."""
 
 
-def run(words: Sequence[str], lines: Sequence[str]) -> str:
+def run(word: str, lines: Sequence[str]) -> str:
     """What the program says. A refusal is what it says of a fault."""
     text = "".join(f"{line}\n" for line in lines)
-    done = subprocess.run([PROGRAM, *words], input=text, capture_output=True, text=True)
+    done = subprocess.run(programs.find(word), input=text, capture_output=True, text=True)
     if done.returncode not in (0, 1):
         raise Wrong(f"status {done.returncode}: {done.stderr}")
     return done.stdout.rstrip("\n") if done.returncode == 0 else f"refused: {done.stderr.strip()}"
+
+
+def policy_at_random(dice: random.Random, now: int) -> Policy:
+    """What is wanted of a zone's keys from now on."""
+    rolls = dice.choice([(CSK,), (dice.choice(KSK_ROLLS), dice.choice(ZSK_ROLLS))])
+    policy = Policy.of(dice.choice(ALGORITHMS), rolls)
+    policy.delete_after = dice.choice((0, 0, 30, 90))
+    for renewal in policy.renewals.values():
+        if dice.random() < 0.8:
+            renewal.lifetime = dice.randint(5, 300)
+        if dice.random() < 0.3:
+            renewal.once = now + dice.randint(0, 60)
+    return policy
+
+
+def in_some_order(dice: random.Random, policy: Policy) -> list[str]:
+    """The lines of a policy: only the first has its place."""
+    first, *more = policy.lines()
+    return [first, *dice.sample(more, len(more))]
 
 
 class TrueNotes(Notes):
@@ -124,23 +151,24 @@ class Follower(Operator):
         self.sent = len(self.notes.lines)
 
     def asks(self) -> str:
-        """What is said has to be what the page says. If that says the same as before, and nothing
-        was noted, the program is asked only now and then."""
+        """What is said has to be what the definition says. If that says the same as before, and
+        nothing was noted, the program is asked only now and then."""
         self.tell()
         now = self.rounded_down()
-        wanted = View(self.policy, self.keyset, self.lasts, self.facts, now).next()
+        view = View(self.keyset, self.lasts, self.facts, now)
+        wanted = shown(self.policy, next_of(self.policy, view))
         if self.last == (wanted, self.sent) and self.dice.random() > AGAIN:
             return wanted
         self.last = wanted, self.sent
         said = self.program_says(now)
         if said != wanted:
-            raise Wrong(f"{said}, and by the page: {wanted}")
+            raise Wrong(f"{said}, and by the definition: {wanted}")
         return said
 
     def program_says(self, now: int) -> str:
         self.asked["asked"] += 1
         script = ["zone example.com", *self.script]
-        return run(["next"], [*self.text, "", *script, "", *self.notes.lines, f"next {now}"])
+        return run("next", [*self.text, "", *script, "", *self.notes.lines, f"next {now}"])
 
     def course(self, rolls: int) -> Iterator[None]:
         """Plays so many rolls."""
@@ -151,8 +179,8 @@ class Follower(Operator):
             self.long_enough()
 
     def another_policy(self) -> None:
-        self.policy = Policy.at_random(self.dice)
-        self.text = self.policy.lines(self.dice)
+        self.policy = policy_at_random(self.dice, self.rounded_down())
+        self.text = in_some_order(self.dice, self.policy)
         self.long_enough()
 
     def long_enough(self) -> None:
@@ -161,10 +189,10 @@ class Follower(Operator):
         while fault := self.policy.too_short(self.facts):
             said = self.program_says(self.rounded_down())
             if said != f"refused: policy: {fault.text}":
-                raise Wrong(f"{said}, and by the page: {fault.text}")
+                raise Wrong(f"{said}, and by the definition: {fault.text}")
             self.asked["refused"] += 1
-            self.policy.lifetimes[fault.role] = fault.takes + self.dice.randint(0, 100)
-            self.text = self.policy.lines(self.dice)
+            self.policy.renewals[fault.role].lifetime = fault.takes + self.dice.randint(0, 100)
+            self.text = in_some_order(self.dice, self.policy)
 
     def obey(self, said: str) -> Iterator[None]:
         word, *fields = said.split()
@@ -179,6 +207,9 @@ class Follower(Operator):
             yield from self.sleeps(int(fields[0]))
         elif word in CALLS:
             self.makes(said)
+        elif said == AT_REST:
+            self.another_policy()
+            yield from self.lets_a_second_pass()
         else:
             raise Wrong(said)
 
@@ -195,7 +226,7 @@ class Follower(Operator):
 
     def closes(self) -> None:
         """All calls are accepted by the program too, and the chain is safe."""
-        answers = run([], ["zone example.com", *self.script]).splitlines()
+        answers = run("", ["zone example.com", *self.script]).splitlines()
         refused = [answer for answer in answers[:-2] if not answer.startswith("ok")]
         if refused or answers[-1] != "chain safe":
             raise Wrong(f"{refused}, {answers[-1]}")
@@ -231,56 +262,72 @@ class Follower(Operator):
 
 @dataclass
 class Played:
-    """A zone that was played."""
+    """What came of a zone, and by which fault it ended, if by one."""
 
-    world: World
-    one: Follower
-    fault: Optional[Exception]
+    done: Counter
+    asked: Counter
+    instants: int
+    choices: int
+    fault: str = ""
 
 
-def play(seed: int, rolls: int, lie: Optional[str] = None) -> Played:
-    world = Network(random.Random(seed))
-    one = Follower(world, lie)
-    fault: Optional[Exception] = None
+def play(zone: int, lie: Optional[str] = None) -> Played:
+    world = Network(random.Random(zone))
+    one, fault = Follower(world, lie), ""
     try:
-        for _ in one.course(rolls):
+        for _ in one.course(ROLLS_OF_A_ZONE):
             one.lives()
             world.tick()
         one.closes()
+        if zone % 40 == 7 and (lasts := chain_line(one.keyset.record)) != "chain safe":
+            fault = lasts
     except (Broken, Stuck) as broken:
-        fault = broken
-    return Played(world, one, fault)
+        fault = str(broken)
+    except Wrong as wrong:
+        raise Wrong(f"zone {zone}, {one.policy}: {wrong}") from wrong
+    return Played(one.done, one.asked, world.instants, world.choices, fault)
 
 
-def follow(least: int, first: int, wrong: list) -> str:
+def outcomes(zones: range, jobs: int) -> Iterator[Played]:
+    """Plays zones one after another, or so many at once."""
+    if jobs == 1:
+        yield from map(play, zones)
+        return
+    with Pool(jobs) as pool:
+        yield from pool.imap_unordered(play, zones)
+
+
+def follow(zones: range, jobs: int, wrong: list[str]) -> str:
     """Plays operators who note what is true. Gives a line of counts."""
-    done, asked, zone, instants, choices = Counter(), Counter(), first, 0, 0
-    while sum(done.values()) < least and not wrong:
-        played = play(zone, ROLLS_OF_A_ZONE)
-        lasts = chain_line(played.one.keyset.record) if zone % 40 == 7 else "chain safe"
-        if played.fault or lasts != "chain safe":
-            said = f"{played.one.policy}: {played.fault or lasts}"
-            wrong.append(f"automatic: zone {zone}, {said}")
-        done.update(played.one.done)
-        asked.update(played.one.asked)
-        instants, choices = instants + played.world.instants, choices + played.world.choices
-        zone += 1
-    if missing := [roll for roll in ROLLS if not done[roll]]:
+    total, played, told = Played(Counter(), Counter(), 0, 0), 0, time.monotonic()
+    for one in outcomes(zones, jobs):
+        played += 1
+        total.done += one.done
+        total.asked += one.asked
+        total.instants += one.instants
+        total.choices += one.choices
+        if one.fault:
+            wrong.append(f"automatic: a zone broke or stopped: {one.fault}")
+        if time.monotonic() - told > TOLD:
+            told = time.monotonic()
+            so_far = f"{played} zones, {sum(total.done.values())} rolls, {len(wrong)} faults"
+            print(f"automatic, so far: {so_far}", file=sys.stderr, flush=True)
+    if missing := [roll for roll in ROLLS if not total.done[roll]]:
         wrong.append(f"automatic: never played: {' '.join(missing)}")
-    told = ", ".join(f"{number} {word}" for word, number in sorted(asked.items()))
+    asked = ", ".join(f"{number} {word}" for word, number in sorted(total.asked.items()))
     return (
-        f"{zone - first} zones, {sum(done.values())} rolls by what a policy says ({told}): at "
-        f"{instants} instants {choices} choices of sets are as promised"
+        f"{played} zones, {sum(total.done.values())} rolls by what a policy says ({asked}): at "
+        f"{total.instants} instants {total.choices} choices of sets are as promised"
     )
 
 
-def lies(wrong: list) -> str:
+def lies(wrong: list[str]) -> str:
     """Plays operators who note what isn't true, until one of their zones is broken."""
     zones = 0
     for lie in (EARLY, HALF):
-        for seed in range(60):
+        for zone in range(60):
             zones += 1
-            if play(seed, ROLLS_OF_A_ZONE, lie).fault:
+            if play(zone, lie).fault:
                 break
         else:
             wrong.append(f"automatic: no zone breaks by notes that say {lie}")
@@ -289,9 +336,11 @@ def lies(wrong: list) -> str:
 
 def main() -> int:
     began, wrong = time.monotonic(), []
-    least, first = (*map(int, sys.argv[1:]), *(ROLLS_IN_THE_GATE, 0)[len(sys.argv) - 1:])
+    defaults = ROLLS_IN_THE_GATE, 0, 1
+    least, first, jobs = (*map(int, sys.argv[1:]), *defaults[len(sys.argv) - 1:])
+    zones = range(first, first - (-least // ROLLS_OF_A_ZONE))
     try:
-        print(f"automatic: {follow(least, first, wrong)}")
+        print(f"automatic: {follow(zones, jobs, wrong)}", flush=True)
         print(f"automatic: {lies(wrong)}")
     except Wrong as fault:
         wrong.append(f"automatic: {fault}")

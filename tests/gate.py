@@ -37,8 +37,8 @@ FREE = ("runbooks", "networks", "examples", "mistakes")
 # The priority of edits, as that of `nice`.
 LOW = 10
 # What it leaves out, for that needs servers, root or hours.
-LEFT_OUT = ("signers", "live", "first-hour", "machines", "mutants", "wrong", "fuzz", "asan",
-            "valgrind", "try-dist", "test-arm", "test-go")
+LEFT_OUT = ("signers", "live", "first-hour", "game", "machines", "mutants", "wrong", "fuzz",
+            "asan", "valgrind", "try-dist", "test-arm", "test-go")
 
 
 def say(text):

@@ -1,7 +1,8 @@
 #!/usr/bin/env python3
-"""What a policy says to do next, by the program `keyset next` and by the twin (next_twin.py): they
-have to say the same, or refuse with the same words. The questions are drawn: each stored script up
-to some line, notes of it, a policy and a moment.
+"""What a policy says to do next, by the program `keyset next` and by its twin of the game
+(what_next.py): they have to say the same, or refuse with the same words. The questions are drawn:
+each stored script up to some line, notes of it, a policy and a moment. Bad days have an answer of
+their own (bad_days.py).
 
     tests/nexts.py [QUESTIONS]    how many are asked at least
 """
@@ -23,9 +24,11 @@ sys.dont_write_bytecode = True
 TOP = Path(__file__).resolve().parent.parent
 sys.path += [str(TOP / "tests"), str(TOP / "replay"), str(TOP / "library" / "python")]
 
-import next_twin  # noqa: E402
 from keyset import programs  # noqa: E402
 from tables import KeySet  # noqa: E402
+
+from game import bad_days, what_next  # noqa: E402
+from game.facts import KINDS  # noqa: E402
 
 QUESTIONS, LAST, TTLS = 4000, 2**64 - 1, (0, 1, 60, 300, 3600, 2**31, 2**32 - 1)
 ROLLS = (("ksk-roll", "ksk-double-ds-roll"), ("zsk-roll", "zsk-double-signature-roll"))
@@ -43,8 +46,8 @@ class Question:
 
     def by_twin(self) -> str:
         try:
-            return next_twin.said(self.policy, self.lines, self.notes, self.second)
-        except next_twin.NotSaid as fault:
+            return what_next.said(self.policy, self.lines, self.notes, self.second)
+        except what_next.NotSaid as fault:
             return f"status 1: {fault}"
 
     def by_program(self) -> str:
@@ -89,7 +92,7 @@ def notes(dice: random.Random, reached: list[int], most: int) -> list[str]:
     `reached`."""
     ttl, calls = dice.choice(TTLS[:5]), len(reached)
     lines = [f"before {ttl} {ttl} {ttl}"]
-    for kind in dice.sample(next_twin.KINDS, 3):
+    for kind in dice.sample(KINDS, 3):
         moment = 0
         for call in sorted(dice.randint(1, calls) for _ in range(dice.randint(0, 3)) if calls):
             moment = later(dice, max(moment, reached[call - 1]), most)
@@ -115,6 +118,15 @@ def drawn(dice: random.Random, stored: list[list[str]]) -> Question:
     return Question(policy(dice, most), lines, notes(dice, reached, most), min(second, LAST))
 
 
+def wrong_on_bad_days() -> Iterator[str]:
+    """What isn't said as it has to be on a bad day."""
+    for what, day, wanted in bad_days.days():
+        question = Question(day.policy, day.script, day.notes, day.now)
+        for by, said in ("program", question.by_program()), ("twin", question.by_twin()):
+            if said != wanted:
+                yield f"{what}: the {by} says {said!r}, and not {wanted!r}"
+
+
 def main() -> int:
     count = int(sys.argv[1]) if len(sys.argv) > 1 else QUESTIONS
     dice, stored = random.Random(62), scripts()
@@ -131,9 +143,11 @@ def main() -> int:
             words["notes refused"] += 1
         elif by_program != by_twin:
             wrong.append(f"{question}: the program says {by_program!r}, and the twin {by_twin!r}")
+    wrong += wrong_on_bad_days()
     print(*wrong[:10], sep="\n", end="\n" if wrong else "")
+    days = sum(1 for _ in bad_days.days())
     told = ", ".join(f"{number} {word}" for word, number in sorted(words.items()))
-    print(f"nexts: {count} questions ({told}), {len(wrong)} differences")
+    print(f"nexts: {count} questions ({told}), {days} bad days, {len(wrong)} differences")
     return 1 if wrong else 0
 
 

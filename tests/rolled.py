@@ -8,6 +8,7 @@ import json
 import os
 import re
 import shutil
+import sys
 from collections.abc import Iterator
 from dataclasses import dataclass, field
 from itertools import product
@@ -24,11 +25,14 @@ import dns.rdatatype
 import dns.rrset
 
 import answering
-import next_twin
 import testkeys
-from typed import typed
+from typed import TOP, typed
 from vaqsider import advice
 from vaqsider.errors import Failure
+
+sys.path.append(str(TOP / "replay"))
+
+from game import what_next  # noqa: E402
 
 ZONE, PARENT_TTL = "example.com", 300
 TTLS = {"ds": PARENT_TTL, "dnskey": 60, "zone": 60}
@@ -308,7 +312,7 @@ ASK, KNOWN, ASKED = advice.ask, [], [0]
 
 def said(*question) -> str:
     """What comes next: the twin and the program have to say the same."""
-    by_twin = next_twin.said(*question)
+    by_twin = what_next.said(*question)
     if is_known():
         ASKED[0] += 1
         if (by_program := ASK(*question)) != by_twin:

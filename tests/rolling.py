@@ -7,7 +7,7 @@ hooks that hang or lie; policies with each word wrong; and what needs a person (
     tests/rolling.py --only NAME..
                                 only these checks, as courses or killed
 
-What comes next a second reader says too (next_twin.py): the program has to say the same, if it
+What comes next a second reader says too (game/what_next.py): the program has to say the same, if it
 knows the word."""
 
 from __future__ import annotations
@@ -36,8 +36,8 @@ sys.dont_write_bytecode = True
 
 import answering  # noqa: E402
 import attended  # noqa: E402
-import next_twin  # noqa: E402
 import rolled  # noqa: E402
+from game import what_next  # noqa: E402
 from rolled import BEGIN, ZONE, Broken, World, lines, living, shape, tick  # noqa: E402
 from typed import TOP, folder, typed  # noqa: E402
 
@@ -148,7 +148,7 @@ def rest() -> Iterator[str]:
         for _ in played(world, BEGIN + 3 * DAY):
             pass
         before = {path: path.read_bytes() for path in Path().rglob("*") if path.is_file()}
-        with mock.patch.object(next_twin, "said", side_effect=AssertionError):
+        with mock.patch.object(what_next, "said", side_effect=AssertionError):
             status, said = tick(world)
         after = {path: path.read_bytes() for path in Path().rglob("*") if path.is_file()}
         if status or before != after or "nothing is due before" not in said:

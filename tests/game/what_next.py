@@ -1,72 +1,23 @@
-#!/usr/bin/env python3
 """What a policy says to do next, by a second reader of the definition: crates/dnssec_policy/specs.
-It shares no text with the program, and stands on replay/tables.py.
-
-    tests/next_twin.py <INPUT
-
-INPUT is the text of a policy, an empty line, a script, an empty line, its notes, and `next MOMENT`.
-Names and order of the functions are those of the definition."""
+It shares no text with the program, and stands on replay/tables.py. Names and order of the functions
+are those of the definition. Times are seconds."""
 
 from __future__ import annotations
 
-import sys
+from collections.abc import Iterable, Iterator, Mapping, Sequence
 from dataclasses import dataclass
-from pathlib import Path
-from typing import Callable, Iterable, Iterator, NamedTuple, Optional, Sequence, Union
+from typing import Callable, NamedTuple, Optional, Union
 
-sys.dont_write_bytecode = True
-sys.path.insert(0, str(Path(__file__).resolve().parent.parent / "replay"))
+from judge import SPEAKS_OF, origin
+from tables import ROLLS, Key, KeySet
 
-from judge import SPEAKS_OF, origin  # noqa: E402
-from tables import ROLLS, Key, KeySet  # noqa: E402
+from game.facts import KINDS, LONGEST_TTL, Facts
+from game.policy import ALGORITHM, Policy, Renewal, role_of
 
-SECOND, LONGEST_TTL, LAST_SECOND = 1_000_000_000, 2**32 - 1, 2**64 - 1
-KINDS = ("ds", "dnskey", "zone")
-ALGORITHM, CSK = "algorithm-roll", "csk-roll"
+LAST_SECOND = 2**64 - 1
+AT_REST = "nothing: the zone is as the policy wants it"
 SIDES = {"ksk-roll": {"ksk"}, "ksk-double-ds-roll": {"ksk"}, "zsk-roll": {"zsk"},
          "zsk-double-signature-roll": {"zsk"}}
-
-
-# ---- policies
-
-
-@dataclass
-class Renewal:
-    """When keys of a role are renewed: so many seconds after they were published, or on demand."""
-
-    lifetime: Optional[int] = None
-    once: Optional[int] = None
-
-
-@dataclass
-class Policy:
-    """`rolls` are those by which a scheme renews its keys."""
-
-    algorithm: int
-    rolls: tuple[str, ...]
-    ksk: Renewal
-    zsk: Renewal
-    delete_after: int = 0
-
-    @property
-    def roles(self) -> tuple[str, ...]:
-        return ("csk",) if self.rolls == (CSK,) else ("ksk", "zsk")
-
-    def renewal_of(self, role: str) -> Renewal:
-        return self.zsk if role == "zsk" else self.ksk
-
-
-def policy_of(lines: Sequence[str]) -> Policy:
-    """Reads `policy ALGORITHM ROLL..` and what follows it."""
-    _, algorithm, *rolls = lines[0].split(" ")
-    policy = Policy(int(algorithm), tuple(rolls), Renewal(), Renewal())
-    for word, number in (line.split(" ") for line in lines[1:]):
-        if word == "delete-after":
-            policy.delete_after = int(number)
-        else:
-            role, _, name = word.partition("-")
-            setattr(policy.renewal_of(role), name, int(number))
-    return policy
 
 
 # ---- what there is to do: Todo.antt
@@ -115,58 +66,35 @@ def soonest(todos: Iterable[Todo]) -> Todo:
     return min([*todos, Rest()], key=urgency)
 
 
-# ---- what is known of a zone: View.antt, and Spread.antt of dnssec_network
+# ---- what is known of a zone: View.antt
 
 
 @dataclass
-class Spread:
-    """How far the versions of a kind have come."""
-
-    ttl: int
-    position: int = 0
-    older: Optional[int] = None
-    seen: int = 0
-    expired: int = 0
-
-    def publish(self, base: int, position: int, ttl: int) -> None:
-        if self.position < base:
-            self.older = max(self.older or 0, self.ttl)
-        self.position, self.ttl = position, ttl
-
-    def see(self, moment: int) -> None:
-        if self.older is not None:
-            self.expired = max(self.expired, moment + self.older * SECOND + SECOND - 1)
-        self.older, self.seen = None, moment
-
-
 class View:
-    """What is known after these lines and notes, at a moment."""
+    """What is known of a zone at a moment: its key set, the positions of the last second waits of
+    its rolls, and the facts of its notes."""
 
-    def __init__(self, lines: Sequence[str], notes: Sequence[str], now: int) -> None:
-        self.set, self.now, self.last = KeySet(), now * SECOND, {}
-        self.notes = [line.split(" ") for line in notes]
-        self.highest = highest_of(notes)
+    set: KeySet
+    last: Mapping[str, int]
+    facts: Facts
+    now: int
+
+    @classmethod
+    def after(cls, lines: Sequence[str], notes: Sequence[str], now: int) -> View:
+        """After the calls of a script, by its notes."""
+        keyset, last = KeySet(), {}
         for number, line in enumerate(lines[1:], start=1):
             word, roll, *_ = line.split(" ")
-            if self.set.call(line).startswith("ok") and word == "wait2":
-                self.last[roll] = number
-
-    def known(self, base: int, kind: str) -> Spread:
-        _, *before = self.notes[0] if self.notes else ("before", 0, 0, 0)
-        spread = Spread(int(before[KINDS.index(kind)]))
-        for word, of, *numbers in self.notes[1:]:
-            if of == kind and word == "published":
-                spread.publish(base, int(numbers[0]), int(numbers[1]))
-            elif of == kind:
-                spread.see(int(numbers[0]) * SECOND)
-        return spread
+            if keyset.call(line).startswith("ok") and word == "wait2":
+                last[roll] = number
+        return cls(keyset, last, Facts(notes), now)
 
     def reach(self, kind: str, base: int) -> Optional[type]:
         """What brings the sets of a position to all servers; None if they are there."""
-        spread = self.known(base, kind)
+        spread = self.facts.spread(kind, base)
         if spread.position < base:
             return Publish
-        return None if spread.older is None and spread.seen <= self.now else Watch
+        return None if spread.is_everywhere(base, self.now) else Watch
 
     def step(self, roll: str) -> Optional[int]:
         """The position of the last start or first wait."""
@@ -182,35 +110,7 @@ class View:
         end = max((stamp + ttl for stamp in stamps), default=0) if ttl else 0
         if end > LAST_SECOND:
             return Stuck(f"the wait of {roll} ends after all time")
-        return end * SECOND
-
-
-# ---- what reports count: Ttls.antt
-
-
-def highest_of(notes: Sequence[str]) -> dict[str, int]:
-    """The highest TTL of each kind that is noted."""
-    before, *facts = [line.split(" ") for line in notes or ["before 0 0 0"]]
-    highest = {kind: int(ttl) for kind, ttl in zip(KINDS, before[1:])}
-    for word, kind, *numbers in facts:
-        if word == "published":
-            highest[kind] = max(highest[kind], int(numbers[1]))
-    return highest
-
-
-def lasting(highest: dict[str, int], kinds: Sequence[str], due: int) -> int:
-    """The TTL of a report on these kinds, by that which is due. Validators keep the algorithms of a
-    DS set with a DNSKEY set; and CDS, a set of the zone, has just left it."""
-    if "ds" not in kinds:
-        return due
-    return max(due + highest["dnskey"] + 1, highest["zone"] + 1)
-
-
-def roll_takes(highest: dict[str, int], roll: str) -> int:
-    """Both waits, each by the highest TTL of the kinds that its report speaks of, and a second."""
-    halves = (half.split() for half in SPEAKS_OF[roll])
-    return sum(lasting(highest, kinds, max(highest[kind] for kind in kinds) + 1)
-               for kinds in halves)
+        return end
 
 
 # ---- rolls in progress: InProgress.antt
@@ -218,10 +118,10 @@ def roll_takes(highest: dict[str, int], roll: str) -> int:
 
 def due_for(view: View, kind: str, base: int) -> Optional[int]:
     """The TTL with which a report is true, of this kind; None if there is none."""
-    spread = view.known(base, kind)
-    if spread.position < base or spread.older is not None or spread.seen > view.now:
+    spread = view.facts.spread(kind, base)
+    if not spread.is_everywhere(base, view.now):
         return None
-    left = (max(0, spread.expired - view.now) + SECOND - 1) // SECOND
+    left = max(0, spread.expired - view.now)
     return left if left <= LONGEST_TTL else None
 
 
@@ -236,19 +136,19 @@ def report_next(view: View, word: str, roll: str) -> Todo:
             due = due_for(view, kind, base)
             if due is None:
                 brings = view.reach(kind, base)
-                return brings(kind) if brings else NotBefore(view.now + SECOND)
+                return brings(kind) if brings else NotBefore(view.now + 1)
             ttl = max(ttl, due)
-    ttl = lasting(view.highest, kinds, ttl)
+    ttl = view.facts.lasting(kinds, ttl)
     if ttl > LONGEST_TTL:
-        return NotBefore(view.now + SECOND)
-    return Make(f"{word} {roll} {ttl} {view.now // SECOND}")
+        return NotBefore(view.now + 1)
+    return Make(f"{word} {roll} {ttl} {view.now}")
 
 
 def wait_next(view: View, word: str, roll: str) -> Todo:
     end = view.end(roll)
     if isinstance(end, Stuck):
         return end
-    return Make(f"{word} {roll} {view.now // SECOND}") if end <= view.now else NotBefore(end)
+    return Make(f"{word} {roll} {view.now}") if end <= view.now else NotBefore(end)
 
 
 def once_settled(view: View, roll: str, base: int, todo: Todo) -> Todo:
@@ -335,7 +235,7 @@ def over_from(renewal: Renewal, published: int) -> Optional[int]:
 
 def first_over(policy: Policy, role: str, keys: Sequence[Key]) -> Optional[int]:
     at_work = [key for key in keys if serves(role, key)]
-    ends = [over_from(policy.renewal_of(role), key.stamps.get("published", 0)) for key in at_work]
+    ends = [over_from(policy.renewals[role], key.stamps.get("published", 0)) for key in at_work]
     return min((end for end in ends if end is not None), default=None)
 
 
@@ -347,7 +247,7 @@ def deletions(policy: Policy, view: View) -> Iterable[Todo]:
         is_rolled = any(lists_kind(roll, key) for roll in view.set.phases)
         if not is_rolled and all(state == {"old"} for state in key.states):
             withdrawn = key.stamps.get("withdrawn")
-            leaves = 0 if withdrawn is None else (withdrawn + policy.delete_after) * SECOND
+            leaves = 0 if withdrawn is None else withdrawn + policy.delete_after
             yield delete_next(view, name) if leaves <= view.now else NotBefore(leaves)
 
 
@@ -371,8 +271,8 @@ def start_with(policy: Policy, view: View, roll: str, roles: Sequence[str]) -> T
             return NeedKey(role)
         news.append(found[0])
     olds = [name for name, key in entries(view) if lists_kind(roll, key) and is_in_use(key)]
-    lists = (",".join(names) or "-" for names in (olds, news))
-    return Make(" ".join(["start", roll, *lists, str(view.now // SECOND)]))
+    lists = " ".join(",".join(names) or "-" for names in (olds, news))
+    return Make(f"start {roll} {lists} {view.now}")
 
 
 def change(policy: Policy, view: View) -> Todo:
@@ -382,14 +282,14 @@ def change(policy: Policy, view: View) -> Todo:
 
 
 def renewal(policy: Policy, view: View, roll: str) -> Todo:
-    keys, role = list(view.set.keys.values()), roll.partition("-")[0]
+    keys, role = list(view.set.keys.values()), role_of(roll)
     if not may_begin(view, roll) or any(is_unwanted(policy, key) for key in keys):
         return Rest()
     over = first_over(policy, role, keys)
     if over is None:
         return Rest()
-    if over * SECOND > view.now:
-        return NotBefore(over * SECOND)
+    if over > view.now:
+        return NotBefore(over)
     return start_with(policy, view, roll, [role])
 
 
@@ -412,8 +312,8 @@ def whys(policy: Policy, view: View) -> Iterator[str]:
     if wants_others(policy, keys):
         yield from barred(view, ALGORITHM)
     for roll in policy.rolls:
-        over = first_over(policy, roll.partition("-")[0], keys)
-        if over is not None and over * SECOND <= view.now:
+        over = first_over(policy, role_of(roll), keys)
+        if over is not None and over <= view.now:
             yield from barred(view, roll)
     if any(is_left_over(view, key) for key in keys):
         yield "a key is on its way out, and no roll takes it out"
@@ -439,20 +339,6 @@ def is_left_over(view: View, key: Key) -> bool:
     return key.kind != "include" and is_leaving and not is_rolled
 
 
-# ---- lifetimes: Lint.antt of dnssec_policy_text
-
-
-def too_short(policy: Policy, notes: Sequence[str]) -> str:
-    """The first lifetime that is shorter than its roll takes, as a text; or an empty one."""
-    highest = highest_of(notes)
-    for roll in policy.rolls:
-        lifetime = policy.renewal_of(roll.partition("-")[0]).lifetime
-        takes = roll_takes(highest, roll)
-        if lifetime is not None and lifetime < takes:
-            return f"a lifetime of {lifetime} seconds is shorter than a {roll} takes: {takes}"
-    return ""
-
-
 # ---- as a text
 
 
@@ -467,31 +353,17 @@ def shown(policy: Policy, todo: Todo) -> str:
     if isinstance(todo, NeedKey):
         return f"key {todo.role} {policy.algorithm}"
     if isinstance(todo, NotBefore):
-        return f"until {-(-todo.moment // SECOND)}"
+        return f"until {todo.moment}"
     if isinstance(todo, (Publish, Watch)):
         return f"{type(todo).__name__.lower()} {todo.kind}"
     if isinstance(todo, Stuck):
         return f"nothing: {todo.why}"
-    return "nothing: the zone is as the policy wants it"
+    return AT_REST
 
 
 def said(policy: Sequence[str], lines: Sequence[str], notes: Sequence[str], now: int) -> str:
     """What a policy says to do next, after these lines and notes, at a second since 1970."""
-    read = policy_of(policy)
-    if fault := too_short(read, notes):
-        raise NotSaid(f"policy: {fault}")
-    return shown(read, next_of(read, View(lines, notes, now)))
-
-
-def main() -> None:
-    policy, script, notes = sys.stdin.read().removesuffix("\n").split("\n\n")
-    *facts, question = notes.split("\n")
-    moment = int(question.removeprefix("next "))
-    try:
-        print(said(policy.split("\n"), script.split("\n"), facts, moment))
-    except NotSaid as fault:
-        sys.exit(str(fault))
-
-
-if __name__ == "__main__":
-    main()
+    read, view = Policy.read(policy), View.after(lines, notes, now)
+    if fault := read.too_short(view.facts):
+        raise NotSaid(f"policy: {fault.text}")
+    return shown(read, next_of(read, view))
