@@ -1,5 +1,5 @@
 pub mod Calls
-pub mod ZoneNotes
+pub mod Noted
 pub mod Zone
 pub mod Lines
 pub mod Answer

@@ -9,7 +9,7 @@ ghost use Rattle.dnssec_policy_text.specs.Wishes.{with_lifetime, with_once, with
 ghost use Rattle.dnssec_policy_text.specs.Wishes.{word_named, zsk_named};
 ghost use Rattle.dnssec_policy_text.specs.Reading.{line_after, policy_with, said_after};
 
-use crate::fault::WishFault;
+use crate::fault::LineFault;
 use dnssec_keyset::{SecurityAlgorithm, UnixTime};
 use dnssec_policy::{KeyRole, KskMethod, Policy, Scheme, Term, ZskMethod};
 use dnssec_script::Fields;
@@ -101,7 +101,7 @@ pub(crate) fn read_first(line: &[u8]) -> Option<(SecurityAlgorithm, Scheme)>
 
 /// The words of further lines.
 #[derive(Clone, Copy)]
-pub(crate) enum WishWord {
+pub(crate) enum Word {
     Lifetime(KeyRole),
     Once(KeyRole),
     DeleteAfter,
@@ -120,30 +120,30 @@ pub(crate) enum Wish {
 
 /// The word with this name.
 #[tactic(auto, unfolding(crate::specs::Wishes::word_named))]
-fn word_named(name: &[u8]) -> Option<WishWord>
+fn word_named(name: &[u8]) -> Option<Word>
     ensures { result ≡ word_named name.now }
 {
     if name == b"ksk-lifetime".as_slice() {
-        Some(WishWord::Lifetime(KeyRole::Ksk))
+        Some(Word::Lifetime(KeyRole::Ksk))
     } else if name == b"zsk-lifetime".as_slice() {
-        Some(WishWord::Lifetime(KeyRole::Zsk))
+        Some(Word::Lifetime(KeyRole::Zsk))
     } else if name == b"csk-lifetime".as_slice() {
-        Some(WishWord::Lifetime(KeyRole::Csk))
+        Some(Word::Lifetime(KeyRole::Csk))
     } else if name == b"ksk-once".as_slice() {
-        Some(WishWord::Once(KeyRole::Ksk))
+        Some(Word::Once(KeyRole::Ksk))
     } else if name == b"zsk-once".as_slice() {
-        Some(WishWord::Once(KeyRole::Zsk))
+        Some(Word::Once(KeyRole::Zsk))
     } else if name == b"csk-once".as_slice() {
-        Some(WishWord::Once(KeyRole::Csk))
+        Some(Word::Once(KeyRole::Csk))
     } else if name == b"delete-after".as_slice() {
-        Some(WishWord::DeleteAfter)
+        Some(Word::DeleteAfter)
     } else {
         None
     }
 }
 
 /// The first field as a word.
-fn first_word<'a>(fields: Fields<'a>) -> Option<(WishWord, Fields<'a>)>
+fn first_word<'a>(fields: Fields<'a>) -> Option<(Word, Fields<'a>)>
     ensures { option_map (λ x. (x.0, x.1)) result ≡ word_at fields.entry }
 {
     let (name, fields) = fields.next()?;
@@ -169,13 +169,13 @@ fn moment(fields: Fields<'_>) -> Option<UnixTime>
 }
 
 /// What the fields after a word say.
-fn wish_after(word: WishWord, fields: Fields<'_>) -> Option<Wish>
+fn wish_after(word: Word, fields: Fields<'_>) -> Option<Wish>
     ensures { result ≡ wish_after word fields.entry }
 {
     match word {
-        WishWord::Lifetime(role) => Some(Wish::Lifetime(role, seconds(fields)?)),
-        WishWord::Once(role) => Some(Wish::Once(role, moment(fields)?)),
-        WishWord::DeleteAfter => Some(Wish::DeleteAfter(seconds(fields)?)),
+        Word::Lifetime(role) => Some(Wish::Lifetime(role, seconds(fields)?)),
+        Word::Once(role) => Some(Wish::Once(role, moment(fields)?)),
+        Word::DeleteAfter => Some(Wish::DeleteAfter(seconds(fields)?)),
     }
 }
 
@@ -219,7 +219,7 @@ const NEVER: Term = Term {
 
 /// What further lines have said so far.
 #[derive(Clone, Copy)]
-pub(crate) struct PolicyDraft {
+pub(crate) struct Draft {
     /// Of KSKs or CSKs.
     ksk: Term,
     zsk: Term,
@@ -252,12 +252,12 @@ fn with_once(renewal: &Term, moment: UnixTime) -> Option<Term>
     }
 }
 
-impl PolicyDraft {
+impl Draft {
     /// No line so far.
     pub(crate) fn new() -> Self
         ensures { result ≡ no_wish }
     {
-        PolicyDraft {
+        Draft {
             ksk: NEVER,
             zsk: NEVER,
             delete_after: None,
@@ -278,12 +278,12 @@ impl PolicyDraft {
         ensures { result ≡ with_slot self.now role renewal.now }
     {
         match role {
-            KeyRole::Zsk => PolicyDraft {
+            KeyRole::Zsk => Draft {
                 ksk: self.ksk,
                 zsk: *renewal,
                 delete_after: self.delete_after,
             },
-            KeyRole::Ksk | KeyRole::Csk => PolicyDraft {
+            KeyRole::Ksk | KeyRole::Csk => Draft {
                 ksk: *renewal,
                 zsk: self.zsk,
                 delete_after: self.delete_after,
@@ -296,7 +296,7 @@ impl PolicyDraft {
     {
         match self.delete_after {
             Some(_) => None,
-            None => Some(PolicyDraft {
+            None => Some(Draft {
                 ksk: self.ksk,
                 zsk: self.zsk,
                 delete_after: Some(seconds),
@@ -322,25 +322,25 @@ impl PolicyDraft {
     }
 
     /// After one more wish for the keys of a scheme.
-    fn said_after(&self, scheme: Scheme, wish: &Wish) -> Result<Self, WishFault>
+    fn said_after(&self, scheme: Scheme, wish: &Wish) -> Result<Self, LineFault>
         ensures { result ≡ said_after scheme self.now wish.now }
     {
         if !is_for(scheme, wish) {
-            return Err(WishFault::NoSuchKeys);
+            return Err(LineFault::NoSuchKeys);
         }
         match self.after(wish) {
             Some(more) => Ok(more),
-            None => Err(WishFault::SaidTwice),
+            None => Err(LineFault::SaidTwice),
         }
     }
 
     /// After one more line.
-    pub(crate) fn line_after(&self, scheme: Scheme, line: &[u8]) -> Result<Self, WishFault>
+    pub(crate) fn line_after(&self, scheme: Scheme, line: &[u8]) -> Result<Self, LineFault>
         ensures { result ≡ line_after scheme self.now line.now }
     {
         match read_wish(line) {
             Some(wish) => self.said_after(scheme, &wish),
-            None => Err(WishFault::Malformed),
+            None => Err(LineFault::Malformed),
         }
     }
 

@@ -3,8 +3,8 @@ ghost use Rattle.std.specs.Prelude.{◌≡◌, Some, None, IfNone, IfSome, is_so
 ghost use Rattle.keyset_c.specs.Handles.{IsWhole, kept_by};
 
 use crate::kept::Kept;
-use crate::box_parts::BoxParts;
-use crate::pointer::Pointer;
+use crate::parts::Parts;
+use crate::place::Place;
 use std::alloc::Global;
 use std::mem;
 
@@ -12,7 +12,7 @@ use std::mem;
 #[repr(C)]
 #[derive(Drop)]
 pub struct Handle {
-    pub(crate) pointer: Pointer,
+    pub(crate) place: Place,
     is_open: bool,
 }
 
@@ -34,9 +34,9 @@ impl Handle {
         ensures none { kept_by self.new ≡ None }
     {
         if self.is_open {
-            let pointer = mem::replace(&mut self.pointer, Pointer::none());
+            let place = mem::replace(&mut self.place, Place::none());
             self.is_open = false;
-            Some(pointer.into_parts(alloc).into_box())
+            Some(place.into_parts(alloc).into_box())
         } else {
             None
         }
@@ -48,7 +48,7 @@ impl Handle {
         ensures whole { IsWhole self.new }
         ensures kept { kept_by self.new ≡ Some kept.value }
     {
-        self.pointer = Pointer::of_parts(BoxParts::of(kept));
+        self.place = Place::of_parts(Parts::of(kept));
         self.is_open = true;
     }
 }

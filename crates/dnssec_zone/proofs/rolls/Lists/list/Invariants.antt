@@ -1,0 +1,9 @@
+-- What has been listed so far.
+use Rattle.std.proofs.Common.{◌≡◌, ◌++◌, take}
+use Rattle.dnssec_zone.specs.{Start.texts, Inner.Entries.entries_of}
+use Rattle.dnssec_zone.proofs.rolls.Lists.list.Given as goal
+
+-- the references so far are looked at
+abbrev pub invariant-loop-reference : goal.invariant-loop-reference
+invariant-loop-reference l = l.self.entries.items ≡ l.initial.self.entries.items
+    ++ entries_of l.keys l.roll l.part (texts (take l.reference-index l.references))

@@ -1,0 +1,70 @@
+//! A box as a pointer to bytes.
+ghost use Rattle.std.specs.Prelude.{◌≡◌, Option, Some, None, IsSome};
+ghost use Rattle.std.specs.Borrow.{sem};
+ghost use Rattle.std.specs.Coded.{coded_option};
+ghost use Rattle.keyset_c.specs.declared.kept.Kept.{Kept as Value};
+ghost use Rattle.keyset_c.specs.contracts.kept.Kept.{the_row};
+ghost use Rattle.keyset_c.specs.Owned.{kept_owned};
+
+use crate::kept::Kept;
+use crate::parts::Parts;
+use std::alloc::Global;
+use std::marker::Model;
+use std::ptr::null_mut;
+
+/// A pointer that is opaque to C: null, or the address that a box of `value` had.
+///
+/// A pointer that crosses to C may not point to a type with a vector. So this one points to bytes,
+/// and the ghost value says what it owns.
+#[repr(C)]
+#[derive(Drop)]
+pub struct Place {
+    ptr: *mut u8,
+    pub ghost value: { Option Value } by { coded_option the_row.coded },
+}
+
+impl Model for Place {
+    ghost also_owns = { λ p. kept_owned p.ptr p.value };
+}
+
+impl Place {
+    ghost use Rattle.keyset_c.specs.Lent.{lends_kept};
+
+    /// Keeps nothing.
+    pub(crate) fn none() -> Place
+        ensures { result.value ≡ None }
+    {
+        Place { ptr: null_mut() }
+    }
+
+    /// Keeps what is in a box.
+    pub(crate) fn of_parts(parts: Parts<Kept, Global>) -> Place
+        ensures { result.value ≡ Some parts.value }
+    {
+        let Parts { ptr, alloc: _ } = parts;
+        Place {
+            ptr: ptr as *mut u8,
+        }
+    }
+
+    /// What is in the box, lent.
+    pub(crate) fn look(&mut self) -> &mut Kept
+        requires { IsSome self.old.value }
+        ensures* writes_back { sem 𝓛 (lends_kept self.entry result) }
+        ensures value { Some result.now ≡ self.old.value }
+    {
+        unsafe { &mut *(self.ptr as *mut Kept) }
+    }
+
+    /// The box again, by its parts.
+    pub(crate) fn into_parts(self, alloc: Global) -> Parts<Kept, Global>
+        requires { IsSome self.value }
+        ensures { Some result.value ≡ self.value }
+    {
+        let Place { ptr } = self;
+        Parts {
+            ptr: ptr as *mut Kept,
+            alloc,
+        }
+    }
+}
