@@ -2,15 +2,14 @@
 use Rattle.std.proofs.Common.{◌≡◌, ℕ, zero, suc, ◌+◌, ◌*◌, ◌^◌, ◌<◌, ◌≤◌, ◌⊎◌, inl, inr, Bool, true}
 use Rattle.std.proofs.Common.{false, List, Option, None, Some, length, max, refl, sym, ap, subst}
 use Rattle.std.proofs.Common.{◌∙◌, arith}
-use Rattle.std.proofs.lemmas.Bool.{cases_Bool, cases_lt, true≢false}
+use Rattle.std.proofs.lemmas.Bool.{cases_lt, true≢false}
 use Rattle.std.proofs.lemmas.Option.{none-some, same_Some, slice_get_within}
 use Rattle.std.specs.Prelude.{if◌then◌else◌, slice_get, ◌&&◌, ◌-◌}
 use Rattle.std.specs.Option.{option_map}
 use Rattle.dnssec_key.specs.declared.roll.RollState.{RollState}
-use Rattle.dnssec_key.specs.declared.roll.RollState.TheVariants.{Propagation1, CacheExpire1}
-use Rattle.dnssec_key.specs.declared.roll.RollState.TheVariants.{Propagation2, CacheExpire2, Done}
+use Rattle.dnssec_key.specs.declared.roll.RollState.TheVariants.{Done}
 use Rattle.dnssec_key.specs.declared.roll.RollType.{RollType}
-use Rattle.dnssec_key.specs.RollTable.{Half, First, Second, after_expiry, cache_expire}
+use Rattle.dnssec_key.specs.RollTable.{Half, First, Second, cache_expire}
 use Rattle.dnssec_zone.specs.Rolls.{phase_of, same_roll}
 use Rattle.dnssec_zone.specs.Start.{together}
 use Rattle.dnssec_zone.specs.Wait.{ttl_in, wait_in_phase}
@@ -20,30 +19,25 @@ use Rattle.dnssec_keyset.specs.Step as keyset
 use Rattle.dnssec_keyset.specs.WaitEnd.{EndsAt, TellsEnd}
 use Rattle.dnssec_keyset.specs.declared.wait.WaitEnd.{WaitEnd}
 use Rattle.dnssec_keyset.specs.declared.wait.WaitEnd.TheVariants.{At, PastTime}
-use Rattle.dnssec_keyset.proofs.{Changes.Changes, Laws.no_cause, Laws.same-is}
 use Rattle.dnssec_run.specs.declared.call.Call.{Call}
 use Rattle.dnssec_run.specs.declared.record.Entry.{Entry}
-use Rattle.dnssec_run.specs.declared.record.Mark.TheVariants.{Other, Report, Step}
-use Rattle.dnssec_run.specs.Plain as plain
+use Rattle.dnssec_run.specs.declared.record.Mark.TheVariants.{Report}
+use Rattle.dnssec_run.specs.Plain.{DoesAt}
 use Rattle.dnssec_run.specs.Record.{IsRun, call_moment, call_of, is_accepted, world_at}
-use Rattle.dnssec_run.specs.Safe.{SetKind, Ds, Dnskey, ZoneSigners, base_below, is_step}
+use Rattle.dnssec_run.specs.Safe.{SetKind, Ds, Dnskey, ZoneSigners, base_below}
 use Rattle.dnssec_run.specs.Safe.{position_at, retires}
 use Rattle.dnssec_run.specs.Steps.{step_at}
-use Rattle.dnssec_run.specs.WholeRolls.{IsAccepted, LastReport, NeverFalls, counts_from, is_second}
-use Rattle.dnssec_run.specs.WholeRolls.{propagation}
+use Rattle.dnssec_run.specs.WholeRolls.{LastReport, NeverFalls, counts_from, is_second, propagation}
 use Rattle.dnssec_run.specs.WholeRolls as rolls
-use Rattle.dnssec_run.proofs.Chain.Allowed.{spreads, waits_in_phase}
-use Rattle.dnssec_run.proofs.Chain.History.{base_here, base_same}
 use Rattle.dnssec_run.proofs.Chain.Rolls.{same-same, same-sym}
 use Rattle.dnssec_run.proofs.Chain.Trust.{mark, plainly}
-use Rattle.dnssec_run.proofs.Effects.{is_on, phase_put, phases}
+use Rattle.dnssec_run.proofs.Effects.{is_on}
 use Rattle.dnssec_run.proofs.Premise.{SetsNothing, end_of, same-rolls, sets-nothing}
-use Rattle.dnssec_run.proofs.WholeRolls.Replies.{outcome, since, start-beside, world_of}
 use Rattle.dnssec_run.proofs.WholeRolls.Waits.{clear-from}
 use Rattle.dnssec_network.specs.Network.{Network}
-use Rattle.dnssec_policy.specs.Automatic.{IsAutomatic, is_add, is_last, last_below}
-use Rattle.dnssec_policy.specs.Delays.{AreMade, Delays, HasTtls, IsAfter, IsDone, RollsEnd}
-use Rattle.dnssec_policy.specs.Delays.{SpreadWithin, Watch, delay_of, roll_lasts, said}
+use Rattle.dnssec_policy.specs.Automatic.{IsAutomatic, is_add, last_below}
+use Rattle.dnssec_policy.specs.Delays.{AreMade, Delays, HasTtls, IsAfter}
+use Rattle.dnssec_policy.specs.Delays.{SpreadWithin, Watch, delay_of, said}
 use Rattle.dnssec_policy.specs.Laws.{IsPrompt, UntilOver}
 use Rattle.dnssec_policy.specs.Todo.{Make, Todo, rank}
 use Rattle.dnssec_policy.specs.Ttls.{report_takes}
@@ -54,7 +48,7 @@ use Rattle.dnssec_policy.proofs.May.{May}
 use Rattle.dnssec_policy.proofs.Notes.{add-moment, at-now, none-ahead}
 use Rattle.dnssec_policy.proofs.Prompt.{prompt}
 use Rattle.dnssec_policy.proofs.Said.{may}
-use Rattle.dnssec_policy.proofs.Steps.{last-seen, second_of, unstepped}
+use Rattle.dnssec_policy.proofs.Steps.{second_of}
 
 -- ---- higher TTLs
 
@@ -169,6 +163,18 @@ add-reports : (c : Call) → is_add c ≡ true → (roll : RollType) (half : Hal
     → call_of c ≡ keyset.Report roll half ttl now → ⊥
 add-reports c h roll half ttl now e = grind arith
 
+-- the call of an entry ends a roll
+pub ends-by : (calls : List Call) (entries : List Entry) (n : ℕ) (roll : RollType) (c : Call)
+    (e : Entry) → slice_get calls n ≡ Some c → slice_get entries n ≡ Some e
+    → DoesAt rolls.end_of calls entries n roll
+    → (end_of (call_of c) ≡ Some roll) × (is_accepted e.reply ≡ true)
+ends-by calls entries n roll c e ci ei d =
+    let it : d.call ≡ c = same_Some d.call c (sym d.call_is ∙ ci) in
+    let its : d.entry ≡ e = same_Some d.entry e (sym d.entry_is ∙ ei) in (
+      ap (λ (c : Call). end_of (call_of c)) (sym it) ∙ sym (same-rolls d.call).3 ∙ d.roll_is,
+      ap (λ (e : Entry). is_accepted e.reply) (sym its) ∙ d.accepted,
+    )
+
 -- ---- calls that are made once they are said
 
 module _ {name : List ℕ} {calls : List Call} {entries : List Entry} {network : Network}
@@ -250,6 +256,20 @@ module _ {name : List ℕ} {calls : List Call} {entries : List Entry} {network :
   abbrev pub NoneReported : RollType → ℕ → ℕ → Type 0
   NoneReported roll at n = (m : ℕ) (second : Bool) (ttl : ℕ) → at < m → m ≤ n
       → (position_at entries m).mark ≡ Report roll second ttl → ⊥
+
+  pub none-yet : (roll : RollType) (at : ℕ) → NoneReported roll at at
+  none-yet roll at m second ttl lo hi mk = absurd (omega (arith, lo, hi))
+
+  pub none-more : (roll : RollType) (at n : ℕ) → ((second : Bool) (ttl : ℕ)
+      → (position_at entries (suc n)).mark ≡ Report roll second ttl → ⊥)
+      → NoneReported roll at n → NoneReported roll at (suc n)
+  none-more roll at n report none m second ttl lo hi mk = elim (cases_lt m (suc n)) [
+    | inl lt ↦ none m second ttl lo (omega (arith, lt)) mk
+    | inr ge ↦
+        let same : m ≡ suc n = omega (arith, hi, ge) in
+        report second ttl
+        (subst (λ m. (position_at entries m).mark ≡ Report roll second ttl) same mk)
+  ]
 
   wait-clear : (n : ℕ) → n ≤ length entries → network.made n ≤ time → (roll : RollType)
       (half : Half) (ttl at : ℕ) → at ≤ n

@@ -1,19 +1,18 @@
 -- A key whose lifetime is over is put into its roll by the next calls, and leaves with it.
-use Rattle.std.proofs.Common.{◌≡◌, ℕ, zero, suc, ◌+◌, ◌*◌, ◌<◌, ◌≤◌, ◌⊎◌, inl, inr, Bool, true}
-use Rattle.std.proofs.Common.{false, cond, List, [], ◌∷◌, Option, None, Some, length, map, max, refl}
-use Rattle.std.proofs.Common.{sym, ap, subst, ◌∙◌, arith}
+use Rattle.std.proofs.Common.{◌≡◌, ℕ, suc, ◌+◌, ◌*◌, ◌<◌, ◌≤◌, ◌⊎◌, inl, inr, Bool, true}
+use Rattle.std.proofs.Common.{false, cond, List, [], ◌∷◌, Option, None, Some, length, map, max}
+use Rattle.std.proofs.Common.{refl, sym, ap, subst, ◌∙◌, arith}
 use Rattle.std.proofs.lemmas.Bool.{cases_Bool, cases_lt, true≢false}
-use Rattle.std.proofs.lemmas.Option.{none-some, same_Some, slice_get_within}
+use Rattle.std.proofs.lemmas.Option.{none-some, same_Some}
 use Rattle.std.specs.Prelude.{if◌then◌else◌, nat_lt, slice_get, unwrap_or, ◌-◌}
 use Rattle.std.specs.List.{list_any}
 use Rattle.std.specs.{Cmp.Lexicographic.slice_cmp, Ordering.is_eq, Ordering.nat_cmp, FinMap.find}
-use Rattle.std.specs.FinMap.{entries as entries_of, get, get-entries, values}
+use Rattle.std.specs.FinMap.{entries as entries_of, get, get-entries}
 use Rattle.dnssec_key.specs.declared.roll.RollType.{RollType}
 use Rattle.dnssec_key.specs.declared.roll.RollType.TheVariants.{AlgorithmRoll}
 use Rattle.dnssec_key.specs.Key.{KeyParts}
 use Rattle.dnssec_zone.specs.Rolls.{same_roll}
 use Rattle.dnssec_zone.specs.Start.{is_listed, texts}
-use Rattle.dnssec_zone.proofs.Quantified.{same_key}
 use Rattle.dnssec_keyset.specs.KeySet.{KeySetParts}
 use Rattle.dnssec_keyset.specs.Step as keyset
 use Rattle.dnssec_keyset.proofs.Laws.{same-is}
@@ -21,8 +20,7 @@ use Rattle.dnssec_run.specs.declared.call.Call.{Call}
 use Rattle.dnssec_run.specs.declared.call.Call.TheVariants.{StartRoll}
 use Rattle.dnssec_run.specs.declared.record.Entry.{Entry}
 use Rattle.dnssec_run.specs.Plain.{DoesAt, start_of}
-use Rattle.dnssec_run.specs.Record.{IsRun, call_of, is_accepted, world_at}
-use Rattle.dnssec_run.specs.Safe.{SetKind}
+use Rattle.dnssec_run.specs.Record.{IsRun, call_of, is_accepted}
 use Rattle.dnssec_run.specs.WholeRolls.{IsAccepted}
 use Rattle.dnssec_run.proofs.Chain.Rolls.{same-same}
 use Rattle.dnssec_run.proofs.WholeRolls.Completion.{rolls-finish}
@@ -36,9 +34,9 @@ use Rattle.dnssec_policy.specs.declared.policy.Scheme.TheVariants.{Split, Single
 use Rattle.dnssec_policy.specs.declared.policy.Term.{Term}
 use Rattle.dnssec_policy.specs.declared.policy.ZskMethod.TheVariants as zsks
 use Rattle.dnssec_policy.specs.Automatic.{is_add}
-use Rattle.dnssec_policy.specs.Delays.{AreMade, IsAfter, IsDue, KeysLeave, Watch, roll_lasts, said}
-use Rattle.dnssec_policy.specs.Keys.{earlier, first_from, first_over, goes, over_by_age}
-use Rattle.dnssec_policy.specs.Keys.{over_from, over_on_demand, references_where, renewal_of, role_of}
+use Rattle.dnssec_policy.specs.Delays.{AreMade, IsAfter, IsDue, KeysLeave, Watch, said}
+use Rattle.dnssec_policy.specs.Keys.{earlier, first_from, goes, over_by_age}
+use Rattle.dnssec_policy.specs.Keys.{over_from, over_on_demand, renewal_of, role_of}
 use Rattle.dnssec_policy.specs.Keys.{rolls_of, serves}
 use Rattle.dnssec_policy.specs.Next.{next_of}
 use Rattle.dnssec_policy.specs.Todo.{Make, rank}
@@ -344,6 +342,6 @@ keys-leave name calls entries network watch lag time roll delays ttl m over q ru
     let after = done.0 in
     let by = e.2 in
     let lags = sum-by lag m s n later (omega (arith, after)) in
-    let finish = rolls-finish run (automatic-plain run (auto run all)).setters s n roll st.0 st.1 st.2
-    after st.3 done.1 done.2 in
+    let finish = rolls-finish run (automatic-plain run (auto run all)).setters s n roll st.0 st.1
+    st.2 after st.3 done.1 done.2 in
     (s, n, later, done, omega (arith, by, begun, lags), finish.0 q st.4)

@@ -1,5 +1,5 @@
 -- From its start on a roll goes from one phase to the next, each within its time, until it is done.
-use Rattle.std.proofs.Common.{◌≡◌, ℕ, zero, suc, ◌+◌, ◌*◌, ◌<◌, ◌≤◌, ◌⊎◌, inl, inr, Bool, true}
+use Rattle.std.proofs.Common.{◌≡◌, ℕ, suc, ◌+◌, ◌*◌, ◌<◌, ◌≤◌, ◌⊎◌, inl, inr, Bool, true}
 use Rattle.std.proofs.Common.{false, List, None, Some, length, max, refl, sym, ap, subst, ◌∙◌}
 use Rattle.std.proofs.Common.{arith}
 use Rattle.std.proofs.lemmas.Bool.{cases_Bool, cases_lt, true≢false}
@@ -9,7 +9,7 @@ use Rattle.dnssec_key.specs.declared.roll.RollState.{RollState}
 use Rattle.dnssec_key.specs.declared.roll.RollState.TheVariants.{Propagation1, CacheExpire1}
 use Rattle.dnssec_key.specs.declared.roll.RollState.TheVariants.{Propagation2, CacheExpire2, Done}
 use Rattle.dnssec_key.specs.declared.roll.RollType.{RollType}
-use Rattle.dnssec_key.specs.RollTable.{Half, First, Second, after_expiry, cache_expire}
+use Rattle.dnssec_key.specs.RollTable.{Half, First, Second, cache_expire}
 use Rattle.dnssec_zone.specs.Rolls.{phase_of, same_roll}
 use Rattle.dnssec_zone.specs.Start.{together}
 use Rattle.dnssec_zone.specs.Wait as waits
@@ -29,7 +29,7 @@ use Rattle.dnssec_run.proofs.Chain.History.{base_here, base_same}
 use Rattle.dnssec_run.proofs.Chain.Rolls.{same-same}
 use Rattle.dnssec_run.proofs.Chain.Trust.{mark}
 use Rattle.dnssec_run.proofs.Effects.{is_on, phase_put, phases}
-use Rattle.dnssec_run.proofs.Premise.{end_of, same-rolls}
+use Rattle.dnssec_run.proofs.Premise.{end_of}
 use Rattle.dnssec_run.proofs.WholeRolls.Replies.{outcome, since, start-beside, world_of}
 use Rattle.dnssec_network.specs.Network.{Network}
 use Rattle.dnssec_policy.specs.Automatic.{is_last, last_below}
@@ -37,9 +37,9 @@ use Rattle.dnssec_policy.specs.Delays.{AreMade, Delays, HasTtls, IsAfter, IsDone
 use Rattle.dnssec_policy.specs.Delays.{SpreadWithin, Watch, roll_lasts, said}
 use Rattle.dnssec_policy.specs.Todo.{rank}
 use Rattle.dnssec_policy.specs.Ttls.{report_takes}
-use Rattle.dnssec_policy.proofs.Delays.{NoneReported, and-no, and-yes, counts, end-said, ends-on}
-use Rattle.dnssec_policy.proofs.Delays.{never-aborts, not-beside-itself, report-said, second-off}
-use Rattle.dnssec_policy.proofs.Delays.{unreported, wait-said}
+use Rattle.dnssec_policy.proofs.Delays.{NoneReported, and-no, and-yes, counts, end-said, ends-by}
+use Rattle.dnssec_policy.proofs.Delays.{ends-on, never-aborts, none-more, none-yet, report-said}
+use Rattle.dnssec_policy.proofs.Delays.{not-beside-itself, second-off, unreported, wait-said}
 use Rattle.dnssec_policy.proofs.Lags.{costs-grow, more-by, none-by}
 use Rattle.dnssec_policy.proofs.Steps.{last-seen, second_of, unstepped}
 
@@ -183,16 +183,9 @@ module _ {name : List ℕ} {calls : List Call} {entries : List Entry} {network :
             ≤ network.made (suc s) + begins h.phase + lasts h.phase + cost (suc n)
         in_time = (soon n from (omega (arith, within)) h.phase h.is h.stage).1
 
-        -- the call ends the roll
         ends-here : DoesAt rolls.end_of calls entries n roll
             → (end_of (call_of c) ≡ Some roll) × (is_accepted e.reply ≡ true)
-        ends-here d =
-            let it : d.call ≡ c = same_Some d.call c (sym d.call_is ∙ ci) in
-            let its : d.entry ≡ e = same_Some d.entry e (sym d.entry_is ∙ ei) in (
-              ap (λ (c : Call). end_of (call_of c)) (sym it) ∙ sym (same-rolls d.call).3
-                  ∙ d.roll_is,
-              ap (λ (e : Entry). is_accepted e.reply) (sym its) ∙ d.accepted,
-            )
+        ends-here = ends-by calls entries n roll c e ci ei
 
         none-on : (DoesAt rolls.end_of calls entries n roll → ⊥)
             → (m : ℕ) → s < m → m < suc n → DoesAt rolls.end_of calls entries m roll → ⊥
@@ -201,17 +194,6 @@ module _ {name : List ℕ} {calls : List Call} {entries : List Entry} {network :
           | inr ge ↦
               let same : m ≡ n = omega (arith, before, ge) in
               here (subst (λ m. DoesAt rolls.end_of calls entries m roll) same d)
-        ]
-
-        none-more : ((second : Bool) (t : ℕ)
-            → (position_at entries (suc n)).mark ≡ Report roll second t → ⊥) → (at : ℕ)
-            → NoneReported run all roll at n → NoneReported run all roll at (suc n)
-        none-more report at none m second t lo hi mk = elim (cases_lt m (suc n)) [
-          | inl lt ↦ none m second t lo (omega (arith, lt)) mk
-          | inr ge ↦
-              let same : m ≡ suc n = omega (arith, hi, ge) in
-              report second t
-              (subst (λ m. (position_at entries m).mark ≡ Report roll second t) same mk)
         ]
 
         -- a call beside the roll leaves its phase
@@ -223,10 +205,10 @@ module _ {name : List ℕ} {calls : List Call} {entries : List Entry} {network :
         unfolding last_below
         anchored step report last at Propagation1 a = base_same entries roll (suc n) step ∙ a
         anchored step report last at (CacheExpire1 t) a =
-            (a.0, none-more report at a.1)
+            (a.0, none-more run all roll at n report a.1)
         anchored step report last at Propagation2 a = base_same entries roll (suc n) step ∙ a
         anchored step report last at (CacheExpire2 t) a =
-            (a.0, none-more report at a.1)
+            (a.0, none-more run all roll at n report a.1)
         anchored step report last at Done a = rw last a
 
         stays : is_step roll (position_at entries (suc n)).mark ≡ false
@@ -272,16 +254,15 @@ module _ {name : List ℕ} {calls : List Call} {entries : List Entry} {network :
               none = none-on here;
             }
 
-        none-yet : NoneReported run all roll (suc n) (suc n)
-        none-yet m second t lo hi mk = absurd (omega (arith, lo, hi))
-
         reported : (half : Half) (t : ℕ) → h.phase ≡ propagation half
             → phase_of (set_at (suc n)).rolls roll ≡ Some (cache_expire half t) → t ≤ wait half
             → (DoesAt rolls.end_of calls entries n roll → ⊥) → Running (suc n)
         reported First t was is less here =
-            comes Propagation1 (CacheExpire1 t) was is (omega arith) (less, none-yet) here
+            comes Propagation1 (CacheExpire1 t) was is (omega arith)
+            (less, none-yet run all roll (suc n)) here
         reported Second t was is less here =
-            comes Propagation2 (CacheExpire2 t) was is refl (less, none-yet) here
+            comes Propagation2 (CacheExpire2 t) was is refl
+            (less, none-yet run all roll (suc n)) here
 
         module _ (ok : is_accepted e.reply ≡ true) where
           not-end : (k : keyset.Call) → call_of c ≡ k → end_of k ≡ None
