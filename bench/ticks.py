@@ -1,11 +1,11 @@
 #!/usr/bin/env python3
-"""What ticks cost, in seconds of a processor and in MB: of 10,000 zones of which ten are due, and of
-1,000 zones in the midst of their rolls. And a year of a zone, which nobody touches.
+"""What ticks cost, in seconds of a processor and in MB: of 10,000 zones of which ten are due, and
+of 1,000 zones in the midst of their rolls. And a year of a zone, which nobody touches.
 
     python3 bench/ticks.py [ZONES BUSY]    10000 1000
 
-Servers, signer and keys are those of tests/rolled.py, in this process, and so is what comes next. The
-time of all programs that are run is counted too."""
+Servers, signer and keys are those of tests/rolled.py, in this process. What comes next the library
+says, or the program if that isn't there: its time is counted too."""
 
 from __future__ import annotations
 
@@ -64,7 +64,7 @@ def row(what: str, seconds: float, more: str) -> None:
 def resting(count: int) -> None:
     """Zones of one folder, all but ten at rest: these begin a roll."""
     world = World(now=NOW - 3 * DAY)
-    with folder() as here, living(world, POLICY):
+    with folder() as here, living(world, POLICY, asks=False):
         alone(here)
         for _ in played(world, NOW):
             pass
@@ -100,7 +100,8 @@ def rests(here: Path, name: str) -> None:
     """Leaves what a tick of the first zone has left."""
     like = kept.read(here / "z0.script")
     files = [Path(it.replace("z0.", f"{name}.")) for it in like.files]
-    kept.keep(here / f"{name}.script", replace(like, files={str(it): kept.seen(it) for it in files}))
+    seen = {str(it): kept.seen(it) for it in files}
+    kept.keep(here / f"{name}.script", replace(like, files=seen))
 
 
 def deeds_of(said: str) -> str:
@@ -121,7 +122,7 @@ def busy(count: int) -> None:
             policy.write_text(policy.read_text().replace(f".z{like}", f".z{number}"))
             worlds[number] = copy.deepcopy(worlds[like])
         scripts = [f"{place}/z{number}/{ZONE}.script" for number in range(count)]
-        with folder(), living(Many(worlds)):
+        with folder(), living(Many(worlds), asks=False):
             for what in ("in the midst of their rolls", "once more"):
                 took, said, _ = measured(lambda: typed(["tick", *scripts], NOW))
                 row(f"{count} zones {what}", took, deeds_of(said))
@@ -134,7 +135,7 @@ def stage(here: Path, begin: int, number: int) -> World:
     before = os.getcwd()
     os.chdir(here)
     try:
-        with living(world, POLICY):
+        with living(world, POLICY, asks=False):
             for _ in played(world, NOW):
                 pass
         policy = Path(f"{ZONE}.policy")
@@ -163,7 +164,7 @@ class Many(World):
 def year() -> None:
     """A year from an unsigned zone on, with quarterly ZSKs and yearly KSKs."""
     world, begun = World(now=NOW), used()
-    with folder(), living(world, YEAR):
+    with folder(), living(world, YEAR, asks=False):
         worst = max(status for _, status, _ in played(world, NOW + 366 * DAY, 6 * 3600))
         lines = Path(f"{ZONE}.script").read_text().splitlines()
     starts = Counter(line.split()[1] for line in lines if line.startswith("start "))
