@@ -1,32 +1,38 @@
 """What answers cost by length: those of `keyset notes`, of `keyset status`, and a session's lines.
 
-    python3 bench/answers.py [--only WORD]
+    python3 bench/answers.py [--only PATTERN] [PROGRAM]
 
-It takes the program of `make build` and the library of `make lib`. Each script has a length
+It takes the program of `make build`, and the library of `make lib`. Each script has a length
 that a user controls, and is measured at three of them, each twice the one before. A row prints, of
-the longest: its lines, how many calls are accepted, the least processor seconds of some runs, and
-the greatest memory in MB. A growth is that of the instructions, as valgrind counts them, or of the
-memory: from the first length to the second, and from that to the third. 1 means that twice the
-length takes twice as much.
+the longest: its lines, how many calls are accepted, the verdict, the least processor seconds of
+some runs, and the greatest memory in MB. A growth is that of the cost, by instructions as valgrind
+counts them or by seconds of a long run, or of the memory: from the first length to the second, and
+from that to the third. 1 means that twice the length takes twice as much.
 
 The second table has lines of sessions, one after the other by `keyset_call` or by `keyset_accept`:
 the microseconds of a line among the first thousand, of one among the last thousand, and of the
 slowest of these. Each is the least of some runs.
+
+It ends with status 1, and says which, if a row has another number of accepted calls than it names,
+or another verdict, or grows faster than it may; or if a line of a session takes more than twice as
+long after 100,000 lines as after a thousand.
 """
 
 import argparse
-import math
+import os
+import re
 import subprocess
+import sys
 from dataclasses import dataclass
 from pathlib import Path
 from typing import Callable
 
-from programs import Bench
+from programs import Bench, Faults, growths, memory_growths, shown
 from successive_rolls import FIRST, ROLL, script as rolls
 
 TOP = Path(__file__).resolve().parent.parent
 LIBRARY = TOP / "library" / "out"
-PROGRAM = TOP / "crates" / "keyset" / "out" / "keyset"
+BUILT = TOP / "crates" / "keyset" / "out" / "keyset"
 RUNS = 3
 LONG = "L" * 1_000_000
 BEFORE = "before 3600 3600 3600"
@@ -34,12 +40,15 @@ BEFORE = "before 3600 3600 3600"
 
 @dataclass
 class Row:
-    """A script by its length, for a word of the program, and the longest of three lengths."""
+    """A script by its length, for a word of the program, and the longest of three lengths; how many
+    of its calls are accepted then; and by what exponent its cost may grow."""
 
     name: str
     word: str
     longest: int
     make: Callable[[int], str]
+    accepted: int
+    growth: int = 1
 
 
 def joined(*parts):
@@ -178,19 +187,22 @@ def toggled_then_ended(count):
 
 NOTES, STATUS = "notes", "status"
 ROWS = [
-    Row("rolls, and as many questions", NOTES, 8_000, rolls_with_questions),
-    Row("a reference of 1 MB, refused calls, one question", NOTES, 4_000, long_reference_noted),
-    Row("published keys, refused calls, one question", NOTES, 16_000, published_noted),
-    Row("notes of one kind, one question", NOTES, 32_000, notes_of_one_kind),
-    Row("notes of one kind, and as many questions", NOTES, 8_000, notes_and_questions),
-    Row("scripts of ten lines, each with a question", NOTES, 32_000, zones),
-    Row("rolls", STATUS, 32_000, rolls),
-    Row("keys", STATUS, 32_000, lambda count: zone(adds("zsk", count))),
-    Row("a roll in progress that lists all keys", STATUS, 32_000, listed),
-    Row("a start that lists one key often", STATUS, 16_000, one_listed_often),
-    Row("KSK rolls beside a ZSK roll that lists all keys", STATUS, 16_000, rolls_beside_listed),
-    Row("keys deleted beside a roll that lists all others", STATUS, 16_000, deletes_beside_listed),
-    Row("a listed reference of 1 MB, and other keys", STATUS, 16_000, long_reference_listed),
+    Row("rolls, and as many questions", NOTES, 8_000, rolls_with_questions, 4000),
+    Row("a reference of 1 MB, refused calls, one question", NOTES, 4_000, long_reference_noted, 10),
+    Row("published keys, refused calls, one question", NOTES, 16_000, published_noted, 8008, 2),
+    Row("notes of one kind, one question", NOTES, 32_000, notes_of_one_kind, 10),
+    Row("notes of one kind, and as many questions", NOTES, 8_000, notes_and_questions, 10, 2),
+    Row("scripts of ten lines, each with a question", NOTES, 32_000, zones, 10),
+    Row("rolls", STATUS, 32_000, rolls, 32_000),
+    Row("keys", STATUS, 32_000, lambda count: zone(adds("zsk", count)), 32_008),
+    Row("a roll in progress that lists all keys", STATUS, 32_000, listed, 32_015),
+    Row("a start that lists one key often", STATUS, 16_000, one_listed_often, 16_009),
+    Row("KSK rolls beside a ZSK roll that lists all keys", STATUS, 16_000, rolls_beside_listed,
+        12_015, 2),
+    Row("keys deleted beside a roll that lists all others", STATUS, 16_000, deletes_beside_listed,
+        16_015, 2),
+    Row("a listed reference of 1 MB, and other keys", STATUS, 16_000, long_reference_listed,
+        16_010),
 ]
 
 
@@ -211,45 +223,40 @@ SESSIONS = {
     "rolls of a ZSK, the KSK's reference has 100 KB": zsk_rolls_beside_long,
 }
 LINES = (1_000, 10_000, 100_000)
+# How many times as long a line may take after the most lines as after the fewest.
+SLOWER = 2
 
 
-def growths(figures):
-    """How the figures grow from one length to the next."""
-    return ", ".join(f"{math.log2(more / less):.2f}" for less, more in zip(figures, figures[1:]))
-
-
-def accepted(bench, text):
-    """How many calls of the first script the program `keyset` accepts."""
+def outcome(bench, program, text):
+    """How many calls of the first script the program `keyset` accepts, and the verdict."""
     script = text.partition("\n\n")[0].rstrip("\n")
     given = bench.script("script", f"{script}\n")
-    bench.run(str(PROGRAM), given)
-    return bench.outcome()[0]
+    bench.run(program, given)
+    return bench.outcome()
 
 
-def linked(bench, word):
+def linked(bench, built, word):
     """A link by whose name the program does what a word says."""
     link = Path(bench.path(f"keyset_{word}"))
     if not link.is_symlink():
-        link.symlink_to(PROGRAM)
+        link.symlink_to(built)
     return str(link)
 
 
-def cells(bench, row):
-    program = linked(bench, row.word)
-    instructions, memory = [], []
+def cells(bench, row, built, faults):
+    program, costs = linked(bench, built, row.word), []
     for count in (row.longest // 4, row.longest // 2, row.longest):
         text = row.make(count)
-        given = bench.script("input", text)
-        seconds, most = bench.least(program, given, RUNS)
-        instructions.append(bench.instructions(program, given))
-        memory.append(most)
-    yield row.name
-    yield f"{text.count(chr(10)):,}"
-    yield f"{accepted(bench, text):,}"
-    yield f"{seconds:.3f}"
-    yield growths(instructions)
-    yield f"{memory[-1]:.1f}"
-    yield growths(memory)
+        costs.append(bench.cost(program, bench.script("input", text), RUNS))
+    accepted, chain = outcome(bench, built, text)
+    name = f"{row.word}: {row.name}"
+    faults.expect(accepted == row.accepted, name, f"{accepted:,} calls accepted")
+    faults.expect(chain == "safe", name, f"the chain is {chain}")
+    faults.expect_growth(costs, row.growth, name)
+    faults.expect_memory(costs, 1, name)
+    yield from (row.name, f"{text.count(chr(10)):,}", f"{accepted:,}", chain)
+    yield from (costs[-1].time, shown(growths(costs)))
+    yield from (costs[-1].megabytes, shown(memory_growths(costs)))
 
 
 def table(heads, rows):
@@ -259,7 +266,7 @@ def table(heads, rows):
     print()
 
 
-def session_rows(bench, only):
+def session_rows(bench, only, faults):
     """The rows of sessions, by a program that `cc` makes."""
     program = bench.path("session_lines")
     flags = [f"-I{LIBRARY}/include", f"-L{LIBRARY}/lib", "-l:libkeyset.a"]
@@ -267,28 +274,39 @@ def session_rows(bench, only):
     subprocess.run(["cc", "-O2", "-o", program, source, *flags], check=True)
     for call in ("call", "accept"):
         for name, make in SESSIONS.items():
-            for count in LINES if only in name else ():
+            last = []
+            for count in LINES if re.search(only, name) else ():
                 text = make(count)
                 told = subprocess.run([program, call], input=text.encode(), capture_output=True,
                                       check=True).stdout.split()
                 times = [f"{float(each) / 1000:.1f}" for each in told[1:]]
+                last.append(float(told[2]))
                 lines = f"{text.count(chr(10)) - 1:,}"
                 yield [f"`keyset_{call}`: {name}", lines, f"{int(told[0]):,}", *times]
+            if last:
+                text = f"a line takes {last[-1] / last[0]:.1f} times as long after {lines} lines"
+                faults.expect(last[-1] <= SLOWER * last[0], f"keyset_{call}: {name}", text)
 
 
 def main():
     parser = argparse.ArgumentParser()
-    parser.add_argument("--only", default="", help="the rows whose names have this word")
-    only = parser.parse_args().only
+    parser.add_argument("--only", default="", help="the rows in whose names this pattern is")
+    parser.add_argument("program", nargs="?", default=str(BUILT))
+    given, faults = parser.parse_args(), Faults()
+    only, built = given.only, os.path.abspath(given.program)
     with Bench() as bench:
         for word in (NOTES, STATUS):
             print(f"`keyset {word}`:\n")
-            chosen = [row for row in ROWS if row.word == word and only in row.name]
-            table(["Script", "Lines", "Accepted", "Seconds", "Growth", "MB", "Growth"],
-                  (list(cells(bench, row)) for row in chosen))
-        table(["Lines of a session", "Lines", "Accepted", "First", "Last", "Slowest"],
-              session_rows(bench, only))
+            chosen = [row for row in ROWS if row.word == word and re.search(only, row.name)]
+            table(["Script", "Lines", "Accepted", "Chain", "Seconds", "Growth", "MB", "Growth"],
+                  (list(cells(bench, row, built, faults)) for row in chosen))
+        if (LIBRARY / "lib" / "libkeyset.a").is_file():
+            table(["Lines of a session", "Lines", "Accepted", "First", "Last", "Slowest"],
+                  session_rows(bench, only, faults))
+        else:
+            faults.expect(False, "sessions", "make lib makes their library")
+    return faults.status()
 
 
 if __name__ == "__main__":
-    main()
+    sys.exit(main())

@@ -6,8 +6,12 @@ Python, the library, and the programs that the command runs.
 The script gives a zone its first keys, and then rolls its ZSK again and again, with all notes: one
 a month for a hundred years is its longest. A word is run by the library, if `make lib` has made it,
 and by the programs that `make build notes` has made. Without words it measures check and draw.
+
+The last line has the exponent by which each column grows, from the second length to the last, less
+the start. It ends with status 1 if one grows faster than the lines.
 """
 
+import math
 import os
 import resource
 import subprocess
@@ -16,9 +20,10 @@ import tempfile
 from pathlib import Path
 
 TOP = Path(__file__).resolve().parent.parent
-sys.path.insert(0, str(TOP / "tests"))
+sys.path.append(str(TOP / "tests"))
 
 from lengths import course  # noqa: E402
+from programs import OF_SECONDS, Faults  # noqa: E402
 
 ROLLS = 0, 312, 625, 1250
 LIBRARY = TOP / "library" / "out" / "lib" / "libkeyset.so"
@@ -48,6 +53,7 @@ def main():
     columns = [f"`{word}` {by}" for by in libraries for word in words]
     print("| Lines | Notes |", " | ".join(columns), "|")
     print("|---" * (len(columns) + 2), end="|\n")
+    rows, faults = [], Faults()
     with tempfile.TemporaryDirectory() as folder:
         script = Path(folder, "example.com.script")
         for rolls in ROLLS:
@@ -55,9 +61,20 @@ def main():
             for file, text in ((script, lines), (script.with_suffix(".notes"), notes)):
                 file.write_text("".join(f"{line}\n" for line in text))
             found = [seconds(word, script, by) for by in libraries.values() for word in words]
+            rows.append(found)
             cells = [f"{len(lines):,}", f"{len(notes):,}", *(f"{it:.2f}" for it in found)]
             print("|", " | ".join(cells), "|", flush=True)
+    exponents = [growth(taken) for taken in zip(*rows)]
+    print("| growth | |", " | ".join(f"{it:.2f}" for it in exponents), "|")
+    for name, exponent in zip(columns, exponents):
+        faults.expect(exponent <= 1 + OF_SECONDS, name, f"it grows by {exponent:.2f}")
+    return faults.status()
+
+
+def growth(taken):
+    """The exponent of the seconds from the second length to the last, without the start."""
+    return math.log((taken[-1] - taken[0]) / (taken[1] - taken[0]), ROLLS[-1] / ROLLS[1])
 
 
 if __name__ == "__main__":
-    main()
+    sys.exit(main())

@@ -1,25 +1,32 @@
 """What scripts of some kinds cost the program, beside the original.
 
-    python3 bench/scripts.py crates/keyset/out/keyset [--original FOLDER]
+    python3 bench/scripts.py crates/keyset/out/keyset [--original FOLDER] [--only PATTERN]
 
-It prints the lines of a script. For each program it prints the instructions that it runs, as
-valgrind counts them, the least processor seconds of some runs, and the memory in MB; then the
-ratios of ours to the original's. The growth is that of our instructions from half the lines to all:
-1 if twice the lines take twice as many. The original keeps no record and judges none; both read the
-script and write all answers.
+It prints the lines of a script, how many are accepted, and the verdict. For each program it prints
+the instructions that it runs, as valgrind counts them, the least processor seconds of some runs,
+and the memory in MB; then the ratios of ours to the original's. The growth is that of our
+instructions from half the lines to all: 1 if twice the lines take twice as many. The original keeps
+no record and judges none; both read the script and write all answers.
 
-FOLDER has a `build.sh OUT`, which makes the original's program of the folder's `main.rs` and of the
-original's text. It is built again without its check of each answer by another call. FOLDER may also
-be a program, which is run as it is.
+FOLDER has a `build.sh OUT`, which makes the original's program of a driver and of the original's
+text: of `lean.rs`, which does as little work of its own as can be. FOLDER may also be a program.
+
+It ends with status 1, and says which, if a kind of script has lines refused that it doesn't name or
+a broken chain, grows faster than its lines, or takes more instructions than its limit allows: a
+share of the original's.
 """
 
 import argparse
 import math
+import re
+import sys
+from dataclasses import dataclass
+from typing import Callable
 
-from programs import Bench
+from programs import SLACK, Bench, Faults
 from successive_rolls import FIRST, script
 
-RUNS = 9
+RUNS = 3
 
 
 def rolls(pairs):
@@ -96,21 +103,33 @@ def crowded_rolls(pairs, keys, come=published):
     return "\n".join(lines[:first] + beside + lines[first:]) + "\n"
 
 
-# What a script repeats, how often, and what makes it.
+@dataclass(frozen=True)
+class Kind:
+    """What a script repeats, how often, and what makes it; which share of the original's
+    instructions it may take; and how many of its lines are refused."""
+
+    name: str
+    count: int
+    make: Callable
+    most: float
+    refused: int = 0
+
+
 KINDS = [
-    ("pairs of rolls on four keys", 8192, rolls),
-    ("setters on 4 keys", 65536, setters),
-    ("refused waits on 4 keys", 65536, waits),
-    ("setters on 1,000 keys", 2048, lambda count: setters(count, 1000)),
-    ("flag setters on 4 keys", 65536, flags),
-    ("flag setters on 1,000 keys", 2048, lambda count: flags(count, 1000)),
-    *(("keys, each set stale", count, stale) for count in (4, 64, 1024, 4096)),
-    ("adds", 4096, adds),
-    ("pairs of rolls beside 400 public keys", 256, lambda count: crowded_rolls(count, 400)),
-    *((f"pairs of rolls beside {keys:,} ZSKs in use", pairs,
-       lambda count, keys=keys: crowded_rolls(count, keys, put_in_use))
+    Kind("pairs of rolls on four keys", 8192, rolls, 1),
+    Kind("setters on 4 keys", 65536, setters, 1),
+    Kind("refused waits on 4 keys", 65536, waits, 0.8, refused=65536),
+    Kind("setters on 1,000 keys", 2048, lambda count: setters(count, 1000), 1),
+    Kind("flag setters on 4 keys", 65536, flags, 1.5),
+    Kind("flag setters on 1,000 keys", 2048, lambda count: flags(count, 1000), 1.5),
+    *(Kind("keys, each set stale", count, stale, 1) for count in (4, 64, 1024, 4096)),
+    Kind("adds", 4096, adds, 0.15),
+    Kind("pairs of rolls beside 400 public keys", 256, lambda count: crowded_rolls(count, 400), 1),
+    *(Kind(f"pairs of rolls beside {keys:,} ZSKs in use", pairs,
+           lambda count, keys=keys: crowded_rolls(count, keys, put_in_use), 1.1)
       for keys, pairs in ((16, 1024), (256, 256), (4096, 64))),
-    ("the same, in use by one start", 64, lambda count: crowded_rolls(count, 4096, rolled_in)),
+    Kind("the same, in use by one start", 64,
+         lambda count: crowded_rolls(count, 4096, rolled_in), 1.1),
 ]
 
 
@@ -121,32 +140,55 @@ def measure(bench, program, given):
 
 def cells(figures):
     """The figures of both programs, and the ratio."""
-    ratio = [f"{figures[0] / figures[1]:.1f}" if figures[1] else ""] if len(figures) == 2 else []
+    ratio = [f"{figures[0] / figures[1]:.2f}" if figures[1] else ""] if len(figures) == 2 else []
     return [f"{figure:,.2f}" for figure in figures] + ratio
+
+
+def expect(kind, faults, accepted, chain, lines, growth, instructions):
+    """What has to be so of a kind."""
+    name, wanted = f"{kind.count:,} {kind.name}", lines - 1 - kind.refused
+    faults.expect(accepted == wanted, name, f"{accepted:,} lines accepted, not {wanted:,}")
+    faults.expect(chain == "safe", name, f"the chain is {chain}")
+    faults.expect(growth <= 1 + SLACK, name, f"it grows by {growth:.2f}")
+    if len(instructions) == 2:
+        ratio = instructions[0] / instructions[1]
+        faults.expect(ratio <= kind.most, name, f"{ratio:.2f} of the original, not {kind.most}")
+
+
+def measured(bench, kind, programs, faults):
+    """The cells of a kind."""
+    text = kind.make(kind.count)
+    whole = bench.script("whole", text)
+    half = bench.script("half", kind.make(kind.count // 2))
+    found = [measure(bench, program, whole) for program in programs]
+    bench.run(programs[0], whole)
+    accepted, chain = bench.outcome()
+    growth = math.log2(found[0][0] * 1e6 / bench.instructions(programs[0], half))
+    expect(kind, faults, accepted, chain, text.count("\n"), growth, [it[0] for it in found])
+    yield from (f"{kind.count:,} {kind.name}", f"{text.count(chr(10)):,}", f"{accepted:,}", chain)
+    yield f"{growth:.2f}"
+    for figures in zip(*found):
+        yield from cells(figures)
 
 
 def main():
     parser = argparse.ArgumentParser()
     parser.add_argument("program")
     parser.add_argument("--original")
+    parser.add_argument("--only", default="", help="the kinds in whose names this pattern is")
     given = parser.parse_args()
-    heads = ["Script", "Lines", "Growth"]
+    heads = ["Script", "Lines", "Accepted", "Chain", "Growth"]
     for unit in ("Million instructions", "Seconds", "MB"):
         heads += [unit, "Original", "Ratio"] if given.original else [unit]
     print(f"| {' | '.join(heads)} |\n|{'---|' * len(heads)}", flush=True)
+    faults = Faults()
     with Bench() as bench:
         programs = bench.programs(given.program, given.original)
-        for kind, number, make in KINDS:
-            whole = bench.script("whole", make(number))
-            half = bench.script("half", make(number // 2))
-            measured = [measure(bench, program, whole) for program in programs]
-            growth = math.log2(measured[0][0] * 1e6 / bench.instructions(programs[0], half))
-            lines = make(number).count("\n")
-            row = [f"{number:,} {kind}", f"{lines:,}", f"{growth:.2f}"]
-            for figures in zip(*measured):
-                row += cells(figures)
-            print(f"| {' | '.join(row)} |", flush=True)
+        for kind in KINDS:
+            if re.search(given.only, kind.name):
+                print(f"| {' | '.join(measured(bench, kind, programs, faults))} |", flush=True)
+    return faults.status()
 
 
 if __name__ == "__main__":
-    main()
+    sys.exit(main())

@@ -1,27 +1,41 @@
 """What the worst scripts that we know cost, beside the original.
 
-    python3 bench/worst.py crates/keyset/out/keyset [--original FOLDER] [--only WORD] [--long]
+    python3 bench/worst.py crates/keyset/out/keyset [--original FOLDER] [--only PATTERN] [--long]
 
 Each row has a script in which one length that a user controls is long. A row prints the script's
-lines, how many of them are accepted, the verdict, the least processor seconds of some runs, their
-growth from half the lines (1 if twice the lines take twice as long; only if there is enough to
-measure), the greatest memory in MB, and the memory's growth. It prints the same of the original,
-which keeps no record and judges none; then the row's bound, as README says it. The original has no
-cells for a script with `abort`, which it lacks. `--long` adds the rows that take a minute or more.
-`FOLDER` is that of `bench/scripts.py`.
+lines, how many of them are accepted, the verdict, and the least processor seconds of some runs; how
+the cost grows from a quarter of the length to its half, and from that to the whole (1 if twice the
+lines cost twice as much: by instructions, as valgrind counts them, or by seconds if a run takes
+long); the greatest memory in MB, and its growth; and the row's bound, as results.txt says it.
+`--original` adds the seconds and the memory of the original, and the ratio of both costs. The
+original keeps no record and judges none. It has no cells for a script with `abort`, which it lacks.
+`--long` adds the rows that take a minute or more. `FOLDER` is that of `bench/scripts.py`.
+
+A run that takes more than twenty seconds is ended.
+
+It ends with status 1, and says which, if a row is ended, has another number of accepted lines or
+another verdict than it names, or takes a tenth of a second or more at 10,000 lines (the square of
+that beyond); if its cost grows faster than the square, or its memory faster than the lines; or if
+it costs more than ten times as much as the original.
 """
 
 import argparse
 import math
+import re
+import sys
+from dataclasses import dataclass
+from typing import Callable
 
-from programs import Bench
+from programs import MOST_SECONDS, Bench, Faults, growths, memory_growths, shown
 from scripts import crowded_rolls, put_in_use, rolled_in
 from successive_rolls import FIRST, script
 
 RUNS = 3
-# Less than this is mostly the program's start, and shows no growth.
-LEAST_SECONDS, LEAST_MEMORY = 0.03, 4
 TTL = 4294967295
+# The limits of each row: what time and memory grow by, how many times the original's cost it takes,
+# and how many seconds so many lines take.
+GROWTH, MEMORY, RATIO = 2, 1, 10
+SECONDS, LINES = 0.1, 10_000
 
 
 def lines(*parts):
@@ -94,6 +108,17 @@ def in_use(count, keys=2000):
     return lines(adds, shown, turns)
 
 
+def in_use_by_a_roll(count):
+    """A roll brings many keys into use, and one key beside them leaves and comes back."""
+    names = [f"A{i}" for i in range(count // 5)]
+    keys = [f"add-zsk {name} - 13 {i + 10} 150 yes" for i, name in enumerate(names)]
+    begun = ["add-public P 13 2 150 yes", f"start zsk-roll Z0 {','.join(names)} 200",
+             "report1 zsk-roll 60 200", "wait1 zsk-roll 260", "report2 zsk-roll 60 260",
+             "wait2 zsk-roll 320", "done zsk-roll"]
+    turns = (f"set-present P {'no' if i % 2 else 'yes'} 400" for i in range(count - len(names)))
+    return lines(keys, begun, turns)
+
+
 def published(count):
     """Keys of another signer are published one by one."""
     return lines(
@@ -123,33 +148,36 @@ def long_reference_beside(count, size=1_000_000):
 
 def never_over(count):
     """Reports that are never over, each with a later end and a higher base. The stamps are set by
-    hand, so that no wait is refused."""
+    hand, so that no wait is refused; and a key that never leaves has the chain hold."""
+    first = FIRST.replace("start", "add-zsk A - 13 65000 0 yes\nstart").replace(",Z0", ",A,Z0")
     turns, now = [], 2 * TTL
-    for i in range(count // 10):
-        old, new, now = f"Z{i}", f"Z{i + 1}", now + 1
+    for i in range(count // 12):
+        old, new, now = f"Z{i % 2}", f"Z{1 - i % 2}", now + 1
         turns += [
-            f"add-zsk {new} - 13 {i % 60000 + 2} 150 yes", f"start zsk-roll {old} {new} {now}",
-            f"report1 zsk-roll {TTL} {now}", f"set-visible {new} 0", f"wait1 zsk-roll {now}",
-            f"report2 zsk-roll {TTL} {now}", f"set-rrsig-visible {new} 0",
-            f"wait2 zsk-roll {now}", "done zsk-roll", f"delete {old}",
+            f"add-zsk {new} - 13 {2 - i % 2} 150 yes", f"start zsk-roll {old} {new} {now}",
+            f"report1 zsk-roll {TTL} {now}", f"set-visible {new} 0", "set-visible A 0",
+            f"wait1 zsk-roll {now}", f"report2 zsk-roll {TTL} {now}",
+            f"set-rrsig-visible {new} 0", "set-rrsig-visible A 0", f"wait2 zsk-roll {now}",
+            "done zsk-roll", f"delete {old}",
         ]
-    return lines(turns)
+    return first + "".join(f"{line}\n" for line in turns)
 
 
-def anchors(count):
-    """Each DS set holds by one of two keys in turn, which come last in the order of the keys. Then
-    come new DNSKEY sets."""
-    third = count // 7
-    names = [f"a{i:05}" for i in range(third)]
-    keys = [f"add-ksk {name} - 13 {i + 2} 150 yes" for i, name in enumerate([*names, "zA", "zB"])]
-    use = [line for name in ("zA", "zB") for line in (
-        f"set-present {name} yes 160", f"set-signer {name} yes", f"set-at-parent {name} yes",
+def anchors(count, turn=2, has_signers=False):
+    """Each DS set holds by one or two of so many keys in turn, which come last in the order of the
+    keys. Then come new DNSKEY sets. If there are signers, as many other keys sign these."""
+    part = count // (9 if has_signers else 6)
+    names, last = [f"a{i:05}" for i in range(part)], [f"z{i}" for i in range(turn)]
+    signers = [f"b{i:05}" for i in range(part if has_signers else 0)] + last
+    keys = [f"add-ksk {name} - 13 {i + 2} 150 yes" for i, name in enumerate([*names, *signers])]
+    use = [line for name in signers
+           for line in (f"set-present {name} yes 160", f"set-signer {name} yes")]
+    parent = [f"set-at-parent {last[0]} yes"]
+    parent += [line for i, name in enumerate(names) for line in (
+        f"set-at-parent {name} yes", f"set-at-parent {last[(i + 1) % turn]} yes",
+        f"set-at-parent {last[i % turn]} no",
     )]
-    parent = [line for i, name in enumerate(names) for line in (
-        f"set-at-parent {name} yes", f"set-at-parent {'zA' if i % 2 else 'zB'} no",
-        f"set-at-parent {'zA' if i % 2 else 'zB'} yes",
-    )]
-    public = [line for i in range(third) for line in (
+    public = [line for i in range(part) for line in (
         f"add-public p{i} 13 {i + 10000} 150 yes", f"set-present p{i} yes 160",
     )]
     return lines(keys, use, parent, public)
@@ -195,7 +223,7 @@ def gray(names, line):
 def retired(count):
     """DNSKEY sets, no two the same, which a report retires; then rolls."""
     names = [f"P{i}" for i in range((count // 2).bit_length() - 1)]
-    keys = [f"add-public {name} 13 {i + 2} 150 yes" for i, name in enumerate(names)]
+    keys = [f"add-public {name} 13 {i + 60010} 150 yes" for i, name in enumerate(names)]
     return lines(keys, gray(names, "set-present {} {} 160")) + script(count // 2)[len(FIRST):]
 
 
@@ -303,12 +331,19 @@ def line_feeds(count):
     return b"\n" * count
 
 
+@dataclass(frozen=True)
 class Row:
-    """A script with so many lines or keys, and the bounds of its time and its memory."""
+    """A script by its length, the bounds of its time and its memory, how many of its lines are
+    refused, and its verdict."""
 
-    def __init__(self, name, count, make, bound, long=False, status=0):
-        self.name, self.count, self.make, self.bound = name, count, make, bound
-        self.long, self.status = long, status
+    name: str
+    count: int
+    make: Callable
+    bound: str
+    refused: int = 0
+    chain: str = "safe"
+    status: int = 0
+    is_long: bool = False
 
 
 ROWS = [
@@ -318,22 +353,29 @@ ROWS = [
     Row("no two sets the same", 8192, subsets, "lines²; lines · keys in use"),
     Row("2,000 keys in use, one toggled", 2048, in_use,
         "lines², by the first 4,000; lines · keys"),
+    Row("8,000 keys in use, one toggled", 40000, in_use_by_a_roll, "lines · keys"),
     Row("public keys published one by one", 4096, published, "lines²; lines · keys"),
     Row("a reference of 1 MB, others published", 512, long_reference, "lines², and the reference"),
     Row("a reference of 1 MB, another toggled", 1024, long_reference_beside,
         "lines, and the reference"),
-    Row("reports that are never over", 8192, never_over, "lines; lines"),
-    Row("DS sets that hold by two keys in turn", 3500, anchors, "lines² · keys"),
-    Row("equal sums of positions", 8000, equal_sums, "lines² · keys"),
-    Row("the same beside a reference of 1 MB", 1500,
+    Row("reports that are never over", 40000, never_over, "lines · reports; lines"),
+    Row("DS sets that hold by two keys in turn", 3516, anchors, "lines² · keys"),
+    Row("DS sets that hold by three keys in turn", 3516, lambda count: anchors(count, 3),
+        "lines² · keys"),
+    Row("the same beside many signers", 3600, lambda count: anchors(count, 3, True),
+        "lines² · keys"),
+    Row("equal sums of positions", 16000, equal_sums, "lines² · keys"),
+    Row("equal sums beside a reference of 1 MB", 4000,
         lambda count: equal_sums(count, 0, 1_000_000), "lines² · bytes of the reference"),
-    Row("two sets of each kind in turn, then broken", 16384, two_sets, "lines²"),
-    Row("sets that were retired, then rolls", 32768, retired, "lines · sets retired"),
+    Row("two sets of each kind in turn, then broken", 32768, two_sets, "lines²", chain="broken"),
+    Row("sets that were retired, then rolls", 65536, retired, "lines · sets retired"),
     Row("sets before the first DS", 8192, first_ds_last, "lines³"),
-    Row("waits of two rolls in turn", 24000, two_rolls_waits, "lines · keys"),
-    Row("a stamp by hand, then a refused wait", 24000, waits_after_stamps, "lines · keys"),
-    Row("broken at once, then keys published", 4096, broken_first, "lines²; lines"),
-    Row("no two sets the same, broken at last", 8192, broken_last, "lines²"),
+    Row("waits of two rolls in turn", 24096, two_rolls_waits, "lines · keys", refused=20080),
+    Row("a stamp by hand, then a refused wait", 24096, waits_after_stamps, "lines · keys",
+        refused=10040),
+    Row("broken at once, then keys published", 4096, broken_first, "lines²; lines",
+        chain="broken"),
+    Row("no two sets the same, broken at last", 8192, broken_last, "lines²", chain="broken"),
     Row("65,536 keys", 65534, adds, "lines"),
     Row("rolls from many keys to many", 65532, long_lists, "lines"),
     Row("set-stale of unpublished keys", 8192, stale, "lines"),
@@ -343,48 +385,69 @@ ROWS = [
     Row("the same, in use by one start", 4096, lambda count: crowded_rolls(32, count, rolled_in),
         "keys"),
     Row("10,000 references of one hash", 10000, colliding, "lines²; lines"),
-    Row("40,000 references of one hash", 40000, colliding, "lines²; lines", long=True),
-    Row("100 MB of line feeds", 100_000_000, line_feeds, "bytes", status=1),
+    Row("40,000 references of one hash", 40000, colliding, "lines²; lines", is_long=True),
+    Row("100 MB of line feeds", 100_000_000, line_feeds, "bytes", chain="", status=1),
 ]
 
 
-def growth(whole, half, least):
-    return f"{math.log2(whole / half):.2f}" if half >= least else ""
+def expect(row, faults, lines, outcome, costs, original):
+    """What has to be so of a row."""
+    seconds, (accepted, chain) = costs[-1].seconds, outcome
+    if seconds == math.inf:
+        faults.expect(False, row.name, f"it was ended after {MOST_SECONDS} seconds")
+        return
+    wanted = 0 if row.status else lines - 1 - row.refused
+    faults.expect(accepted == wanted, row.name, f"{accepted:,} lines accepted, not {wanted:,}")
+    faults.expect(chain == row.chain, row.name, f"the chain is {chain}")
+    most = SECONDS * max(1, lines / LINES) ** 2
+    faults.expect(seconds < most, row.name, f"{seconds:.3f} seconds, not less than {most:.3f}")
+    faults.expect_growth(costs, GROWTH, row.name)
+    faults.expect_memory(costs, MEMORY, row.name)
+    if original:
+        ratio = costs[-1].to(original)
+        faults.expect(ratio <= RATIO, row.name, f"{ratio:.1f} times the original's cost")
+
+
+def measured(bench, row, programs, faults):
+    """The cells of a row."""
+    costs = []
+    for part in (4, 2, 1):
+        text = row.make(row.count // part)
+        given = bench.script("script", text)
+        costs.append(bench.cost(programs[0], given, RUNS, row.status))
+    outcome = bench.outcome()
+    count = text.count(b"\n" if isinstance(text, bytes) else "\n")
+    of_original = [bench.cost(it, given, RUNS, row.status) for it in programs[1:]]
+    expect(row, faults, count, outcome, costs, next(iter(of_original), None))
+    is_ended = costs[-1].seconds == math.inf
+    yield from (row.name, f"{count:,}")
+    yield from ("", "") if is_ended else (f"{outcome[0]:,}", outcome[1])
+    yield from (costs[-1].time, shown(growths(costs)))
+    yield from (costs[-1].megabytes, shown(memory_growths(costs)))
+    for cost in of_original:
+        yield from (cost.time, cost.megabytes, costs[-1].ratio(cost)) if cost else [""] * 3
+    yield row.bound
 
 
 def main():
     parser = argparse.ArgumentParser()
     parser.add_argument("program")
     parser.add_argument("--original")
-    parser.add_argument("--only")
+    parser.add_argument("--only", default="", help="the rows in whose names this pattern is")
     parser.add_argument("--long", action="store_true")
     given = parser.parse_args()
     heads = ["Script", "Lines", "Accepted", "Chain", "Seconds", "Growth", "MB", "Growth"]
-    heads += ["Original: seconds", "MB"] if given.original else []
+    heads += ["Original: seconds", "MB", "Ratio"] if given.original else []
     heads += ["Bound: time; memory"]
     print(f"| {' | '.join(heads)} |\n|{'---|' * len(heads)}", flush=True)
+    faults = Faults()
     with Bench() as bench:
-        ours, *originals = bench.programs(given.program, given.original)
+        programs = bench.programs(given.program, given.original)
         for row in ROWS:
-            if row.long and not given.long or given.only and given.only not in row.name:
-                continue
-            text = row.make(row.count)
-            whole = bench.script("whole", text)
-            half = bench.script("half", row.make(row.count // 2))
-            seconds, memory = bench.least(ours, whole, RUNS, row.status)
-            accepted, chain = bench.outcome()
-            before = bench.least(ours, half, RUNS, row.status)
-            count = text.count(b"\n" if isinstance(text, bytes) else "\n")
-            cells = [
-                row.name, f"{count:,}", f"{accepted:,}", chain, f"{seconds:.3f}",
-                growth(seconds, before[0], LEAST_SECONDS), f"{memory:.1f}",
-                growth(memory, before[1], LEAST_MEMORY),
-            ]
-            for original in originals:
-                taken = bench.least(original, whole, RUNS, row.status)
-                cells += [f"{taken[0]:.3f}", f"{taken[1]:.1f}"] if taken else ["", ""]
-            print(f"| {' | '.join([*cells, row.bound])} |", flush=True)
+            if (given.long or not row.is_long) and re.search(given.only, row.name):
+                print(f"| {' | '.join(measured(bench, row, programs, faults))} |", flush=True)
+    return faults.status()
 
 
 if __name__ == "__main__":
-    main()
+    sys.exit(main())
