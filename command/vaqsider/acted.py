@@ -10,12 +10,12 @@ from .act import Act
 from .signers import Version
 
 
-def planned(args: Namespace, act: Act, version: Version) -> tuple[Iterator[str], dict]:
+def planned(args: Namespace, act: Act, version: Version) -> tuple[Iterator[str], dict[str, object]]:
     """What would be done."""
     return _steps(args, act, version), _value(args, act, version)
 
 
-def done(args: Namespace, act: Act, version: Version) -> tuple[list[str], dict]:
+def done(args: Namespace, act: Act, version: Version) -> tuple[list[str], dict[str, object]]:
     """What was done, and what is left to do at the parent."""
     text = [version.done(), *_notices(act, version)]
     if act.changes_ds:
@@ -42,7 +42,7 @@ def _notices(act: Act, version: Version) -> Iterator[str]:
             "the DS set"
 
 
-def _value(args: Namespace, act: Act, version: Version) -> dict:
+def _value(args: Namespace, act: Act, version: Version) -> dict[str, object]:
     reload = [["sh", "-c", args.reload]] if args.reload else []
     commands = [signing.shown(words) for words in [*version.commands(), *reload]]
     return {**version.value(commands), "ds": act.ds()}

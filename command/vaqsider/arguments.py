@@ -1,9 +1,12 @@
 """How arguments of the command line are read. What can't be is refused by its name."""
 
+from __future__ import annotations
+
 import argparse
 import os
 import time
 from pathlib import Path
+from typing import Callable, Iterable
 
 from .errors import Failure
 
@@ -11,8 +14,10 @@ from .errors import Failure
 MOST, LAST = 2**32 - 1, 10**11
 
 
-def _between(least, most, kind=int):
-    def read(text):
+def _between(
+    least: float, most: float, kind: Callable[[str], float] = int
+) -> Callable[[str], float]:
+    def read(text: str) -> float:
         try:
             if least <= (value := kind(text)) <= most:
                 return value
@@ -27,7 +32,7 @@ number, port = _between(0, MOST), _between(1, 65535)
 span, moment = _between(0, MOST, float), _between(0, LAST, float)
 
 
-def clock():
+def clock() -> float:
     """The present moment, in seconds. VAQSIDER_NOW stands in for the clock."""
     try:
         given = os.environ.get("VAQSIDER_NOW")
@@ -36,7 +41,7 @@ def clock():
         raise Failure(f"VAQSIDER_NOW: {error}") from None
 
 
-def words(text):
+def words(text: str) -> tuple[str, ...]:
     """A command, as a shell would quote it."""
     from . import policies
 
@@ -46,7 +51,7 @@ def words(text):
         raise argparse.ArgumentTypeError(f"it has to be {error}") from None
 
 
-def expect_other(out, script):
+def expect_other(out: str | Path, script: str | Path) -> None:
     """A file to write may not be one of the script's own."""
     own = [Path(script).with_suffix(suffix) for suffix in (".notes", ".look", ".act")]
     for path in (Path(script), *own):
@@ -55,12 +60,12 @@ def expect_other(out, script):
             raise Failure(f"{out} is one of the script's own files: choose another --out")
 
 
-def not_utf8(words):
+def not_utf8(words: Iterable[str]) -> str | None:
     """The first of these words that isn't UTF-8."""
     return next((word for word in words if any("\udc80" <= it <= "\udcff" for it in word)), None)
 
 
-def file_name(zone):
+def file_name(zone: str) -> str:
     """What files of a zone are called. What BIND's tools don't write into a file name is `%` and
     the number of the character, as in `0%2F25.2.0.192.in-addr.arpa`."""
     name = zone.rstrip(".") or "root"

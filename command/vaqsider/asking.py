@@ -6,6 +6,7 @@ from __future__ import annotations
 import sys
 from concurrent.futures import ThreadPoolExecutor
 from dataclasses import dataclass, replace
+from typing import Any, Callable, Collection, Iterable, TypeVar
 
 from .errors import UNAVAILABLE, Failure
 
@@ -30,6 +31,10 @@ except ImportError as error:
     text = f"{package} is missing for {sys.executable}: install it to ask servers"
     raise Failure(text, UNAVAILABLE) from None
 
+# The data of a record. dnspython has a class for each type, whose members are those of that type.
+Record = Any
+Item = TypeVar("Item")
+Given = TypeVar("Given")
 # How long to wait for one answer, how often to ask, and the largest answer over UDP.
 SECONDS, TRIES, PAYLOAD = 2, 2, 1232
 # At most so many servers are asked at once.
@@ -58,18 +63,18 @@ class Answer:
     there are no records, the TTL is that of the answer that says so."""
 
     fault: str = ""
-    records: tuple = ()
-    signatures: tuple = ()
+    records: tuple[Record, ...] = ()
+    signatures: tuple[Record, ...] = ()
     ttl: int = 0
 
 
-def exchange(query, address: str, port: int):
+def exchange(query: dns.message.Message, address: str, port: int) -> dns.message.Message:
     """The response of a server: over UDP, and over TCP after truncation."""
     how = {"ignore_unexpected": True, "one_rr_per_rrset": True}
     return dns.query.udp_with_fallback(query, address, timeout=SECONDS, port=port, **how)[0]
 
 
-def respond(server: Server, port: int, zone: str, kind: str):
+def respond(server: Server, port: int, zone: str, kind: str) -> dns.message.Message | str:
     """The response of a server to a question that asks for no recursion, or a fault in words."""
     if server.fault:
         return server.fault
@@ -111,14 +116,14 @@ def ask(server: Server, port: int, zone: str, kind: str) -> Answer:
     return Answer("", data, signatures, max(ttls, default=0))
 
 
-def _of(section, zone: str, kind: str) -> list:
+def _of(section: Iterable[dns.rrset.RRset], zone: str, kind: str) -> list[tuple[int, Record]]:
     """The records of this owner, class and type in a section, each with its TTL."""
     name, of_kind = dns.name.from_text(zone), dns.rdatatype.from_text(kind)
     is_in = (name, dns.rdataclass.IN, of_kind)
     return [(it.ttl, it[0]) for it in section if (it.name, it.rdclass, it.rdtype) == is_in]
 
 
-def side_by_side(function, items) -> list:
+def side_by_side(function: Callable[[Item], Given], items: Iterable[Item]) -> list[Given]:
     """What a function gives for each of these, asked at the same time."""
     items = list(items)
     if len(items) < 2:
@@ -136,7 +141,7 @@ def by_name(names: list[str]) -> list[Server]:
     return [server for servers in found for server in servers]
 
 
-def look_up(name: str, kind: str) -> list | None:
+def look_up(name: str, kind: str) -> list[Record] | None:
     """What the system's resolver finds, or None if it fails."""
     try:
         return list(dns.resolver.resolve(name, kind, search=False, lifetime=2 * SECONDS))
@@ -156,7 +161,7 @@ def addresses_of(name: str) -> list[Server]:
     return servers or [Server(name, "", "no address")]
 
 
-def with_addresses(names) -> list[Server]:
+def with_addresses(names: Iterable[str]) -> list[Server]:
     return sorted({server for of in side_by_side(addresses_of, names) for server in of})
 
 
@@ -181,13 +186,14 @@ def of_zone(zone: str, parents: list[Server], port: int) -> list[Server]:
     """The servers of a zone: those that the servers of the parent name, and those that the zone's
     own servers name. If the parent names none, it begins with what the resolver finds, and says
     that the parent's are lacking."""
-    def named(servers):
+    def named(servers: Iterable[Server]) -> set[str]:
         found = side_by_side(lambda server: named_by(server, port, zone), sorted(servers))
         return set().union(*found)
 
     names = named(parents)
     lacking = [] if names or not zone.strip(".") else _naming_none(zone, parents)
     names = names or set(map(_target, look_up(zone, "NS") or ()))
+    asked: set[Server]
     found, asked = set(with_addresses(names)), set()
     while new := found - asked:
         asked |= new
@@ -212,5 +218,5 @@ def named_by(server: Server, port: int, zone: str) -> set[str]:
     return {_target(data) for _, data in records}
 
 
-def _target(data) -> str:
+def _target(data: Record) -> str:
     return data.target.to_text(omit_final_dot=True)

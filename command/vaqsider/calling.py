@@ -1,8 +1,12 @@
 """One call: it takes the clock for `now`, looks for what can't be true, and has the line on disk
 before it prints anything to act on. Also the first lines of a script."""
 
+from __future__ import annotations
+
 import math
 import time
+from pathlib import Path
+from typing import TYPE_CHECKING, Iterator, Sequence, cast
 
 import keyset
 from keyset import Damaged, Locked, Malformed, Notes, lines as forms, locked
@@ -12,11 +16,17 @@ from . import check, keyfiles, shortnames, status, words
 from .errors import BROKEN, DUE, OK, USAGE, WARNING, Failure
 from .history import REFUSED, History
 
+if TYPE_CHECKING:
+    from .ending import Clock
+    from .keyfiles import KeyFile
+
 
 class Made:
     """The outcome of a call: its answer, what can't be true of it, and whether it was kept."""
 
-    def __init__(self, line, reply, published):
+    doubts: list[str]
+
+    def __init__(self, line: str, reply: str, published: dict[str, list[str]]) -> None:
         is_refused = reply.startswith(REFUSED)
         self.line, self.reply, self.published = line, reply, published
         self.refused = reply[len(REFUSED) :] if is_refused else None
@@ -24,10 +34,10 @@ class Made:
         self.doubts, self.kept = [], False
 
     @property
-    def status(self):
+    def status(self) -> int:
         return DUE if self.refused else WARNING if self.doubts and not self.kept else OK
 
-    def text(self):
+    def text(self) -> Iterator[str]:
         """For people: the line with its answer, and what to do."""
         yield f"{self.line}: {self.reply}"
         yield from (f"  {doubt}" for doubt in self.doubts)
@@ -40,7 +50,8 @@ class Made:
             yield f"  the line was not kept{although}"
 
 
-def call(path, text, clock, although=False, dry_run=False, known=None):
+def call(path: str | Path, text: str, clock: Clock, although: bool = False,
+         dry_run: bool = False, known: list[str] | None = None) -> Made:
     """Makes a call on the script, and keeps its line if it is accepted. Who made the line by what
     the script had, says which lines it knows: with others it may be false."""
     with locked(path) as file:
@@ -62,7 +73,7 @@ def call(path, text, clock, although=False, dry_run=False, known=None):
         return made
 
 
-def _history(path, lines):
+def _history(path: str | Path, lines: list[str]) -> History:
     """The history of a script and of the line of a call, which is the last one."""
     try:
         history = History(lines)
@@ -75,7 +86,7 @@ def _history(path, lines):
     return history
 
 
-def completed(text, clock):
+def completed(text: str, clock: Clock) -> str:
     """The line of a call, with the key of the file that `add FILE` or `add-csk FILE` names, and a
     reference of its private half if that comes too; and with the moment for `now`. A report is made
     once the clock has reached its moment."""
@@ -86,16 +97,19 @@ def completed(text, clock):
         return keyfiles.read(fields[0]).line(word == "add-csk", *fields[1:])
     line = forms.at(text, clock())
     if line != text:
-        reach(forms.Line(line).moment, clock)
+        # (It has a moment, as it has had a `now`.)
+        reach(cast(int, forms.Line(line).moment), clock)
     return line
 
 
-def reach(moment, clock):
+def reach(moment: int, clock: Clock) -> None:
     """Returns once the clock has reached a moment that was rounded up."""
     time.sleep(max(0, moment - clock()))
 
 
-def first_lines(zone, added, moment):
+def first_lines(
+    zone: str, added: Sequence[tuple[KeyFile, str]], moment: int | None
+) -> list[str]:
     """The first lines of a zone's script, with the keys of files, each with the line that adds it.
     If the zone is signed already, the keys come in at this moment."""
     for file, _ in added:
@@ -115,7 +129,7 @@ def first_lines(zone, added, moment):
     return lines
 
 
-def begin(path, lines, before):
+def begin(path: str | Path, lines: Sequence[str], before: Sequence[int] | None) -> None:
     """Makes a script with these lines, and its notes with the TTLs before."""
     if before:
         Notes.create(path, before)

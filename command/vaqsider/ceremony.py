@@ -12,7 +12,7 @@ import struct
 from argparse import Namespace
 from dataclasses import asdict, dataclass
 from pathlib import Path
-from typing import Iterable, Iterator
+from typing import TYPE_CHECKING, Any, Iterable, Iterator, Mapping, TypedDict, cast
 
 import dns.dnssec
 import dns.exception
@@ -27,6 +27,9 @@ from keyset import Notes
 from . import keyfiles, place, plan, status, zonefile
 from .errors import USAGE, WARNING, Failure
 from .zonefile import By, Row, parsed
+
+if TYPE_CHECKING:
+    from keyset import Status
 
 IN, DNSKEY = dns.rdataclass.IN, dns.rdatatype.DNSKEY
 # From how long before their first moment signatures are valid, in seconds, and their file's suffix.
@@ -53,16 +56,25 @@ class Asked:
     def rrsig(self, signature: bytes = b"") -> RRSIG:
         """The record that has this signature."""
         name = dns.name.from_text(self.zone).canonicalize()
-        return RRSIG(IN, dns.rdatatype.RRSIG, DNSKEY, self.algorithm, len(name) - 1, self.ttl,
-                     self.expiration, self.inception, self.tag, name, signature)
+        return RRSIG(  # type: ignore[no-untyped-call]  # dnspython gives it no types
+            IN, dns.rdatatype.RRSIG, DNSKEY, self.algorithm, len(name) - 1, self.ttl,
+            self.expiration, self.inception, self.tag, name, signature)
 
     def signs(self) -> bytes:
         """What the signature is of: its record without it, and the records in canonical order."""
         rrset = self.rrset()
-        head = rrset.name.canonicalize().to_wire() + struct.pack("!HHI", DNSKEY, IN, self.ttl)
+        # (A name gives bytes, unless it writes them to a file.)
+        head = cast(bytes, rrset.name.canonicalize().to_wire()) + struct.pack(
+            "!HHI", DNSKEY, IN, self.ttl)
         wires = sorted(record.to_digestable() for record in rrset)
         return self.rrsig().to_digestable() + b"".join(
             head + struct.pack("!H", len(wire)) + wire for wire in wires)
+
+
+class Written(TypedDict):
+    """What a ceremony writes."""
+
+    signatures: list[dict[str, object]]
 
 
 @dataclass(frozen=True)
@@ -75,7 +87,7 @@ class While:
     end: int
 
 
-def whiles(lines: list[str], told: dict, args: Namespace, now: int) -> list[While]:
+def whiles(lines: list[str], told: Status, args: Namespace, now: int) -> list[While]:
     """The sets of the time that is asked for: the one that is due, and those of planned rolls."""
     assumed = plan.assumed(args.SCRIPT, args.ttls, args.delays, now)
     made = plan.Plan(lines, now, *assumed)
@@ -148,7 +160,7 @@ def _of(one: While, files: Files, origin: str, args: Namespace) -> Iterator[Aske
                             records)
 
 
-def written(made: Iterable[Asked]) -> dict:
+def written(made: Iterable[Asked]) -> Written:
     """What is written, with an empty place for each signature."""
     return {"signatures": [
         {**asdict(it), "signs": base64.b64encode(it.signs()).decode(), "signature": ""}
@@ -179,11 +191,11 @@ def take(args: Namespace, now: int) -> list[Row]:
     return new
 
 
-def _told(path: str) -> list[dict]:
+def _told(path: str) -> list[dict[str, Any]]:
     return json.loads(Path(path).read_text(encoding="utf-8"))["signatures"]
 
 
-def _taken(told: dict, number: int, origin: str, files: Files) -> Row:
+def _taken(told: Mapping[str, Any], number: int, origin: str, files: Files) -> Row:
     """The record of a signature, which is right by the key file that its key names."""
     one = Asked(**{name: told[name] for name in Asked.__dataclass_fields__})
     file = files[one.key]
@@ -191,7 +203,8 @@ def _taken(told: dict, number: int, origin: str, files: Files) -> Row:
     name = dns.name.from_text(origin)
     keys = {name: dns.rrset.from_rdata(name, one.ttl, parsed("DNSKEY", file.data))}
     try:
-        dns.dnssec.validate_rrsig(one.rrset(), rrsig, keys, now=one.inception)
+        dns.dnssec.validate_rrsig(  # type: ignore[no-untyped-call]  # dnspython gives no types
+            one.rrset(), rrsig, keys, now=one.inception)
     except dns.exception.DNSException as error:
         text = f"signature {number}, by {one.key}, isn't right: {error}"
         raise Failure(text, WARNING) from None
@@ -235,7 +248,8 @@ def fits(row: Row, due: dns.rrset.RRset, file: keyfiles.KeyFile, now: float) -> 
         return False
     keys = {due.name: dns.rrset.from_rdata(due.name, due.ttl, parsed("DNSKEY", file.data))}
     try:
-        dns.dnssec.validate_rrsig(due, rrsig, keys, now=now)
+        dns.dnssec.validate_rrsig(  # type: ignore[no-untyped-call]  # dnspython gives no types
+            due, rrsig, keys, now=now)
         return True
     except dns.exception.DNSException:
         return False

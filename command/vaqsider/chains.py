@@ -3,10 +3,10 @@ from another server."""
 
 from __future__ import annotations
 
-from collections.abc import Iterator
+from collections.abc import Iterable, Iterator
 
 from . import comparing
-from .asking import Answer, Server, dns
+from .asking import Answer, Record, Server, dns
 from .looking import Look
 
 
@@ -34,7 +34,7 @@ def _different(look: Look, kind: str) -> dict[Server, Answer]:
     return dict(sorted(found.values(), key=lambda it: it[0]))
 
 
-def _usable(look: Look, ds: Answer) -> list:
+def _usable(look: Look, ds: Answer) -> list[Record]:
     """The DS records that a validator can go by: without one the zone counts as unsigned."""
     return [it for it in ds.records if it.digest_type in comparing.DIGESTS]
 
@@ -46,7 +46,7 @@ def _is_linked(look: Look, ds: Answer, keys: Answer) -> bool:
     return _is_signed(look, keys, named)
 
 
-def _is_signed(look: Look, answer: Answer, keys) -> bool:
+def _is_signed(look: Look, answer: Answer, keys: Iterable[Record]) -> bool:
     """Whether one of these keys has a valid signature in an answer."""
     return any(
         comparing.fits(look.due.zone, answer.records, signature, key, look.now)

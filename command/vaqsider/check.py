@@ -3,9 +3,13 @@
 The key set believes what a line says. It accepts a moment ahead of the clock, or a report with too
 low a TTL, and from then on its verdict is about a course that never was."""
 
+from __future__ import annotations
+
 import math
 import re
 from dataclasses import dataclass
+from pathlib import Path
+from typing import TYPE_CHECKING, Iterable, Iterator, cast
 
 from keyset import Lines, Notes
 from keyset.lines import OF_CLOCK
@@ -13,7 +17,10 @@ from keyset.members import roles_of
 
 from . import looks, resting, status, words
 from .errors import BROKEN, DUE, OK, WARNING, failure_of
-from .history import SAFE, History
+from .history import SAFE, Call, History
+
+if TYPE_CHECKING:
+    from keyset.members import RoleMembers, Status
 
 KSK_ROLLS = ("ksk-roll", "ksk-double-ds-roll", "csk-roll")
 # After this time a look is of the past: with it nobody says that all is well.
@@ -28,27 +35,30 @@ class Finding:
 
     level: int
     text: str
-    line: int = None
+    line: int | None = None
 
-    def __str__(self):
+    def __str__(self) -> str:
         place = "" if self.line is None else f"line {self.line}: "
         return f"{place}{LEVELS[self.level]}: {self.text}"
 
 
-def findings(path, now):
+def findings(path: str | Path, now: float) -> list[Finding]:
     """All findings about a script, in the order of its lines."""
+    found: list[Finding]
     found, end = [], math.inf
     try:
         file = Lines(path)
         end = len(file.lines) + 2
         found += _findings(file, path, now)
     except Exception as error:
-        line, text = AT.match(str(failure_of(error)).removeprefix(f"{path}: ")).groups()
+        # (Each text has this form.)
+        line, text = cast("re.Match[str]", AT.match(
+            str(failure_of(error)).removeprefix(f"{path}: "))).groups()
         found.append(Finding(BROKEN, text, int(line) if line else None))
     return sorted(found, key=lambda finding: finding.line or end)
 
 
-def _findings(file, path, now):
+def _findings(file: Lines, path: str | Path, now: float) -> Iterator[Finding]:
     """What comes next isn't said of a script that is torn: it may not be so."""
     if file.lines or not file.torn:
         history = History(file.lines)
@@ -67,7 +77,7 @@ def _findings(file, path, now):
         yield from _of_look(path, len(file.lines), now)
 
 
-def _of_look(path, lines, now):
+def _of_look(path: str | Path, lines: int, now: float) -> Iterator[Finding]:
     """What the last look at all servers found, and how long ago that was."""
     kept = looks.read(path)
     if kept is None:
@@ -89,7 +99,7 @@ def _of_look(path, lines, now):
         yield Finding(DUE, f"{text}: renew them, then ask again")
 
 
-def is_asked(path, now):
+def is_asked(path: str | Path, now: float) -> bool:
     """Whether the servers were asked within a day, or there is nothing to ask for."""
     kept = looks.read(path)
     if kept is None:
@@ -97,7 +107,7 @@ def is_asked(path, now):
     return 0 <= kept.age(now) < DAY
 
 
-def _due(told):
+def _due(told: Status) -> Iterator[Finding]:
     """What waits for somebody, and what was ended early."""
     for roll in told["rolls"]:
         if roll["waits_for"] != status.CACHES:
@@ -107,7 +117,9 @@ def _due(told):
         yield Finding(DUE, f"{roll['roll']} was ended early, and its actions may not be done")
 
 
-def false_claims(history, path, now, since=0):
+def false_claims(
+    history: History, path: str | Path, now: float, since: int = 0
+) -> Iterator[Finding]:
     """What can't be true in the accepted lines, from this number on."""
     found = *_of_moments(history, now), *_of_notes(history, Notes(path), since)
     for number, text in found:
@@ -121,8 +133,9 @@ def false_claims(history, path, now, since=0):
         yield Finding(BROKEN, history.verdict, int(at) + 1)
 
 
-def _of_moments(history, now):
+def _of_moments(history: History, now: float) -> Iterator[tuple[int, str]]:
     """What the moments of the lines say against them, each with the number of its line."""
+    latest: Call | None
     latest, is_signed = None, False
     for call in history.calls:
         yield from ((call.number, text) for text in _of_moment(history, call, latest, now))
@@ -134,7 +147,7 @@ def _of_moments(history, now):
             latest = call if latest is None else max(latest, call, key=lambda one: one.moment)
 
 
-def _of_moment(history, call, latest, now):
+def _of_moment(history: History, call: Call, latest: Call | None, now: float) -> Iterator[str]:
     """The latest line is that with the highest moment before the call, and before the clock's."""
     line, step = call.line, call.line.is_report and history.step_of(call)[0]
     if line.moment is not None and line.moment > now:
@@ -145,7 +158,7 @@ def _of_moment(history, call, latest, now):
         yield f"its moment is before that of line {latest.number}"
 
 
-def _of_notes(history, notes, since):
+def _of_notes(history: History, notes: Notes, since: int) -> Iterator[tuple[int, str]]:
     """What the notes say against reports from a line on, each with the number of its line. What was
     reported before the notes began, they can't judge."""
     first = notes.first
@@ -160,7 +173,7 @@ def _of_notes(history, notes, since):
             yield report.number, f"its TTL is {report.ttl}, and {due} was due by the notes"
 
 
-def _of_clock(notes, now):
+def _of_clock(notes: Notes, now: float) -> Iterator[Finding]:
     """Notes whose moment lies ahead of the clock. Until then no act or watch can note anything."""
     for number, line in enumerate(notes.lines[1:], start=2):
         ahead = int(line.rpartition(" ")[2]) - int(now)
@@ -169,9 +182,9 @@ def _of_clock(notes, now):
             yield Finding(WARNING, f"{notes.path}: line {number}: {text}")
 
 
-def _mixed(history):
+def _mixed(history: History) -> dict[int, int]:
     """The algorithms that have only KSKs or only ZSKs in use, each with the line since when."""
-    since = {}
+    since: dict[int, int] = {}
     if _alone(roles_of(history.status)):
         for call, state in history.states():
             alone = _alone(state.roles)
@@ -179,8 +192,8 @@ def _mixed(history):
     return since
 
 
-def _alone(roles):
-    used = {"ksk": set(), "zsk": set(), "public": set()}
+def _alone(roles: Iterable[tuple[int, RoleMembers]]) -> set[int]:
+    used: dict[str, set[int]] = {"ksk": set(), "zsk": set(), "public": set()}
     for algorithm, role in roles:
         if not role["old"] and (role["signer"] or role["present"] or role["at_parent"]):
             used[role["role"]].add(algorithm)

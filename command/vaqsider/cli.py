@@ -1,21 +1,34 @@
 """The words of the command line."""
 
+from __future__ import annotations
+
 import argparse
 import errno
 import os
 import re
 import sys
+from argparse import Namespace
 from pathlib import Path
+from typing import TYPE_CHECKING, Any, Iterable, NoReturn, Sequence, Tuple
 
 from . import arguments
 from .arguments import clock
 from .errors import BROKEN, FAULTY, OK, STATUSES, UNPRINTED, USAGE, Failure, failure_of
 
+if TYPE_CHECKING:
+    from keyset import Status
+
+    from .keyfiles import KeyFile
+    from .state import State
+
+# An exit status, lines for people, and the value that --json prints.
+Outcome = Tuple[int, Iterable[str], object]
+
 STDERR = 2
 HELP = Path(__file__).with_name("help.txt")
 
 
-def progress(text):
+def progress(text: str) -> None:
     """Shows how far long work is, only on a terminal."""
     if sys.stderr.isatty():
         print(f"\r{text}\033[K", end="", file=sys.stderr, flush=True)
@@ -25,7 +38,7 @@ def progress(text):
 # what it needs: the command starts at each tick of a timer.
 
 
-def on_init(args):
+def on_init(args: Namespace) -> Outcome:
     import shlex
 
     from keyset import Notes
@@ -51,7 +64,9 @@ def on_init(args):
     return OK, text, {"script": str(path), "lines": lines}
 
 
-def _agreed(path, lines, files, args):
+def _agreed(
+    path: Path, lines: list[str], files: Sequence[KeyFile], args: Namespace
+) -> State | None:
     """The state of a zone that is signed already, if its servers agree with these lines, or the
     operator goes on although they don't."""
     if path.exists():
@@ -68,21 +83,21 @@ def _agreed(path, lines, files, args):
         return None
 
 
-def on_import(args):
+def on_import(args: Namespace) -> Outcome:
     from . import importing
 
     came = importing.come(args, clock)
     return came.status, came.text(), came.as_json()
 
 
-def on_call(args):
+def on_call(args: Namespace) -> Outcome:
     from . import calling
 
     made = calling.call(args.SCRIPT, args.LINE, clock, args.although, args.dry_run)
     return made.status, made.text(), vars(made)
 
 
-def on_status(args):
+def on_status(args: Namespace) -> Outcome:
     from . import resting, shortnames, status
 
     told, screens, ends_with = [], [], [OK]
@@ -99,7 +114,7 @@ def on_status(args):
     return max(ends_with), text, told
 
 
-def on_check(args):
+def on_check(args: Namespace) -> Outcome:
     from . import check
 
     found = [(path, one) for path in args.SCRIPT for one in check.findings(path, clock())]
@@ -110,7 +125,7 @@ def on_check(args):
     return level, text, [{"script": path, **vars(one)} for path, one in found]
 
 
-def on_plan(args):
+def on_plan(args: Namespace) -> Outcome:
     from keyset import Notes
 
     from . import draw, plan, signers, status, timeline
@@ -132,7 +147,7 @@ def on_plan(args):
     return _verdict(told), text, made.steps
 
 
-def on_draw(args):
+def on_draw(args: Namespace) -> Outcome:
     import dataclasses
 
     from keyset import Notes
@@ -148,7 +163,7 @@ def on_draw(args):
     return _verdict(told), [] if args.out else text, dataclasses.asdict(made)
 
 
-def on_act(args):
+def on_act(args: Namespace) -> Outcome:
     from . import act, acted
 
     if args.dry_run:
@@ -156,7 +171,7 @@ def on_act(args):
     return OK, *acted.done(args, *act.perform(args, clock))
 
 
-def on_ceremony(args):
+def on_ceremony(args: Namespace) -> Outcome:
     from . import ceremony
 
     if args.take:
@@ -172,7 +187,7 @@ def on_ceremony(args):
     return OK, [text], made
 
 
-def on_watch(args):
+def on_watch(args: Namespace) -> Outcome:
     if args.state:
         return _state(args)
     from . import watching
@@ -182,7 +197,7 @@ def on_watch(args):
     return watcher.status(), watcher.text(), watcher.as_json()
 
 
-def _state(args):
+def _state(args: Namespace) -> Outcome:
     from keyset import Notes
 
     from . import comparing, state, status
@@ -193,7 +208,7 @@ def _state(args):
     return seen.status, seen.text(), seen.as_json()
 
 
-def on_zones(args):
+def on_zones(args: Namespace) -> Outcome:
     from . import zones
 
     counts = args.prometheus or args.json
@@ -202,6 +217,7 @@ def on_zones(args):
     ))
     progress("")
     is_safe = all(zone["chain_safe"] for zone in found)
+    text: Iterable[str]
     text = zones.prometheus(found) if args.prometheus else zones.table(found)
     if args.html:
         from . import pages
@@ -215,7 +231,7 @@ def on_zones(args):
     return OK if is_safe else BROKEN, text, found
 
 
-def on_policy(args):
+def on_policy(args: Namespace) -> Outcome:
     if args.DO == "check":
         from . import subjects
 
@@ -225,7 +241,7 @@ def on_policy(args):
     return showing.show(args, clock)
 
 
-def on_tick(args):
+def on_tick(args: Namespace) -> Outcome:
     from . import policies, subjects, ticks
 
     log, jobs = ticks.logger(args.log, sys.stderr if args.json else sys.stdout), args.jobs
@@ -241,30 +257,30 @@ def on_tick(args):
     return worst, text, {path: vars(end) for path, end in ends.items()}
 
 
-def on_store(args):
+def on_store(args: Namespace) -> Outcome:
     from . import shared
 
     copied = shared.copy(args.FROM, args.TO)
     return OK, [f"{len(copied)} zones copied"], copied
 
 
-def on_roll(args):
+def on_roll(args: Namespace) -> Outcome:
     from . import rollwords
 
     return rollwords.roll(args, clock)
 
 
-def on_next(args):
+def on_next(args: Namespace) -> Outcome:
     from . import rollwords
 
     return rollwords.next_(args, clock)
 
 
-def _verdict(told):
+def _verdict(told: Status) -> int:
     return OK if told["chain"]["safe"] else BROKEN
 
 
-def _said(error):
+def _said(error: BaseException) -> Failure:
     """The failure for an error, which standard error has now."""
     failure = failure_of(error)
     if failure.status == FAULTY:
@@ -281,7 +297,7 @@ OF_STORE = ("call", "roll", "next", "zones")
 WORD = re.compile(r"(?P<name>\w+): (?P<says>.*)\n\n(?P<about>(?:.+\n)*)\n(?P<arguments>(?:.+\n)*)")
 ARGUMENT = re.compile(r"^(\S+)(?: (\S+(?: \S+)*))?  (.*(?:\n .*)*)", re.MULTILINE)
 # How an argument is read, by its name there.
-READ_AS = {
+READ_AS: dict[str, dict[str, Any]] = {
     "--start": {"type": arguments.moment},
     "--since": {"type": arguments.moment},
     "--until": {"type": arguments.moment},
@@ -309,7 +325,7 @@ DEFAULTS = {
 class Version(argparse.Action):
     """Prints the release of the key set."""
 
-    def __call__(self, *_):
+    def __call__(self, *_: object) -> None:
         import keyset
 
         print(f"vaqsider {keyset.__version__}")
@@ -319,11 +335,11 @@ class Version(argparse.Action):
 class Parser(argparse.ArgumentParser):
     """A parser that ends with the status that the table gives for a wrong command line."""
 
-    def error(self, message):
+    def error(self, message: str) -> NoReturn:
         self.exit(USAGE, f"{self.prog}: {message}; '{self.prog} --help' shows what it takes\n")
 
 
-def parser(only=None):
+def parser(only: str | None = None) -> Parser:
     """The parser of the command line, as help.txt has it: of one word, or of all."""
     as_it_is = argparse.RawDescriptionHelpFormatter
     top = Parser(
@@ -347,7 +363,7 @@ def parser(only=None):
     return top
 
 
-def _epilog():
+def _epilog() -> str:
     from keyset.lines import FORMS
 
     statuses = "\n".join(f"  {number:3}  {says}" for number, (says, _) in STATUSES.items())
@@ -355,7 +371,7 @@ def _epilog():
     return f"exit statuses:\n{statuses}\n\nlines of a script:\n{forms}"
 
 
-def parsed(given):
+def parsed(given: Sequence[str]) -> Namespace:
     """The arguments of a command line. Files may stand before and after options."""
     if (wrong := arguments.not_utf8(given)) is not None:
         Parser(prog="vaqsider").error(f"an argument isn't UTF-8: {os.fsencode(wrong)}")
@@ -370,14 +386,14 @@ def parsed(given):
     return args
 
 
-def _add(word, name, value, says):
+def _add(word: argparse.ArgumentParser, name: str, value: str | None, says: str) -> None:
     """Adds an argument. One that ends in .. may be given several times."""
     is_option, says = name.startswith("--"), " ".join(says.split())
     if is_option and value is None:
         word.add_argument(name, action="store_true", help=says)
         return
     shown = (value or name).strip("[].")
-    settings = {"metavar": shown, "help": says, **READ_AS.get(value or name, {})}
+    settings: dict[str, Any] = {"metavar": shown, "help": says, **READ_AS.get(value or name, {})}
     settings.update(READ_AS.get(name, {}))
     if name == "ROLL":
         from keyset.lines import ROLLS
@@ -392,7 +408,7 @@ def _add(word, name, value, says):
     word.add_argument(name if is_option else shown, **settings)
 
 
-def main(given=None):
+def main(given: Sequence[str] | None = None) -> int:
     """Runs the command, and gives its exit status."""
     _open_standard()
     args = parsed(sys.argv[1:] if given is None else given)
@@ -404,7 +420,7 @@ def main(given=None):
     return ends_with if _printed(lines) else UNPRINTED
 
 
-def _done(args):
+def _done(args: Namespace) -> Outcome:
     """Does what a word asks for. Lines of a zone that several machines share are committed to the
     store before they are in its files."""
     if args.word not in OF_STORE or not args.store:
@@ -416,7 +432,7 @@ def _done(args):
         return args.does(args)
 
 
-def _open_standard():
+def _open_standard() -> None:
     """Opens what is closed of standard input, output and error: else the next file would be in its
     place, and a program that is run would write into that."""
     while (file := os.open(os.devnull, os.O_RDWR)) <= STDERR:
@@ -427,7 +443,7 @@ def _open_standard():
         sys.stdout.reconfigure(errors="backslashreplace")
 
 
-def _printed(lines):
+def _printed(lines: Sequence[str]) -> bool:
     """Prints lines. If standard output can't take them, standard error has them."""
     try:
         if lines and sys.stdout is None:
@@ -443,7 +459,7 @@ def _printed(lines):
     return True
 
 
-def _json(value):
+def _json(value: object) -> str:
     import json
 
     return json.dumps(value, indent=1)

@@ -2,12 +2,19 @@
 
 from __future__ import annotations
 
+from argparse import Namespace
 from dataclasses import dataclass
 from pathlib import Path
+from typing import TYPE_CHECKING, Callable, Iterable, Iterator, Sequence, cast
 
 from . import keyfiles, words
-from .asking import Answer, dns
+from .asking import Answer, Record, dns
 from .errors import Failure
+
+if TYPE_CHECKING:
+    from dns.dnssectypes import DSDigest
+
+    from keyset import Status
 
 # The type that has the signatures of each kind, and what else is asked for: CDS has to be out.
 TYPES = {
@@ -27,28 +34,30 @@ class Key:
     reference: str
     tag: int
     algorithm: int
-    record: object = None
+    record: Record | None = None
 
-    def is_of(self, record) -> bool:
+    def is_of(self, record: Record) -> bool:
         """Whether a DNSKEY record is this key, as far as is known of it."""
         if self.record is None:
             return (dns.dnssec.key_id(record), record.algorithm) == (self.tag, self.algorithm)
         return record == self.record
 
-    def ds(self, digest_type: int, zone: str):
+    def ds(self, digest_type: int, zone: str) -> Record | None:
         """Its DS record with a digest of this type, or None if that isn't known."""
         return ds_of(self.record, digest_type, zone) if self.record else None
 
 
-def dnskey_of(file: keyfiles.KeyFile):
+def dnskey_of(file: keyfiles.KeyFile) -> Record:
     """The DNSKEY record of a key file."""
     return dns.rdata.from_text("IN", "DNSKEY", file.data)
 
 
-def ds_of(record, digest_type: int, zone: str):
+def ds_of(record: Record, digest_type: int, zone: str) -> Record | None:
     """The DS record of a DNSKEY record, or None if digests of this type aren't known."""
     try:
-        return dns.dnssec.make_ds(dns.name.from_text(zone), record, digest_type, validating=True)
+        # (It takes a number too, and refuses one that it doesn't know.)
+        return dns.dnssec.make_ds(dns.name.from_text(zone), record,
+                                  cast("DSDigest", digest_type), validating=True)
     except (dns.dnssec.UnsupportedAlgorithm, dns.dnssec.DeniedByPolicy):
         return None
 
@@ -58,16 +67,18 @@ class Due:
     """What has to be published: the keys of each set. `faults` are key files that are missing."""
 
     zone: str
-    published: dict
-    keys: dict
-    known: frozenset
+    published: dict[str, list[str]]
+    keys: dict[str, Key]
+    known: frozenset[tuple[int, int]]
     is_shared: bool
-    faults: tuple
+    faults: tuple[str, ...]
 
     @classmethod
-    def of(cls, told: dict, folders: list) -> Due:
+    def of(cls, told: Status, folders: Sequence[str | Path]) -> Due:
         """What a status says, with the key files in these folders."""
         names = {name for of in told["published"].values() for name in of}
+        keys: dict[str, Key]
+        faults: list[str]
         keys, faults = {}, []
         for key in (key for key in told["keys"] if key["reference"] in names):
             record = None
@@ -86,7 +97,7 @@ class Due:
         return [self.keys[name] for name in self.published[kind]]
 
 
-def folders_of(args) -> list:
+def folders_of(args: Namespace) -> list[str | Path]:
     """Where the key files are: as the command line says, or beside the script."""
     return args.keys or [Path(args.SCRIPT).parent]
 
@@ -98,7 +109,7 @@ def lacks(due: Due, type_: str, answer: Answer, now: float) -> list[str]:
     return list(COMPARED[type_](due, type_, answer, now))
 
 
-def _of_cds(due, type_, answer, now):
+def _of_cds(due: Due, type_: str, answer: Answer, now: float) -> Iterator[str]:
     if answer.records:
         yield f"gives {type_} still"
 
@@ -115,7 +126,7 @@ def cds_lacks(due: Due, type_: str, answer: Answer, now: float) -> list[str]:
     return [answer.fault] if answer.fault else [f"{type_} {it}, which isn't due" for it in wrong]
 
 
-def _of_dnskey(due, type_, answer, now):
+def _of_dnskey(due: Due, type_: str, answer: Answer, now: float) -> Iterator[str]:
     wanted, given = due.of_set("dnskey"), answer.records
     yield from _of_tags("DNSKEY", map(dns.dnssec.key_id, given), (key.tag for key in wanted))
     if sorted(map(dns.dnssec.key_id, given)) == sorted(key.tag for key in wanted):
@@ -126,7 +137,7 @@ def _of_dnskey(due, type_, answer, now):
         yield from signed(due.zone, answer, key, now).faults
 
 
-def _of_zone(due, type_, answer, now):
+def _of_zone(due: Due, type_: str, answer: Answer, now: float) -> Iterator[str]:
     wanted = due.of_set("zone")
     by = {(it.key_tag, it.algorithm) for it in answer.signatures}
     if by != {(key.tag, key.algorithm) for key in wanted}:
@@ -139,7 +150,7 @@ def _of_zone(due, type_, answer, now):
         yield f"no {type_} record"
 
 
-def _of_ds(due, type_, answer, now):
+def _of_ds(due: Due, type_: str, answer: Answer, now: float) -> Iterator[str]:
     wanted, given = due.of_set("ds"), list(answer.records)
     if due.is_shared:
         # The other signer's keys with a DS aren't in the script.
@@ -153,28 +164,28 @@ def _of_ds(due, type_, answer, now):
                 yield f"DS {_short(record)} isn't that of {key.reference}: {_why(record, right)}"
 
 
-def _short(record):
+def _short(record: Record) -> str:
     return f"{record.key_tag} {record.algorithm} {record.digest_type}"
 
 
-def _why(record, right):
+def _why(record: Record, right: Record | None) -> str:
     if right is None:
         return "its digest type isn't known"
     is_algorithm = record.algorithm != right.algorithm
     return f"its algorithm isn't {right.algorithm}" if is_algorithm else "another digest"
 
 
-def _of_tags(what, given, wanted):
+def _of_tags(what: str, given: Iterable[int], wanted: Iterable[int]) -> Iterator[str]:
     given, wanted = sorted(given), sorted(wanted)
     if given != wanted:
         yield f"{what} {_listed(given)}, not {_listed(wanted)}"
 
 
-def _listed(tags):
+def _listed(tags: Iterable[int]) -> str:
     return ",".join(map(str, sorted(tags))) or "none"
 
 
-COMPARED = {
+COMPARED: dict[str, Callable[[Due, str, Answer, float], Iterator[str]]] = {
     "DNSKEY": _of_dnskey, "SOA": _of_zone, "NS": _of_zone, "DS": _of_ds,
     "CDS": _of_cds, "CDNSKEY": _of_cds,
 }
@@ -186,7 +197,7 @@ class Signed:
 
     begin: int = 0
     end: int = 0
-    faults: tuple = ()
+    faults: tuple[str, ...] = ()
 
 
 def signed(zone: str, answer: Answer, key: Key, now: float) -> Signed:
@@ -201,7 +212,7 @@ def signed(zone: str, answer: Answer, key: Key, now: float) -> Signed:
     return Signed(faults=tuple(faults[-1:]))
 
 
-def _fault(zone, answer, signature, key, now):
+def _fault(zone: str, answer: Answer, signature: Record, key: Key, now: float) -> str | None:
     """Why a signature isn't valid now, in words."""
     what = f"the signature of {signature.type_covered.name} by {key.tag}"
     if signature.expiration < now:
@@ -213,13 +224,17 @@ def _fault(zone, answer, signature, key, now):
     return None if fits(zone, answer.records, signature, key.record, now) else f"{what} is false"
 
 
-def fits(zone: str, records, signature, record, now: float) -> bool:
+def fits(
+    zone: str, records: Sequence[Record], signature: Record, record: Record, now: float
+) -> bool:
     """Whether a signature is one of these records by this DNSKEY record, and valid now."""
     name = dns.name.from_text(zone)
     keys = {name: dns.rdataset.from_rdata_list(0, [record])}
     try:
         rrset = dns.rrset.from_rdata_list(name, 0, records)
-        dns.dnssec.validate_rrsig(rrset, signature, keys, now=now)
+        # (dnspython gives it no types.)
+        dns.dnssec.validate_rrsig(  # type: ignore[no-untyped-call]
+            rrset, signature, keys, now=now)
     except (ValueError, dns.exception.DNSException):
         return False
     return True

@@ -1,10 +1,13 @@
 """The timeline of a zone as SVG: in black and white, and as letters for a terminal's browser, which
 draws no shapes."""
 
+from __future__ import annotations
+
 from html import escape
+from typing import Iterable, Iterator, Mapping, Sequence
 
 from . import words
-from .timeline import PHASES, Bar
+from .timeline import PHASES, Bar, Timeline
 
 WIDTH, ROW, BAR, LETTER = 740, 22, 12, 7
 HATCH = (
@@ -25,7 +28,7 @@ class Scale:
     rolls, what came before them, and what came after them until now, in at least half of its width
     the rolls. If a script's moments count from 0, it has no now."""
 
-    def __init__(self, made, now, since=None):
+    def __init__(self, made: Timeline, now: float, since: float | None = None) -> None:
         self.left = 16 + LETTER * max(map(len, [*made.phases, *made.rows]), default=0)
         end = max(made.end, now) if made.begin > 0 else made.end
         if since is None:
@@ -36,21 +39,23 @@ class Scale:
             since, end = max(made.begin, made.last - last // 2), min(end, rolled + last // 2)
         self.begin, self.end = since, max(end, since) + max(1, (end - since) // 20)
 
-    def part(self, moment):
+    def part(self, moment: float | None) -> float:
         """Which part of the width lies before a moment."""
         moment = self.end if moment is None else min(max(moment, self.begin), self.end)
         return (moment - self.begin) / (self.end - self.begin)
 
-    def __call__(self, moment):
+    def __call__(self, moment: float | None) -> float:
         return round(self.left + WIDTH * self.part(moment), 1)
 
-    def shows(self, bar):
+    def shows(self, bar: Bar) -> bool:
         """Whether a part of a bar is on the page."""
         last = bar.end if bar.end is None or bar.word else bar.gone
         return bar.begin <= self.end and (last is None or max(last, bar.end) >= self.begin)
 
 
-def picture(zone, made, now, since=None):
+def picture(
+    zone: str, made: Timeline, now: float, since: float | None = None
+) -> Iterator[str]:
     """The lines of an SVG file: a row for each roll, then a row for each key in each set, of those
     that the page shows."""
     at, y = Scale(made, now, since), ROW
@@ -79,14 +84,14 @@ def picture(zone, made, now, since=None):
     yield "</svg>"
 
 
-def _spans(bar):
+def _spans(bar: Bar) -> Iterator[tuple[str, float, float | None]]:
     """The boxes of a bar: of a phase; or while a key is in a set, then while caches may hold it."""
     yield "phase" if bar.word else "in", bar.begin, bar.end
     if not bar.word and bar.end is not None and (bar.gone is None or bar.gone > bar.end):
         yield "cached", bar.end, bar.gone
 
 
-def _letters(rows, at):
+def _letters(rows: Mapping[str, Sequence[Bar]], at: Scale) -> Iterator[str]:
     """The rows in letters."""
     width = max(map(len, rows), default=0) + 1
     columns = max(30, 78 - width)
@@ -103,11 +108,11 @@ def _letters(rows, at):
     yield "".join(f"{number}  {word}    " for word, number in NUMBERS.items()).rstrip()
 
 
-def _text(x, y, text, how=""):
+def _text(x: float, y: float, text: str, how: str = "") -> str:
     return f'<text x="{x}" y="{y}" {how}>{escape(text)}</text>'
 
 
-def _bar(bar, at, y):
+def _bar(bar: Bar, at: Scale, y: int) -> Iterator[str]:
     """The boxes of a bar."""
     for kind, begin, end in _spans(bar):
         x, data = at(begin), f'data-begin="{begin}" data-end="{"" if end is None else end}"'
@@ -119,7 +124,7 @@ def _bar(bar, at, y):
         )
 
 
-def _names(phases, at, y):
+def _names(phases: Iterable[Bar], at: Scale, y: int) -> Iterator[str]:
     """The names of the phases in their boxes, or below a small box its number. Numbers that would
     touch stand side by side."""
     free = 0
@@ -132,7 +137,7 @@ def _names(phases, at, y):
             yield _text(round(free, 1), y + BAR + 8, NUMBERS[bar.word], TINY)
 
 
-def _axis(at, y):
+def _axis(at: Scale, y: int) -> Iterator[str]:
     """The axis, and below it what the boxes and the numbers mean."""
     yield f'<line x1="{at.left}" y1="{y}" x2="{at.left + WIDTH}" y2="{y}" stroke="black"/>'
     places = ((0.5, "middle"), (0, "start"), (1, "end"))

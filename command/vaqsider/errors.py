@@ -1,5 +1,7 @@
 """Exit statuses, and which errors end the command with them."""
 
+from __future__ import annotations
+
 import sys
 
 OK, DUE, WARNING, BROKEN = 0, 1, 2, 3
@@ -26,7 +28,7 @@ STATUSES = {
 class Failure(Exception):
     """Ends the command: its text goes to standard error."""
 
-    def __init__(self, text, status=USAGE):
+    def __init__(self, text: str, status: int = USAGE) -> None:
         super().__init__(text)
         self.status = status
 
@@ -34,7 +36,7 @@ class Failure(Exception):
 class Silent(Failure):
     """Servers don't answer: they may later."""
 
-    def __init__(self, text):
+    def __init__(self, text: str) -> None:
         super().__init__(text, UNAVAILABLE)
 
 
@@ -42,7 +44,7 @@ class Silent(Failure):
 MODULES = {"dns": "python3-dnspython", "cryptography": "python3-cryptography"}
 
 
-def failure_of(error):
+def failure_of(error: BaseException) -> Failure:
     """The failure for an error. The nearest of its classes says which."""
     if isinstance(error, Failure):
         return error
@@ -64,7 +66,7 @@ def failure_of(error):
     raise error
 
 
-def mended(text):
+def mended(text: str) -> str:
     """What to do about a last line without a line feed, for the text of the error."""
     import shlex
 

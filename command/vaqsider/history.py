@@ -1,13 +1,19 @@
 """The accepted lines of a script, each with its answer: the course that the zone took."""
 
+from __future__ import annotations
+
 from functools import cached_property
 from itertools import accumulate
+from typing import TYPE_CHECKING, Iterable, Iterator, Sequence, cast
 
 import keyset
 from keyset.bounds import Reported
 from keyset.lines import OF_CLOCK, Line
 
 from . import words
+
+if TYPE_CHECKING:
+    from keyset.members import After, Status
 
 REPORTED_FROM = {"report1": "start", "report2": "wait1"}
 REFUSED, SAFE = "refused: ", "chain safe"
@@ -16,18 +22,25 @@ REFUSED, SAFE = "refused: ", "chain safe"
 class Call:
     """An accepted line with its number in the file, its actions, and the last moment so far."""
 
-    def __init__(self, number, text, reply, clock):
+    def __init__(self, number: int, text: str, reply: str, clock: int) -> None:
         self.number, self.line, self.actions = number, Line(text), reply.split(" ")[1:]
-        self.moment = self.line.moment if self.line.word in OF_CLOCK else clock
+        # (These lines have a moment.)
+        self.moment = cast(int, self.line.moment) if self.line.word in OF_CLOCK else clock
 
 
 class History:
     """A script's lines, with the answers of the key set."""
 
-    def __init__(self, lines):
+    refused: list[tuple[int, str]]
+    calls: list[Call]
+    published: dict[str, list[str]]
+    _steps: dict[int, Call]
+
+    def __init__(self, lines: Sequence[str]) -> None:
         self.lines, self.refused, self.calls, self._steps = lines, [], [], {}
         *self.replies, sets, self.verdict = keyset.run(lines)
         self.published = vars(keyset.Published.of(sets))
+        last: dict[tuple[str | None, str], Call]
         clock, last = 0, {}
         for number, (text, reply) in enumerate(zip(lines[1:], self.replies), start=2):
             if reply.startswith(REFUSED):
@@ -40,17 +53,17 @@ class History:
                 self._steps[number] = last[call.line.roll, REPORTED_FROM[call.line.word]]
 
     @cached_property
-    def status(self):
+    def status(self) -> Status:
         """The status after the last line."""
         return keyset.status(self.lines)
 
-    def step_of(self, report):
+    def step_of(self, report: Call) -> tuple[Call, list[str]]:
         """The step that an accepted report counts from: the start of its roll, or its first wait.
         With it come the kinds of sets that it asked for."""
         step = self._steps[report.number]
         return step, words.kinds_of(step.actions, of=["Report"])
 
-    def reported(self, reports):
+    def reported(self, reports: Iterable[Call]) -> Iterator[Reported]:
         """What these reports say, of those that `calls` has."""
         moments = (Line(text) for text in self.lines)
         moments = (it.moment or 0 if it.word in OF_CLOCK else 0 for it in moments)
@@ -60,7 +73,7 @@ class History:
             yield Reported(call.number, call.line.roll, call.moment, call.line.ttl, step.number,
                            begun[step.number - 1], kinds)
 
-    def states(self):
+    def states(self) -> Iterator[tuple[Call, After]]:
         """Each accepted line with what is so after it."""
         lines = [self.lines[0], *(call.line.text for call in self.calls)]
         return zip(self.calls, keyset.follow(lines))

@@ -12,13 +12,14 @@ import os
 from argparse import Namespace
 from dataclasses import dataclass
 from pathlib import Path
-from typing import Callable
+from typing import Iterator, Sequence, TypedDict
 
 from keyset import Notes
 from keyset.notes import lasts
 
 from . import asking, calling, keyfiles, looking, place, state, words
 from .arguments import file_name
+from .ending import Clock
 from .errors import DUE, USAGE, WARNING, Failure
 from .looking import Look
 from .signers import Key
@@ -27,6 +28,13 @@ from .sources import Asked, Found, Told, bind, dnst, knot, opendnssec, pdns
 SOURCES = {"bind": bind.tell, "knot": knot.tell, "pdns": pdns.tell, "pdns-api": pdns.tell_by_api,
            "opendnssec": opendnssec.tell, "dnst": dnst.tell}
 SUFFIX = ".import"
+
+
+class Seen(TypedDict):
+    """The look that is kept, and since when all was as it shows."""
+
+    look: str
+    since: int
 
 
 @dataclass(frozen=True)
@@ -42,7 +50,7 @@ class Came:
     def status(self) -> int:
         return DUE if self.again else 0
 
-    def text(self):
+    def text(self) -> Iterator[str]:
         if self.again:
             yield "all servers agree with these keys. Nothing older may be in a cache: look again"
             yield f"next: the same import, from {words.moment(self.again)} on"
@@ -51,12 +59,12 @@ class Came:
         yield "what the other system has to do now, in this order:"
         yield from (f"{number}. {text}" for number, text in enumerate(self.told.stops, start=1))
 
-    def as_json(self) -> dict:
+    def as_json(self) -> dict[str, object]:
         return {"script": str(self.script), "lines": self.lines, "again": self.again,
                 "stops": self.told.stops}
 
 
-def come(args: Namespace, clock: Callable[[], float]) -> Came:
+def come(args: Namespace, clock: Clock) -> Came:
     """Brings the keys of a zone in."""
     zone = args.ZONE.rstrip(".") or "."
     script = Path(args.script or f"{file_name(zone)}.script")
@@ -77,7 +85,8 @@ def come(args: Namespace, clock: Callable[[], float]) -> Came:
     return _looked(args, script, zone, files, told, clock)
 
 
-def _looked(args, script, zone, files, told, clock) -> Came:
+def _looked(args: Namespace, script: Path, zone: str,
+            files: Sequence[tuple[keyfiles.KeyFile, bool]], told: Told, clock: Clock) -> Came:
     """The script, if all has been the same for long enough; else the look is kept."""
     moment = int(clock())
     lines = _lines(zone, files, moment)
@@ -95,7 +104,9 @@ def _looked(args, script, zone, files, told, clock) -> Came:
     return Came(script, lines, told)
 
 
-def _lines(zone: str, files, moment: int) -> list[str]:
+def _lines(
+    zone: str, files: Sequence[tuple[keyfiles.KeyFile, bool]], moment: int
+) -> list[str]:
     """The first lines of a script, by which these keys come in at a moment."""
     added = [(file, file.line(is_csk, file.reference)) for file, is_csk in files]
     return calling.first_lines(zone, added, moment)
@@ -113,7 +124,7 @@ def _digest(look: Look, lines: list[str]) -> str:
     return hashlib.sha256(json.dumps([seen, keys]).encode()).hexdigest()
 
 
-def _read(path: Path) -> dict | None:
+def _read(path: Path) -> Seen | None:
     """The look that was kept. A file that isn't one counts as none."""
     try:
         told = json.loads(path.read_text(encoding="utf-8"))
@@ -122,7 +133,7 @@ def _read(path: Path) -> dict | None:
         return None
 
 
-def _write(path: Path, told: dict) -> None:
+def _write(path: Path, told: Seen) -> None:
     draft = path.with_name(f".{path.name}.{os.getpid()}.draft")
     with open(draft, "x", encoding="ascii") as file:
         file.write(json.dumps(told) + "\n")

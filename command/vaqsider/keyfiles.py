@@ -2,6 +2,8 @@
 
 The DNSKEY record says what a key is. The name of its file doesn't."""
 
+from __future__ import annotations
+
 import base64
 import binascii
 import calendar
@@ -9,6 +11,7 @@ import re
 import struct
 import time
 from pathlib import Path
+from typing import Sequence, TypedDict
 
 from .errors import BROKEN, UNAVAILABLE, Failure
 
@@ -21,13 +24,22 @@ RECORD = re.compile(
 CREATED = re.compile(r"^;\s*Created:\s*(\d{14})", re.MULTILINE)
 
 
+class Named(TypedDict):
+    """A key as a script has it: its reference names its file."""
+
+    reference: str
+    tag: int
+    algorithm: int
+    private: str | None
+
+
 class KeyFile:
     """A public key in a file."""
 
     # What a script calls its private half, if it is known.
-    reference = None
+    reference: str | None = None
 
-    def __init__(self, path):
+    def __init__(self, path: str | Path) -> None:
         self.path = Path(path)
         if self.path.suffix != ".key":
             self.path = self.path.with_name(f"{self.path.name}.key")
@@ -49,11 +61,11 @@ class KeyFile:
         self.creation = calendar.timegm(stamp) if stamp else int(self.path.stat().st_mtime)
 
     @property
-    def private(self):
+    def private(self) -> Path:
         """The file of the private half. It may be away."""
         return self.path.with_suffix(".private")
 
-    def line(self, is_csk, reference=None):
+    def line(self, is_csk: bool, reference: str | None = None) -> str:
         """The line that adds the key: as a CSK, or as what its SEP flag says. Its private half is
         where the reference says, or is the file beside it."""
         word = "add-csk" if is_csk else "add-ksk" if self.is_sep else "add-zsk"
@@ -62,7 +74,7 @@ class KeyFile:
         return " ".join(map(str, parts))
 
 
-def key_tag(flags, protocol, algorithm, key):
+def key_tag(flags: int, protocol: int, algorithm: int, key: str) -> int:
     """The tag of a DNSKEY record (RFC 4034, appendix B)."""
     try:
         public = base64.b64decode("".join(key.split()), validate=True)
@@ -73,7 +85,7 @@ def key_tag(flags, protocol, algorithm, key):
     return (total + (total >> 16)) & 0xFFFF
 
 
-def read(path):
+def read(path: str | Path) -> KeyFile:
     """The key of a file. One with a number that no DNSKEY record has is refused by its name."""
     try:
         return KeyFile(path)
@@ -81,7 +93,7 @@ def read(path):
         raise Failure(f"{path or repr(path)}: no key file of BIND or ldns") from None
 
 
-def find(key, folders):
+def find(key: Named, folders: Sequence[str | Path]) -> KeyFile:
     """The file of a key, which its reference names, with or without `.key`."""
     name = key["reference"].rpartition("/")[2].removesuffix(".key")
     for path in (Path(folder) / f"{name}.key" for folder in folders):

@@ -5,7 +5,7 @@ from __future__ import annotations
 
 import contextlib
 from pathlib import Path
-from typing import Iterable, Iterator
+from typing import TYPE_CHECKING, Iterable, Iterator, Sequence
 
 import dns.dnssec
 import dns.name
@@ -14,6 +14,9 @@ from . import keyfiles
 from .errors import UNAVAILABLE, Failure
 from .signers import DELETION, Key, Sets
 from .zonefile import By, Row, Zone, parsed
+
+if TYPE_CHECKING:
+    from keyset import Status
 
 # The types of a DS record's digest, by their numbers there.
 DIGESTS = {2: "SHA256", 4: "SHA384"}
@@ -24,7 +27,8 @@ DELETE = {"CDS": ["0 0 0 00"], "CDNSKEY": [DELETION]}
 class KeySets:
     """The key files of all sets of a status."""
 
-    def __init__(self, told: dict, folders: list[str | Path], taken: Iterable[Row] = ()) -> None:
+    def __init__(self, told: Status, folders: Sequence[str | Path],
+                 taken: Iterable[Row] = ()) -> None:
         self.published = told["published"]
         self.origin = told["zone"].rstrip(".") + "."
         names = {name for names in self.published.values() for name in names}

@@ -2,6 +2,8 @@
 
 from __future__ import annotations
 
+from argparse import Namespace
+from collections.abc import Collection, Iterable
 from dataclasses import dataclass
 
 from . import asking, comparing
@@ -31,14 +33,14 @@ class Places:
     port: int
 
     @classmethod
-    def of(cls, zone: str, args) -> Places:
+    def of(cls, zone: str, args: Namespace) -> Places:
         """Those that the command line names, or all that NS records name."""
         parents = cls.of_parent(zone, args).parent
         servers = asking.by_name(args.server or [])
         return cls(servers or asking.of_zone(zone, parents, args.port), parents, args.port)
 
     @classmethod
-    def of_parent(cls, zone: str, args) -> Places:
+    def of_parent(cls, zone: str, args: Namespace) -> Places:
         """Only those of the parent."""
         parents = asking.by_name(args.parent_server or [])
         if not parents and zone.strip("."):
@@ -64,7 +66,7 @@ class Look:
     now: float
     answers: dict[tuple[str, str, Server], Answer]
 
-    def lacking(self, kinds) -> list[Lack]:
+    def lacking(self, kinds: Collection[str]) -> list[Lack]:
         """What they lack of these kinds. If a key file is missing, nothing is right."""
         lacks = [Lack(kind, "", fault) for kind in kinds for fault in self.due.faults]
         for (kind, type_, server), answer in self.answers.items():
@@ -73,7 +75,7 @@ class Look:
                 lacks += (Lack(kind, str(server), text) for text in texts)
         return sorted(lacks)
 
-    def wrong(self, kinds) -> list[Lack]:
+    def wrong(self, kinds: Collection[str]) -> list[Lack]:
         """What is wrong in the answers of these kinds, of those who have answered."""
         return sorted(
             Lack(kind, str(server), text)
@@ -86,13 +88,13 @@ class Look:
         """The highest TTL of this kind that was seen."""
         return max((it.ttl for (of, _, _), it in self.answers.items() if of == kind), default=0)
 
-    def servers(self, kinds) -> list[str]:
+    def servers(self, kinds: Collection[str]) -> list[str]:
         """The servers that were asked for these kinds."""
         asked = {server for of, _, server in self.answers if of in kinds}
         return list(map(str, sorted(asked)))
 
 
-def look(due: Due, kinds, places: Places, now: float) -> Look:
+def look(due: Due, kinds: Iterable[str], places: Places, now: float) -> Look:
     """Asks all servers for the sets of these kinds, side by side."""
     questions = [
         (kind, type_, server)

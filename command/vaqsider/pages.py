@@ -6,6 +6,7 @@ from __future__ import annotations
 from collections.abc import Iterable, Iterator
 from html import escape
 from pathlib import Path
+from typing import Any
 
 from keyset import Notes
 
@@ -22,7 +23,7 @@ STYLE = (":root{color-scheme:light dark}body{font:16px sans-serif;margin:1.5em}"
          "@media(prefers-color-scheme:dark){.wrong{background:#622}}")
 
 
-def page(found: Iterable[dict], now: float) -> Iterator[str]:
+def page(found: Iterable[dict[str, Any]], now: float) -> Iterator[str]:
     """The lines of the page, for the zones as `zones` finds them."""
     found = list(found)
     yield '<!DOCTYPE html><html lang="en"><head><meta charset="utf-8"><title>Zones</title>'
@@ -46,7 +47,7 @@ def _text(text: object) -> str:
     return str(text).encode("utf-8", "surrogateescape").decode("utf-8", "replace")
 
 
-def _row(number: int, zone: dict) -> str:
+def _row(number: int, zone: dict[str, Any]) -> str:
     chain = "safe" if zone["chain_safe"] else zone["fault"] or "broken"
     moments = (it and words.moment(it) for it in (zone["next"], zone["signed"]))
     cells = [chain, zone["waits_for"], *moments, zone["tick"]]
@@ -56,7 +57,7 @@ def _row(number: int, zone: dict) -> str:
     return f"<tr{' class=wrong' if is_wrong else ''}>{name}{shown}</tr>"
 
 
-def _picture(zone: dict, now: float) -> Iterator[str]:
+def _picture(zone: dict[str, Any], now: float) -> Iterator[str]:
     path = Path(zone["script"])
     try:
         lines, told = status.read(path, now)

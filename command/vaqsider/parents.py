@@ -4,8 +4,10 @@ set that is due, and of the one that it replaces."""
 from __future__ import annotations
 
 import math
+from argparse import Namespace
 from collections.abc import Iterator
 from dataclasses import dataclass
+from typing import TYPE_CHECKING
 
 from keyset import Notes
 
@@ -13,6 +15,11 @@ from . import comparing, looking, status
 from .errors import Silent
 from .history import History
 from .looking import Look, Places
+
+if TYPE_CHECKING:
+    from keyset import Status
+
+    from .ending import Clock
 
 ASKED = "UpdateDsRrset"
 
@@ -65,7 +72,7 @@ def rises(noted: Noted, step: int | None, calls: int, old: int, new: int) -> Ite
         yield Version(published[-1].call, max(published[-1].ttl, new))
 
 
-def note(notes: Notes, lines: list[str], told: dict, look: Look) -> None:
+def note(notes: Notes, lines: list[str], told: Status, look: Look) -> None:
     """Notes the TTLs of the DS sets in a look that are above the noted ones, and whether the
     present set is everywhere, if it doesn't change."""
     step = _step(lines) if status.is_asked(told, ASKED) else None
@@ -85,7 +92,7 @@ def _step(lines: list[str]) -> int:
     return asked[-1]
 
 
-def before_step(args, lines: list[str], told: dict, clock) -> None:
+def before_step(args: Namespace, lines: list[str], told: Status, clock: Clock) -> None:
     """Before a change of the DS set is published for the first time: notes the TTL of the set that
     is there. After that caches may keep it for so long, and nobody could see it any more."""
     notes = Notes(args.SCRIPT)

@@ -2,7 +2,11 @@
 
 The key set answers the calls. How long servers and the parent take is assumed here."""
 
+from __future__ import annotations
+
 import base64
+from pathlib import Path
+from typing import TYPE_CHECKING, Collection, Iterable, Iterator, Mapping, Sequence, TypedDict
 
 from keyset import Action, KeySet, Malformed, Notes, Published, Refused, RollType
 from keyset.lines import Line
@@ -13,15 +17,34 @@ from .errors import DUE, USAGE, Failure
 from .keyfiles import SEP, ZONE_KEY
 from .signers import DELETION, Key, Sets
 
+if TYPE_CHECKING:
+    import keyset
+
+    from .signers import Planned
+
 # Seconds, of DS sets, DNSKEY sets and the rest of the zone, if neither notes nor options say them.
 TTLS, DELAYS = (86400, 3600, 3600), (86400, 600, 600)
+
+
+class Step(TypedDict):
+    """A call of a plan, with its moment, what it asks, and what is so after it."""
+
+    moment: int
+    line: str
+    actions: list[str]
+    asks: list[str]
+    published: dict[str, list[str]]
+    verdict: str
 
 
 class Plan:
     """The calls of a roll on a copy of a script, each at the moment that the plan has reached, with
     its answer. TTLs, and delays until all servers have a version, are by kind of set."""
 
-    def __init__(self, lines, moment, ttls, delays, signer=None):
+    steps: list[Step]
+
+    def __init__(self, lines: Iterable[str], moment: int, ttls: Mapping[str, int],
+                 delays: Mapping[str, int], signer: Planned | None = None) -> None:
         # (A line that was refused has no part in what comes.)
         script = "".join(f"{line}\n" for line in lines)
         self.keys = KeySet.resume(script, allow_refused=True)
@@ -30,7 +53,7 @@ class Plan:
         # The DNSKEY set before the plan: servers have it, with its signatures.
         self.present = set(self.keys.published.dnskey)
 
-    def call(self, text):
+    def call(self, text: str) -> list[str]:
         """Makes a call, and gives the kinds of sets that it asks to watch."""
         line = calling.completed(text, lambda: self.moment)
         try:
@@ -51,7 +74,8 @@ class Plan:
         })
         return words.kinds_of(actions)
 
-    def _expect(self, line, actions, published):
+    def _expect(self, line: str, actions: Collection[Action],
+                published: Mapping[str, Iterable[str]]) -> None:
         """The signer can do what a call asks for."""
         keys = {told.reference: self._key(told) for told in self.keys.keys().values()}
         of = {kind: frozenset(keys[name] for name in names) for kind, names in published.items()}
@@ -64,7 +88,7 @@ class Plan:
         if lacks:
             raise Failure(f"{line}: {'; '.join(lacks)}", DUE)
 
-    def _key(self, told):
+    def _key(self, told: keyset.Key) -> Key:
         """A key for a signer: by its file, or else by what the script says of it."""
         try:
             named = {"reference": told.reference, "tag": told.tag, "algorithm": told.algorithm}
@@ -75,12 +99,12 @@ class Plan:
             key = base64.b64encode(told.reference.encode()).decode()
             return Key(f"{flags} 3 {told.algorithm} {key}", told.reference)
 
-    def spread(self, kinds):
+    def spread(self, kinds: Collection[str]) -> None:
         """Goes on until all servers have what was asked, and CDS is out after a DS set."""
         self.moment += max((self.delays[kind] for kind in kinds), default=0)
         self.moment += self.delays["zone"] if "ds" in kinds else 0
 
-    def roll(self, roll, old, new):
+    def roll(self, roll: str, old: str, new: str) -> None:
         """All calls of a roll, with the deletion of the old keys."""
         kinds = self.call(f"start {roll} {old} {new} {self.moment}")
         for half in (1, 2):
@@ -96,7 +120,8 @@ class Plan:
             self.call(f"delete {reference}")
 
 
-def assumed(script, ttls, delays, now):
+def assumed(script: str | Path, ttls: Sequence[int] | None, delays: Sequence[int] | None,
+            now: float) -> list[dict[str, int]]:
     """TTLs and delays by kind: the given ones, else the noted ones, else the usual ones."""
     seen = Seen(Notes(script).lines, now)
     noted = {kind: held[-1] for kind, held in seen.ttls.items()}
@@ -106,7 +131,7 @@ def assumed(script, ttls, delays, now):
     ]
 
 
-def as_text(steps):
+def as_text(steps: Iterable[Step]) -> Iterator[str]:
     """A line for each call, with what it asks, what is published after it, and the verdict."""
     for step in steps:
         yield f"{words.moment(step['moment'])}  {step['line']}"
@@ -114,7 +139,7 @@ def as_text(steps):
         yield f"    {Published(**step['published'])}, {step['verdict']}"
 
 
-def as_calendar(zone, steps):
+def as_calendar(zone: str, steps: Iterable[Step]) -> Iterator[str]:
     """The lines of an iCalendar file (RFC 5545): an event for each call."""
     yield from ("BEGIN:VCALENDAR\r", "VERSION:2.0\r", "PRODID:-//vaqsider//plan//EN\r")
     for number, step in enumerate(steps):
@@ -129,7 +154,7 @@ def as_calendar(zone, steps):
     yield "END:VCALENDAR\r"
 
 
-def _folded(name, text):
+def _folded(name: str, text: str) -> Iterator[str]:
     """A content line, with marks escaped, folded after 75 bytes (section 3.1)."""
     for mark in "\\;,":
         text = text.replace(mark, f"\\{mark}")

@@ -11,6 +11,7 @@ from keyset.notes import KINDS, Seen, to_report
 from . import advice, plan, words
 from .advice import Said
 from .errors import UNAVAILABLE, Failure
+from .plan import Step
 from .policies import Policy
 
 # A course of so many deeds at one moment goes round in circles.
@@ -39,10 +40,10 @@ class Play:
         self.notes = self.notes or [f"before {' '.join(str(self.ttls[kind]) for kind in KINDS)}"]
 
     @property
-    def steps(self) -> list[dict]:
+    def steps(self) -> list[Step]:
         return self.course.steps
 
-    def until(self, end: int) -> list[dict]:
+    def until(self, end: int) -> list[Step]:
         """Plays to this moment. Gives each call with its moment and what it asks."""
         deeds, last = 0, self.moment
         while self.moment < end:
@@ -111,7 +112,7 @@ def invented(zone: str) -> list[str]:
     return [f"zone {zone}"]
 
 
-def texts(steps: Iterable[dict]) -> Iterator[str]:
+def texts(steps: Iterable[Step]) -> Iterator[str]:
     """A line for each call."""
     for step in steps:
         yield f"{words.moment(step['moment'])}  {step['line']}"

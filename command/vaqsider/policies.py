@@ -8,7 +8,7 @@ import re
 import shlex
 from dataclasses import dataclass, field, fields, replace
 from pathlib import Path
-from typing import Callable, NamedTuple, Sequence
+from typing import Callable, Mapping, NamedTuple, Sequence
 
 from keyset.lines import ALGORITHMS, NAMES
 from keyset.notes import path_of
@@ -150,7 +150,7 @@ class Policy:
         return [(name, named[name]) for name in READ_AS]
 
 
-def _options(given: dict[str, object]) -> list[str]:
+def _options(given: Mapping[str, object]) -> list[str]:
     return [it for name, value in given.items() if value is not None
             for it in (f"--{name}", str(value))]
 

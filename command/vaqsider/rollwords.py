@@ -24,6 +24,7 @@ from . import (
 from .ending import Clock, Log
 from .errors import OK, USAGE, Failure
 from .linting import Spans
+from .plan import Step
 from .playing import Play
 from .policies import Policy
 
@@ -97,7 +98,7 @@ def _play(
     return Play(policy, lines, notes, now, spans.ttls, spans.delays, asked)
 
 
-def _steps(play: Play, of: str) -> Iterator[dict]:
+def _steps(play: Play, of: str) -> Iterator[Step]:
     """The calls from a roll's start to its end, with those beside it."""
     has_begun = False
     for step in play.until(play.moment + SHOWN):
@@ -113,7 +114,7 @@ def _log(args: Namespace) -> Log:
     return ticks.logger("text", sys.stderr if args.json else sys.stdout)
 
 
-def _agreed(steps: list[dict]) -> bool:
+def _agreed(steps: list[Step]) -> bool:
     """Whether a person at the terminal wants it."""
     print(*playing.texts(steps), sep="\n")
     print("begin? [y/N] ", end="", flush=True)

@@ -3,6 +3,8 @@ own."""
 
 from __future__ import annotations
 
+from typing import cast
+
 from . import words
 from .errors import Failure
 
@@ -28,7 +30,8 @@ def following(policy: str, unsigned: int, signed: int | None, now: float) -> int
             raise Failure(f"the unsigned zone's serial {unsigned} isn't above {signed}, which "
                           "secondaries have by now: raise it, or leave out --serial keep")
         return unsigned
-    last = unsigned if is_newer else signed
+    # (Without a signed version the unsigned one is newer.)
+    last = unsigned if is_newer else cast(int, signed)
     wishes = {"unixtime": int(now), "date": int(words.utc(now, "%Y%m%d00")), "increment": last}
     wish = wishes[policy] % NUMBERS
     return wish if is_above(wish, last) else after(last)

@@ -13,6 +13,7 @@ import os
 from collections.abc import Iterator
 from concurrent.futures import ThreadPoolExecutor
 from pathlib import Path
+from typing import Any
 
 from keyset import Lines, Locked, file, locked
 
@@ -48,7 +49,9 @@ READ = "SELECT line FROM vaqsider_line WHERE zone = %s AND file = %s ORDER BY nu
 ADD = "INSERT INTO vaqsider_line (zone, file, number, line) VALUES (%s, %s, %s, %s)"
 
 
-def execute(connection, text: str, *values: object):
+def execute(
+    connection: psycopg.Connection[Any], text: str, *values: object
+) -> psycopg.Cursor[Any]:
     """Each statement is made here."""
     try:
         return connection.execute(text, values or None)

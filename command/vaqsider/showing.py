@@ -10,11 +10,12 @@ from keyset import Notes
 from . import draw, plan, playing, policies, status, timeline
 from .errors import OK
 from .linting import Spans
+from .plan import Step
 from .playing import Play
 from .subjects import Subject, subjects
 
 Clock = Callable[[], float]
-Told = tuple[int, Iterator[str], list]
+Told = tuple[int, Iterator[str], list[Step]]
 YEAR = 365 * policies.DAY
 # A policy file without a zone is shown of a zone with this name, which has no key yet.
 EXAMPLE = "example.com"

@@ -75,7 +75,8 @@ def verifying(origin: str, has_opt_out: bool) -> list[str]:
     raise Failure(f"no signed zone is put in place unseen: install {what}", UNAVAILABLE)
 
 
-def run(words: list[str], within: Path | None = None, stdout: IO | int = subprocess.PIPE) -> None:
+def run(words: list[str], within: Path | None = None,
+        stdout: IO[bytes] | int = subprocess.PIPE) -> None:
     """Runs a program. If it fails, the failure has its words; else standard error has them, unless
     its output goes into a file: what reads a zone then tells how it went."""
     try:

@@ -7,11 +7,17 @@ import calendar
 import time
 from dataclasses import dataclass, field
 from pathlib import Path
+from typing import TYPE_CHECKING
 
 from .arguments import file_name
 from .policies import Policy
 from .signers import Sets
 from .zonefile import By, NotFull, covered, parsed, rows
+
+if TYPE_CHECKING:
+    from dns.rdtypes.ANY.DNSKEY import DNSKEY
+
+    from keyset import Status
 
 
 @dataclass
@@ -66,7 +72,7 @@ class Standing:
         ends = [end for by, end in self.by_key.items() if by not in away]
         return min([*ends, *([] if self.until is None else [self.until])], default=None)
 
-    def is_due(self, told: dict) -> bool:
+    def is_due(self, told: Status) -> bool:
         """Whether its sets are those that a status asks for. CDS is another question."""
         of = {key["reference"]: By(key["algorithm"], key["tag"]) for key in told["keys"]}
         due = {kind: {of[name] for name in names} for kind, names in told["published"].items()}
@@ -74,7 +80,7 @@ class Standing:
         return (self.keys, *signers) == (due["dnskey"], due["signers"], due["zone"])
 
 
-def _tag(key) -> int:
+def _tag(key: DNSKEY) -> int:
     import dns.dnssec
 
     return dns.dnssec.key_id(key)

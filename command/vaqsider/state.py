@@ -3,9 +3,11 @@ resolver may find no chain of trust now."""
 
 from __future__ import annotations
 
-from collections.abc import Iterator
+from argparse import Namespace
+from collections.abc import Iterable, Iterator, Sequence
 from dataclasses import asdict, dataclass
 from pathlib import Path
+from typing import TYPE_CHECKING
 
 import keyset
 from keyset import Notes
@@ -15,6 +17,9 @@ from .asking import Server, dns
 from .comparing import Due
 from .errors import BROKEN, DUE, OK, WARNING, Failure
 from .looking import Lack, Look, Places
+
+if TYPE_CHECKING:
+    from keyset import Status
 
 KINDS = ("cds", "dnskey", "ds", "ns", "zone")
 HEAD = ("SERVER", "DNSKEY", "DS", "SIGNED UNTIL", "SERIAL", "CDS")
@@ -32,7 +37,7 @@ class Row:
     serial: int | None = None
     cds: str | None = None
 
-    def cells(self) -> tuple:
+    def cells(self) -> tuple[object, ...]:
         until = None if self.until is None else words.moment(self.until)
         return self.server, self.dnskey, self.ds, until, self.serial, self.cds
 
@@ -41,7 +46,7 @@ class Row:
 class State:
     """A look at all servers, with its rows, what they lack, and where there is no chain."""
 
-    told: dict
+    told: Status
     look: Look
     rows: list[Row]
     lacking: list[Lack]
@@ -62,7 +67,7 @@ class State:
         """What is lacking, each once."""
         return list(dict.fromkeys(map(str, self.lacking)))
 
-    def as_json(self) -> dict:
+    def as_json(self) -> dict[str, object]:
         return {"rows": list(map(asdict, self.rows)), "lacking": list(map(asdict, self.lacking)),
                 "broken": self.broken}
 
@@ -83,7 +88,8 @@ class State:
         return looks.Kept(moment, lines, servers, texts, self.broken, until, renew)
 
 
-def of(told: dict, folders: list, args, now: float, may_have_cds: bool = False) -> State:
+def of(told: Status, folders: Sequence[str | Path], args: Namespace, now: float,
+       may_have_cds: bool = False) -> State:
     """The state of a zone's servers, by its status and the key files in these folders."""
     due = Due.of(told, folders)
     kinds = [kind for kind in KINDS if kind != "ds" or due.zone.strip(".")]
@@ -95,7 +101,9 @@ def of(told: dict, folders: list, args, now: float, may_have_cds: bool = False) 
     return State(told, look, rows, sorted(set(lacking)), list(chains.broken(look)))
 
 
-def agreed(lines: list[str], folders, args, now: float) -> State:
+def agreed(
+    lines: list[str], folders: Iterable[str | Path], args: Namespace, now: float
+) -> State:
     """The state of a zone that is signed already, whose script begins with these lines. If its
     servers don't agree with them, or gave higher TTLs than the notes would begin with, that is a
     failure. Some signers always publish CDS: it may be in, if it is of these keys."""
@@ -143,7 +151,7 @@ def _signed(look: Look, only: Server | None = None) -> Iterator[comparing.Signed
 
 def _of_cds(look: Look, may_be_in: bool) -> list[Lack]:
     """CDS and CDNSKEY have to be out, or those of the DS set that is due."""
-    lacks = []
+    lacks: list[Lack] = []
     for (kind, type_, server), answer in look.answers.items():
         if kind == "cds":
             compare = comparing.cds_lacks if may_be_in else comparing.lacks

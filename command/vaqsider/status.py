@@ -1,5 +1,10 @@
 """One screen for a zone: where each key is, what is due, what comes next, and for whom it waits."""
 
+from __future__ import annotations
+
+from pathlib import Path
+from typing import TYPE_CHECKING, Iterable, Iterator, Mapping, cast
+
 import keyset
 from keyset import Damaged, Lines, Malformed, Torn
 from keyset.errors import EARLY
@@ -10,13 +15,20 @@ from .ending import MEANS
 from .errors import WARNING
 from .history import SAFE
 
+if TYPE_CHECKING:
+    from keyset.members import RollMembers, Status, WaitsFor
+
+    from .resting import Rest
+
+YOU: WaitsFor
+CACHES: WaitsFor
 WAITING = YOU, TICK, PARENT, CACHES = "you", "tick", "parent", "caches"
 LOST = "a line before it may be lost; if it never was accepted, take it out"
 BEFORE_ANEW = {YOU: "do this before you start anew", TICK: "a tick does this before all else"}
 LABELS = {"ds": "DS", "dnskey": "DNSKEY", "signers": "signers", "zone": "zone"}
 
 
-def whole(path, file):
+def whole(path: str | Path, file: Lines) -> list[str]:
     """The lines of a file, if the last one has its line feed. Only its operator knows whether that
     was torn, so no word goes on from it, or cuts it off."""
     if file.torn:
@@ -24,14 +36,14 @@ def whole(path, file):
     return file.lines
 
 
-def lost(refused):
+def lost(refused: Iterable[tuple[int, str]]) -> tuple[int, str] | None:
     """Of refused lines the first that can't be a wait that was too early, with its reason. Only
     accepted lines are kept, so a line before it may be lost."""
     found = (it for it in refused if not it[1].startswith(EARLY))
     return next(((line, f"was refused ({why}): {LOST}") for line, why in found), None)
 
 
-def read(path, now):
+def read(path: str | Path, now: float) -> tuple[list[str], Status]:
     """The lines of a script and its status at this moment. Nothing is shown of a script that may
     have lost a line."""
     lines = whole(path, Lines(path))
@@ -44,21 +56,22 @@ def read(path, now):
     return lines, at(told, now, goes_on(resting.of_ticks(path)))
 
 
-def goes_on(last):
+def goes_on(last: Rest | None) -> str:
     """Who makes the next call, by how the last tick ended: a tick, unless that needs a person."""
     return YOU if last is None or last.status >= WARNING else TICK
 
 
-def at(told, now, who):
+def at(told: Status, now: float, who: str) -> Status:
     """The status at this moment: if a wait is over, it waits for who goes on."""
     for roll in told["rolls"]:
         is_over = isinstance(roll["not_before"], int) and roll["not_before"] <= now
         if is_over or roll["waits_for"] == YOU:
-            roll["waits_for"] = who
+            # (The key set knows of no ticks.)
+            roll["waits_for"] = who  # type: ignore[typeddict-item]
     return told
 
 
-def comes_next(roll):
+def comes_next(roll: RollMembers) -> str:
     """The next call of a roll, in a line's form, with the moment that it waits for."""
     fields = {"ROLL": roll["roll"], "TTL": "TTL", "TIME": "now"}
     call = " ".join([roll["next"], *(fields[name] for name in FORMS[roll["next"]].split())])
@@ -70,19 +83,23 @@ def comes_next(roll):
     return f"{call}, once the key that it checks has its stamp" if lacks_stamp else call
 
 
-def asked(told):
+def asked(told: Status) -> dict[str, list[str]]:
     """The actions that are due, by roll, with those of rolls that were ended early."""
     ended = {roll["roll"]: roll["asked"] for roll in told["ended"]}
     return {**ended, **{roll["roll"]: roll["due"] for roll in told["rolls"]}}
 
 
-def is_asked(told, action):
+def is_asked(told: Status, action: str) -> bool:
     return any(action in actions for actions in asked(told).values())
 
 
-def screen(told, names=None, last=None):
+def screen(
+    told: Status, names: Mapping[str, str] | None = None, last: Rest | None = None
+) -> Iterator[str]:
     """The lines of the screen. Keys may have short names too, and the last tick its end."""
-    places = {name: place for name, place in told["chain"].items() if name != "safe"}
+    # (If the chain is broken, each has a number.)
+    places = cast("dict[str, int]", {
+        name: place for name, place in told["chain"].items() if name != "safe"})
     verdict = SAFE if told["chain"]["safe"] else f"chain {keyset.Broken(**places)}"
     yield f"{told['zone']}: {verdict}"
     for kind, label in LABELS.items():
@@ -102,7 +119,7 @@ def screen(told, names=None, last=None):
         yield f"\n  the last tick, at {when}, {how}: {last.text}"
 
 
-def _keys(told, names):
+def _keys(told: Status, names: Mapping[str, str]) -> Iterator[tuple[object, ...]]:
     short = ("NAME",) if names else ()
     yield "KEY", "KIND", "TAG", "ALGORITHM", "STATE", "IN", "ROLL", "DELETE", *short
     for key in told["keys"]:

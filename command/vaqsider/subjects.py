@@ -49,7 +49,9 @@ def subjects(places: Iterable[str]) -> list[Subject]:
     return [Subject.of(it) for it in [*files, *scripts(others)]]
 
 
-def check(args: Namespace, clock: Callable[[], float]) -> tuple[int, Iterator[str], list]:
+def check(
+    args: Namespace, clock: Callable[[], float]
+) -> tuple[int, Iterator[str], list[dict[str, object]]]:
     """The findings of each policy. The status is that of the worst one."""
     found = [(it.place, one) for it in subjects(args.SCRIPT) for one in it.findings(clock())]
     worst = max((one.level for _, one in found), default=OK)

@@ -11,6 +11,7 @@ import functools
 from argparse import Namespace
 from dataclasses import dataclass, field
 from pathlib import Path
+from typing import TYPE_CHECKING
 
 from keyset import Notes, WrongArgument
 from keyset.lines import Line
@@ -27,6 +28,9 @@ from .keysets import KeySets
 from .policies import Policy
 from .standing import Places, Standing
 from .zonefile import By
+
+if TYPE_CHECKING:
+    from keyset import Status
 
 # A tick makes at most so many deeds, and tries so many keys for one whose tag is free.
 DEEDS, TRIES = 50, 8
@@ -49,7 +53,8 @@ class Tick:
     journal: Journal
     most: int = DEEDS
     lines: list[str] = field(default_factory=list)
-    told: dict = field(default_factory=dict)
+    # (It says nothing until it is read.)
+    told: Status = field(default_factory=dict)  # type: ignore[assignment]
     acted: set[tuple[int, bool, Unsigned]] = field(default_factory=set)
     is_cds_out: bool = False
     stood: tuple[list[int] | None, Standing | None] | None = None

@@ -5,11 +5,14 @@ servers had the next one. The notes say both. Without them a report says it that
 kind and counts from a later step; or else, after the roll that replaced it, the last report of the
 kind has the TTL."""
 
+from __future__ import annotations
+
 from bisect import bisect_left
 from dataclasses import dataclass, field
 from itertools import accumulate
+from typing import Iterable, Sequence
 
-from .history import History
+from .history import Call, History
 
 # The sets with their labels, and the kind of reports that speak of them.
 SETS = {
@@ -19,7 +22,7 @@ SETS = {
     "zone": ("signs zone", "zone"),
 }
 # The phase of a roll that begins with a call.
-PHASES = {
+PHASES: dict[str, str | None] = {
     "start": "propagation 1",
     "report1": "caches 1",
     "wait1": "propagation 2",
@@ -35,11 +38,11 @@ class Bar:
     """A key in a set since a line, or a phase of a roll: from when, until when, and until when
     caches may still hold the key. None means: not yet."""
 
-    begin: int
-    end: int = None
-    gone: int = None
-    word: str = None
-    line: int = None
+    begin: float
+    end: float | None = None
+    gone: float | None = None
+    word: str | None = None
+    line: int | None = None
 
 
 @dataclass
@@ -47,18 +50,21 @@ class Timeline:
     """The span of all moments; when the last rolls started that went beside one another; the phases
     by roll; the bars by the label of a set and by key."""
 
-    begin: int
-    end: int
-    last: int
-    phases: dict = field(default_factory=dict)
-    rows: dict = field(default_factory=dict)
+    begin: float
+    end: float
+    last: float
+    phases: dict[str, list[Bar]] = field(default_factory=dict)
+    rows: dict[str, list[Bar]] = field(default_factory=dict)
 
 
-def timeline(lines, notes=()):
+def timeline(lines: Sequence[str], notes: Iterable[str] = ()) -> Timeline:
     """The timeline of a script with its notes."""
     history = History(lines)
     moments = [call.moment for call in history.calls if call.line.word in PHASES] or [0]
+    bars: dict[str, dict[str, list[Bar]]]
     made, bars = Timeline(moments[0], max(moments), moments[0]), {name: {} for name in SETS}
+    shown: dict[str, set[str]]
+    going: dict[str | None, list[tuple[str, Bar]]]
     held, shown, going = Held(history, notes), {name: set() for name in SETS}, {}
     for call, state in history.states():
         published = state.published
@@ -89,7 +95,12 @@ def timeline(lines, notes=()):
 class Held:
     """Until when caches may hold sets that were replaced, by notes or else by reports."""
 
-    def __init__(self, history, notes):
+    ends: dict[str, list[tuple[int, int]]]
+    ttls: dict[str, list[tuple[int, int]]]
+    versions: dict[str, list[tuple[int, int]]]
+    seen: dict[str, list[tuple[int, int]]]
+
+    def __init__(self, history: History, notes: Iterable[str]) -> None:
         self.ends, self.ttls, self.versions, self.seen = {}, {}, {}, {}
         for call in (call for call in history.calls if call.line.is_report):
             step, kinds = history.step_of(call)
@@ -107,7 +118,7 @@ class Held:
                 version = len(self.versions.get(kind, ()))
                 self.seen.setdefault(kind, []).append((version, int(numbers[0])))
 
-    def until(self, kind, since, call):
+    def until(self, kind: str, since: int, call: Call) -> int | None:
         """The moment until which caches may hold a key that was in sets of a kind since a line, and
         that a call takes out. None if neither notes nor a report say it."""
         versions, seen = self.versions.get(kind, ()), self.seen.get(kind, ())
@@ -122,19 +133,19 @@ class Held:
         at = bisect_left(ends, (call.number,))
         return ends[at][1] if at < len(ends) else None
 
-    def at_least(self, kind, call):
+    def at_least(self, kind: str, call: Call) -> int:
         """The same by the TTL of the last report of the kind before a call."""
         ttls = self.ttls.get(kind, ())
         at = bisect_left(ttls, (call.number,))
         return call.moment + (ttls[at - 1][1] if at else 0)
 
 
-def _first(later, report):
+def _first(later: tuple[int, int], report: tuple[int, int]) -> tuple[int, int]:
     """The step of a report, and the first end of it and of those that count from a later step."""
     return report[0], min(later[1], report[1])
 
 
-def _phase(phases, call):
+def _phase(phases: dict[str, list[Bar]], call: Call) -> None:
     """Ends the phase before a call, and begins the one after it."""
     if call.line.word in PHASES:
         row = phases.setdefault(call.line.roll, [])

@@ -4,7 +4,10 @@ from __future__ import annotations
 
 import math
 import time
+from argparse import Namespace
+from collections.abc import Callable, Iterable, Iterator
 from dataclasses import asdict
+from typing import TYPE_CHECKING
 
 from keyset import Locked, Notes
 from keyset.notes import Seen, to_report
@@ -12,6 +15,11 @@ from keyset.notes import Seen, to_report
 from . import calling, chains, comparing, looking, parents, status, words
 from .errors import BROKEN, DUE, OK, UNAVAILABLE, Failure
 from .looking import Lack, Look, Places
+
+if TYPE_CHECKING:
+    from keyset import Status
+
+    from .ending import Clock
 
 # What servers of the zone are asked for in any case.
 OF_ZONE = ("dnskey", "ns", "zone")
@@ -22,7 +30,15 @@ class Watcher:
     """Watches the servers for the rolls of one script that wait for a report or for their end, and
     for those that were ended early."""
 
-    def __init__(self, args, clock, progress):
+    made: dict[str, calling.Made]
+    notes: Notes
+    lines: list[str]
+    rolls: dict[str, str | None]
+    kinds: dict[str, list[str]]
+
+    def __init__(
+        self, args: Namespace, clock: Clock, progress: Callable[[str], object]
+    ) -> None:
         self.args, self.clock, self.progress, self.made = args, clock, progress, {}
         self.lacking: list[Lack] = []
         self.beside: list[Lack] = []
@@ -79,7 +95,7 @@ class Watcher:
                 parents.note(self.notes, self.lines, told, look)
             self.judge(look, kinds)
 
-    def ask(self, told: dict, kinds: list[str]) -> Look:
+    def ask(self, told: Status, kinds: list[str]) -> Look:
         """What all servers give of these kinds and of the others; if the DS set is awaited, also
         whether CDS is out."""
         due = comparing.Due.of(told, comparing.folders_of(self.args))
@@ -103,7 +119,7 @@ class Watcher:
         self.asked = {"servers": look.servers({*kinds, "cds"} - {"ds"}),
                       "parents": look.servers({"ds"} & set(kinds))}
 
-    def lacks(self, kinds) -> set[str]:
+    def lacks(self, kinds: Iterable[str]) -> set[str]:
         """What servers lack of these kinds; CDS has to be out after a DS set."""
         of = {*kinds, *(["cds"] if "ds" in kinds else [])}
         return {it.kind for it in self.lacking} & of
@@ -130,7 +146,7 @@ class Watcher:
         seen = BROKEN if self.broken else DUE if self.lacking or self.beside else OK
         return max([seen, *(made.status for made in self.made.values())])
 
-    def text(self):
+    def text(self) -> Iterator[str]:
         """For people: which server lacks what, and what comes next in each roll."""
         yield from dict.fromkeys(map(str, sorted(self.lacking + self.beside)))
         yield from self.broken
@@ -147,7 +163,7 @@ class Watcher:
         if not (self.rolls or self.made):
             yield "nothing is to be watched: --state shows what servers give"
 
-    def as_json(self) -> dict:
+    def as_json(self) -> dict[str, object]:
         ready = [roll for roll in filter(self.rolls.get, self.ready()) if roll not in self.made]
         return {
             "lacking": list(map(asdict, self.lacking)),

@@ -1,8 +1,14 @@
 """Words for people: actions, refusals, moments."""
 
+from __future__ import annotations
+
 import re
+from typing import TYPE_CHECKING, Container, Iterable, Iterator, Mapping
 
 from .errors import Failure
+
+if TYPE_CHECKING:
+    from typing_extensions import TypeGuard
 
 # What each action asks, with the sets that have to be published.
 ACTIONS = {
@@ -40,11 +46,11 @@ REFUSALS = {
 }
 
 
-def listed(names):
+def listed(names: Iterable[str]) -> str:
     return " ".join(names) or "no key"
 
 
-def asks(actions, published):
+def asks(actions: Iterable[str], published: Mapping[str, Iterable[str]]) -> Iterator[str]:
     """What actions ask, in plain words."""
     sets = {kind: listed(keys) for kind, keys in published.items()}
     for name in actions:
@@ -52,18 +58,18 @@ def asks(actions, published):
         yield WATCHED[watch["what"]][1] if watch else ACTIONS[name].format(**sets)
 
 
-def kinds_of(actions, of=("Report", "Wait")):
+def kinds_of(actions: Iterable[str], of: Container[str] = ("Report", "Wait")) -> list[str]:
     """The kinds of sets that these actions ask to watch: `dnskey`, `zone` or `ds`."""
     found = filter(None, map(_WATCH.fullmatch, actions))
     return [WATCHED[watch["what"]][0] for watch in found if watch["for"] in of]
 
 
-def refusal(reason):
+def refusal(reason: str) -> str:
     """What to do about a refusal."""
     return next((do for text, do in REFUSALS.items() if reason.startswith(text)), "")
 
 
-def utc(seconds, form):
+def utc(seconds: float, form: str) -> str:
     import datetime
 
     try:
@@ -72,17 +78,17 @@ def utc(seconds, form):
         raise Failure(f"no calendar has the moment {seconds}") from None
 
 
-def moment(seconds):
+def moment(seconds: float) -> str:
     """A moment for people, in UTC. Moments of examples, near the start of 1970, stay
     numbers."""
     return utc(seconds, "%Y-%m-%d %H:%M:%SZ") if is_date(seconds) else str(seconds)
 
 
-def is_date(seconds):
+def is_date(seconds: float | None) -> TypeGuard[float]:
     return seconds is not None and 10**8 < seconds < 10**11
 
 
-def duration(seconds):
+def duration(seconds: int) -> str:
     """A time span in its two largest units."""
     parts = []
     for unit, size in (("d", 86400), ("h", 3600), ("min", 60), ("s", 1)):
@@ -92,7 +98,7 @@ def duration(seconds):
     return " ".join(parts[:2]) or "0 s"
 
 
-def table(rows):
+def table(rows: Iterable[Iterable[object]]) -> Iterator[str]:
     """Rows of texts in columns."""
     rows = [["-" if cell is None else str(cell) for cell in row] for row in rows]
     widths = [max(map(len, column)) for column in zip(*rows)]

@@ -10,7 +10,7 @@ import re
 import sys
 from dataclasses import dataclass, field
 from pathlib import Path
-from typing import Iterable, Iterator, NamedTuple
+from typing import Any, Iterable, Iterator, NamedTuple
 
 from .errors import BROKEN, UNAVAILABLE, Failure
 from .signing import Nsec3, Tools, run
@@ -24,6 +24,8 @@ except ImportError:
     text = f"python3-dnspython is missing for {sys.executable}: install it to read zones"
     raise Failure(text, UNAVAILABLE) from None
 
+# The data of a record. dnspython has a class for each type, whose members are those of that type.
+Record = Any
 FULL = re.compile(r"(\S+\.|\.)\s+(\d+)\s+IN\s+(\S+)\s*(.*)")
 # What a signer makes, and what comes from the script's keys.
 MADE = {"RRSIG", "NSEC", "NSEC3", "NSEC3PARAM"}
@@ -79,7 +81,7 @@ def in_full(path: Path, origin: str, tools: Tools, folder: Path) -> Path:
     return made
 
 
-def parsed(kind: str, data: str):
+def parsed(kind: str, data: str) -> Record:
     """The data of a record, as dnspython has it, so that two ways to write it are equal."""
     try:
         return dns.rdata.from_text(dns.rdataclass.IN, dns.rdatatype.from_text(kind), data)
@@ -143,7 +145,7 @@ class Zone:
         algorithm, _, iterations, salt = found[0].data.split()
         return Nsec3(int(algorithm), int(self.opt_out), int(iterations), salt)
 
-    def data(self, kind: str) -> set:
+    def data(self, kind: str) -> set[Record]:
         """The data of a set at the top."""
         return {parsed(kind, row.data) for row in self.top.get(kind, ())}
 

@@ -1,9 +1,17 @@
 """Many zones at once: who waits for whom, as a table or for Prometheus."""
 
+from __future__ import annotations
+
 from pathlib import Path
+from typing import TYPE_CHECKING, Any, Callable, Iterable, Iterator
 
 from . import check, looks, resting, status, words
 from .errors import BROKEN, OK, UNAVAILABLE, WARNING, Failure, failure_of
+
+if TYPE_CHECKING:
+    from keyset import Status
+
+    from .resting import Rest
 
 METRICS = {
     "chain_safe": "1 if the chain of trust held all the time, else 0",
@@ -22,7 +30,9 @@ METRICS = {
 OTHERS = ("script", "zone", "fault", "next", "servers", "signed", "tick")
 
 
-def zones(folder, now, progress=lambda done, of: None, counts=False):
+def zones(folder: str | Path, now: float,
+          progress: Callable[[int, int], None] = lambda done, of: None,
+          counts: bool = False) -> Iterator[dict[str, Any]]:
     """The zones of a folder, by the names of their files: what each asks for, or its fault. What
     `check` finds is counted if that is asked for: it takes longer than all else."""
     paths = sorted(Path(folder).glob("*.script"))
@@ -47,7 +57,7 @@ def zones(folder, now, progress=lambda done, of: None, counts=False):
         yield {**zone, **of_status, **look, "lines": len(lines)}
 
 
-def _of_status(told, now, last):
+def _of_status(told: Status, now: float, last: Rest | None) -> dict[str, object]:
     """The zone's name, its verdict, whom it waits for, and until when, by the last tick."""
     waits = [roll for roll in told["rolls"] if roll["waits_for"] == status.CACHES]
     ends = [it["not_before"] for it in waits if isinstance(it["not_before"], int)]
@@ -60,7 +70,7 @@ def _of_status(told, now, last):
             "next": moment, "next_seconds": moment and moment - int(now)}
 
 
-def _of_look(path, now):
+def _of_look(path: Path, now: float) -> dict[str, object]:
     """What the last look at the zone's servers found."""
     kept = looks.read(path)
     if kept is None:
@@ -71,7 +81,7 @@ def _of_look(path, now):
             "servers_lacking": kept.servers, "look_age_seconds": kept.age(now)}
 
 
-def _of_tick(path, now):
+def _of_tick(path: Path, now: float) -> dict[str, object]:
     """How the last tick ended that had something to do."""
     kept = resting.read(path)
     if kept is None:
@@ -84,7 +94,7 @@ def _of_tick(path, now):
     }
 
 
-def table(found):
+def table(found: Iterable[dict[str, Any]]) -> Iterator[str]:
     """For people: a row for each zone."""
     rows = [("ZONE", "CHAIN", "WAITS FOR", "NEXT", "LINES", "SERVERS", "SIGNED UNTIL")]
     for zone in found:
@@ -95,7 +105,7 @@ def table(found):
     return words.table(rows)
 
 
-def prometheus(found):
+def prometheus(found: Iterable[dict[str, Any]]) -> Iterator[str]:
     """The text format that Prometheus reads."""
     for name, says in METRICS.items():
         yield from (f"# HELP vaqsider_{name} {says}", f"# TYPE vaqsider_{name} gauge")
@@ -106,7 +116,7 @@ def prometheus(found):
             yield f"vaqsider_{name}{{{quoted}}} {1 if who else int(zone[name])}"
 
 
-def _quoted(text):
+def _quoted(text: str) -> str:
     """A text as the value of a label. A byte that isn't UTF-8 has no form there."""
     text = text.encode("utf-8", "surrogateescape").decode("utf-8", "replace")
     return text.replace("\\", "\\\\").replace('"', '\\"').replace("\n", "\\n")

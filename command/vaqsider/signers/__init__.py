@@ -9,10 +9,23 @@ from __future__ import annotations
 from argparse import Namespace
 from dataclasses import dataclass, field
 from pathlib import Path
-from typing import Callable, ContextManager, Iterable, Iterator, Protocol
+from typing import (
+    TYPE_CHECKING,
+    Callable,
+    ContextManager,
+    Iterable,
+    Iterator,
+    Mapping,
+    Protocol,
+    Sequence,
+)
 
 from ..errors import UNAVAILABLE, USAGE, Failure
 from ..keyfiles import SEP, KeyFile, key_tag
+
+if TYPE_CHECKING:
+    from ..act import Act
+    from .daemon import Store
 
 # What CDS for no key at all is for: the DS set has to go (RFC 8078, section 4).
 DELETION = "0 3 0 AA=="
@@ -123,7 +136,7 @@ class Version(Protocol):
     def notices(self) -> Iterator[str]:
         """What an operator should know."""
 
-    def value(self, commands: list[str]) -> dict:
+    def value(self, commands: list[str]) -> dict[str, object]:
         """The same for --json."""
 
     def put(self) -> None:
@@ -176,11 +189,13 @@ NAMES = ("bind", "ldns", "pdns", "pdns-api URL", "knot", "bind-inline", "hook CO
 # The signers that are named with a word more.
 WITH = ("hook", "pdns-api")
 # What a signer that runs sets itself: the options of an act for it, with what it does itself.
-OF_FILES = {"serial": ["unixtime"], "nsec3": [None], "lifetime": [30 * 86400], "jitter": [None],
-            "dnskey_ttl": [None], "digest": [None, [2]], "out": [None]}
+OF_FILES: dict[str, list[object]] = {
+    "serial": ["unixtime"], "nsec3": [None], "lifetime": [30 * 86400], "jitter": [None],
+    "dnskey_ttl": [None], "digest": [None, [2]], "out": [None],
+}
 
 
-def of(args: Namespace, act) -> Signer:
+def of(args: Namespace, act: Act) -> Signer:
     """The signer that the command line names, for an act."""
     name, _, command = (args.signer or "bind").partition(" ")
     if name in ("bind", "ldns"):
@@ -198,7 +213,7 @@ class Planned:
     are away can't sign another DNSKEY set than the present one at a moment."""
 
     lacks: Callable[[Sets], Iterator[str]]
-    folders: list
+    folders: Sequence[str | Path]
     away: Callable[[Sets, float], Iterator[str]] = lambda *_: iter(())
 
 
@@ -215,7 +230,7 @@ def planned(args: Namespace, zone: str) -> Planned | None:
     return Planned(store(name, command, args, zone.rstrip(".") + ".").lacks, folders)
 
 
-def store(name: str, command: str, args: Namespace, origin: str):
+def store(name: str, command: str, args: Namespace, origin: str) -> Store:
     """The database of a signer that runs."""
     if name not in STORES or (name in WITH) != bool(command.strip()):
         raise Failure(f"--signer is {', '.join(NAMES)}, not '{args.signer}'", USAGE)
@@ -233,37 +248,37 @@ def not_taken(args: Namespace) -> Iterator[str]:
                 yield option.replace("_", "-")
 
 
-def _pdns(_, args, origin):
+def _pdns(_: str, args: Namespace, origin: str) -> Store:
     from . import pdns
 
     return pdns.Pdnsutil(origin, args.signer_config, getattr(args, "nsec3", None))
 
 
-def _pdns_api(url, args, origin):
+def _pdns_api(url: str, args: Namespace, origin: str) -> Store:
     from . import pdns_api
 
     nsec3 = getattr(args, "nsec3", None)
     return pdns_api.Api(origin, url.strip(), args.signer_config, nsec3)
 
 
-def _knot(_, args, origin):
+def _knot(_: str, args: Namespace, origin: str) -> Store:
     from . import knot
 
     return knot.Knot(origin, args.signer_config)
 
 
-def _inline(_, args, origin):
+def _inline(_: str, args: Namespace, origin: str) -> Store:
     from . import inline
 
     return inline.Inline(origin, args)
 
 
-def _hook(command, args, origin):
+def _hook(command: str, args: Namespace, origin: str) -> Store:
     from . import hook
 
     return hook.Hook(origin, command)
 
 
-STORES: dict[str, Callable] = {
+STORES: dict[str, Callable[[str, Namespace, str], Store]] = {
     "pdns": _pdns, "pdns-api": _pdns_api, "knot": _knot, "bind-inline": _inline, "hook": _hook,
 }

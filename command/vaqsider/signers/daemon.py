@@ -126,7 +126,7 @@ class Plan:
     def notices(self) -> Iterator[str]:
         return iter(())
 
-    def value(self, commands: list[str]) -> dict:
+    def value(self, commands: list[str]) -> dict[str, object]:
         return {"signer": self.store.name, "commands": commands, "cds": self.has_cds,
                 "valid_until": {}}
 

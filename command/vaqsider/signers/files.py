@@ -11,7 +11,7 @@ from argparse import Namespace
 from dataclasses import dataclass, replace
 from itertools import chain
 from pathlib import Path
-from typing import TYPE_CHECKING, Iterable, Iterator
+from typing import TYPE_CHECKING, Iterable, Iterator, Sequence
 
 from .. import place, serial, signing, words, zonefile
 from ..arguments import expect_other, file_name
@@ -91,7 +91,7 @@ class Plan:
             yield f"{name} can't sign: its signature of the DNSKEY set is valid until " \
                 f"{words.moment(moment)}"
 
-    def value(self, commands: list[str]) -> dict:
+    def value(self, commands: list[str]) -> dict[str, object]:
         """The same for --json."""
         return {
             "signed": str(self.signer.signed),
@@ -181,7 +181,7 @@ class Files:
             sets.update(self.keys.cds(unsigned.soa.ttl, self.act.digests))
         return sets
 
-    def signers(self) -> dict[str, frozenset]:
+    def signers(self) -> dict[str, frozenset[By]]:
         """Which keys sign DNSKEY, CDS and CDNSKEY, and the rest."""
         zone = self.keys.published["zone"]
         cds = self.keys.by([*self.keys.cds_signer(), *zone])
@@ -208,7 +208,7 @@ def lacks(name: str, wanted: Sets) -> Iterator[str]:
         yield "ldns can't sign a zone with a CSK beside a ZSK: use --signer bind"
 
 
-def planned(name: str, script: str, zone: str, folders: list) -> Planned:
+def planned(name: str, script: str, zone: str, folders: Sequence[str | Path]) -> Planned:
     """The tools of a signer, for a plan: a key that is away signs only by a ceremony."""
     from .. import ceremony
 

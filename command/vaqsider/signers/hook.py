@@ -6,7 +6,7 @@ from __future__ import annotations
 
 import json
 from pathlib import Path
-from typing import Iterator
+from typing import Any, Iterator
 
 from ..errors import UNAVAILABLE, Failure
 from . import SAID, Key, Sets
@@ -25,7 +25,7 @@ class Hook:
         self.zone, self.command = origin, command.strip()
 
     def _asking(self, verb: str, sets: Sets | None = None) -> Step:
-        asked: dict = {"verb": verb, "zone": self.zone}
+        asked: dict[str, object] = {"verb": verb, "zone": self.zone}
         if sets is not None:
             asked["keys"] = [self._key(key, sets) for key in sorted(
                 sets.keys | sets.cds, key=lambda it: (str(it), it.data))]
@@ -33,7 +33,7 @@ class Hook:
         return Step(words, stdin=json.dumps(asked), seconds=PATIENCE)
 
     @staticmethod
-    def _key(key: Key, sets: Sets) -> dict:
+    def _key(key: Key, sets: Sets) -> dict[str, object]:
         file = key.file
         return {
             "key": str(key), "record": key.data, "tag": key.tag, "algorithm": key.algorithm,
@@ -42,7 +42,7 @@ class Hook:
             **{kind: key in getattr(sets, kind) for kind in SAID},
         }
 
-    def _answer(self, verb: str, sets: Sets | None = None) -> dict:
+    def _answer(self, verb: str, sets: Sets | None = None) -> dict[str, Any]:
         text = self._asking(verb, sets).run()
         try:
             told = json.loads(text)

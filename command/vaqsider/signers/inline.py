@@ -68,7 +68,9 @@ class Inline:
 
     name, options = "bind-inline", ()
 
-    def __init__(self, origin: str, args: Namespace, clock: Callable[[], float] = time.time):
+    def __init__(
+        self, origin: str, args: Namespace, clock: Callable[[], float] = time.time
+    ) -> None:
         self.zone, self.clock = origin.rstrip(".") or ".", clock
         self.origin = origin
         self.folder = Path((args.keys or [Path(args.SCRIPT).parent])[0])

@@ -10,7 +10,7 @@ import json
 import re
 import shutil
 from pathlib import Path
-from typing import Iterator
+from typing import Any, Callable, Iterable, Iterator, Mapping
 
 from ..errors import UNAVAILABLE, Failure
 from . import DELETION, Key, Sets
@@ -32,7 +32,7 @@ WANTED = {"manual": "on", "cds-cdnskey-publish": "rollover"}
 class Held:
     """A key that Knot has."""
 
-    def __init__(self, told: dict, data: str, now: float) -> None:
+    def __init__(self, told: Mapping[str, Any], data: str, now: float) -> None:
         self.id, self.key = told["id"], Key.of(data)
         self.is_ksk, self.is_zsk = told["ksk"], told["zsk"]
         self.is_public_only = told["public-only"]
@@ -69,7 +69,8 @@ class Knot:
 
     name, options = "knot", ()
 
-    def __init__(self, origin: str, config: str | None, clock=None) -> None:
+    def __init__(self, origin: str, config: str | None,
+                 clock: Callable[[], float] | None = None) -> None:
         import time
 
         self.zone = origin
@@ -116,7 +117,7 @@ class Knot:
             raise Failure(f"Knot rolls {' '.join(odd)} itself: let that end, and set manual: on",
                           UNAVAILABLE)
 
-        def those(is_so) -> frozenset[Key]:
+        def those(is_so: Callable[[Held], bool]) -> frozenset[Key]:
             return frozenset(key for it, key in of if is_so(it))
 
         zone = those(lambda it: it.is_zsk and (it.is_active or self._signs_as_ready(it, of)))
@@ -125,7 +126,7 @@ class Knot:
                     those(lambda it: it.is_ready))
 
     @staticmethod
-    def _signs_as_ready(held: Held, of: list) -> bool:
+    def _signs_as_ready(held: Held, of: list[tuple[Held, Key]]) -> bool:
         """A CSK that is ready signs the zone, unless another key of its algorithm does."""
         others = (it for it, key in of if it.is_zsk and it.is_active
                   and key.algorithm == held.key.algorithm)
@@ -261,5 +262,5 @@ def _seconds(text: str) -> int:
                for number, unit in re.findall(r"(\d+)([smhdwMy]?)", text))
 
 
-def _sorted(keys) -> list[Key]:
+def _sorted(keys: Iterable[Key]) -> list[Key]:
     return sorted(keys, key=str)

@@ -11,7 +11,7 @@ from __future__ import annotations
 import re
 from dataclasses import dataclass
 from pathlib import Path
-from typing import Iterator
+from typing import Iterable, Iterator
 
 import dns.dnssec
 import dns.name
@@ -268,5 +268,5 @@ def presigned(zone: str) -> Failure:
                    "unset-presigned' first", UNAVAILABLE)
 
 
-def _sorted(keys) -> list[Key]:
+def _sorted(keys: Iterable[Key]) -> list[Key]:
     return sorted(keys, key=str)

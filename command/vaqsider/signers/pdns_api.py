@@ -9,7 +9,7 @@ import urllib.error
 import urllib.parse
 import urllib.request
 from pathlib import Path
-from typing import Any, Iterator
+from typing import Any, Iterator, Mapping
 
 from ..errors import UNAVAILABLE, USAGE, Failure
 from . import Key
@@ -24,7 +24,7 @@ PATHS = "/api/v1/servers/localhost"
 class Stays(urllib.request.HTTPRedirectHandler):
     """The key of the API goes to no other place."""
 
-    def redirect_request(self, *_) -> None:
+    def redirect_request(self, *_: object) -> None:
         return None
 
 
@@ -110,7 +110,7 @@ class Api(PowerDns):
 
     # What is there
 
-    def zone_told(self) -> dict:
+    def zone_told(self) -> dict[str, Any]:
         told = self.ask("GET", self.at("/zones/ZONE"))
         if not isinstance(told, dict) or not isinstance(told.get("rrsets"), list):
             raise self._odd("the zone")
@@ -126,7 +126,7 @@ class Api(PowerDns):
             raise self._odd("keys") from None
 
     @staticmethod
-    def _held(told: dict) -> Held:
+    def _held(told: Mapping[str, Any]) -> Held:
         if not isinstance(told["active"], bool) or not isinstance(told["published"], bool):
             raise ValueError("flags")
         return Held(str(told["id"]), Key.of(told["dnskey"]), told["active"], told["published"])
@@ -172,7 +172,7 @@ class Api(PowerDns):
         yield self.step("PATCH", "/zones/ZONE", {"rrsets": [
             self._set(kind, ttl, rows) for kind, rows in data.items()]})
 
-    def _set(self, kind: str, ttl: int, rows: list[str]) -> dict:
+    def _set(self, kind: str, ttl: int, rows: list[str]) -> dict[str, object]:
         name = "." if self.zone == "." else f"{self.zone}."
         if not rows:
             return {"name": name, "type": kind, "changetype": "DELETE"}

@@ -4,6 +4,7 @@ from __future__ import annotations
 
 import json
 from pathlib import Path
+from typing import Any, Mapping
 from urllib.parse import unquote, urlparse
 
 from ..errors import UNAVAILABLE, Failure
@@ -37,11 +38,11 @@ def tell(zone: str, asked: Asked) -> Told:
     return Told([it for it, _ in found if it], moving, list(STOPS))
 
 
-def _phase(phase) -> str:
+def _phase(phase: object) -> str:
     return next(iter(phase)) if isinstance(phase, dict) else str(phase)
 
 
-def _found(reference: str, told: dict, folder: Path) -> tuple[Found | None, str]:
+def _found(reference: str, told: Mapping[str, Any], folder: Path) -> tuple[Found | None, str]:
     """A key, or None if it is not in use; and what is in progress with it."""
     (kind, roles), = told["keytype"].items()
     roles = roles if kind == "Csk" else [roles]
@@ -66,7 +67,7 @@ NUMBERS = {"RSASHA256": 8, "RSASHA512": 10, "ECDSAP256SHA256": 13, "ECDSAP384SHA
            "ED25519": 15, "ED448": 16}
 
 
-def _algorithm(told) -> int:
+def _algorithm(told: str | int) -> int:
     return NUMBERS.get(str(told).upper()) or int(told)
 
 

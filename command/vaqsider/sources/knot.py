@@ -4,12 +4,15 @@ from __future__ import annotations
 
 import base64
 from pathlib import Path
-from typing import Callable
+from typing import TYPE_CHECKING, Callable
 
 from ..errors import UNAVAILABLE, Failure
 from ..signers import Key
 from ..signers.knot import Held, Knot
 from . import Asked, Found, Told, expect, in_private
+
+if TYPE_CHECKING:
+    from cryptography.hazmat.primitives.asymmetric import ec, ed448, ed25519, rsa
 
 STOPS = (
     "before anything else: 'manual: on' in the policy of {zone}, then 'knotc reload': Knot rolls"
@@ -89,14 +92,16 @@ def from_pem(data: bytes, key: Key, where: str) -> str:
 
 
 # Each gives a key's public half as its DNSKEY record has it, and the fields of its private one.
-def _of_curve(private) -> tuple[bytes, dict[str, str]]:
+def _of_curve(private: ec.EllipticCurvePrivateKey) -> tuple[bytes, dict[str, str]]:
     numbers, length = private.private_numbers(), (private.curve.key_size + 7) // 8
     point = numbers.public_numbers
     public = point.x.to_bytes(length, "big") + point.y.to_bytes(length, "big")
     return public, {"PrivateKey": _bytes(numbers.private_value, length)}
 
 
-def _of_edwards(private) -> tuple[bytes, dict[str, str]]:
+def _of_edwards(
+    private: ed25519.Ed25519PrivateKey | ed448.Ed448PrivateKey
+) -> tuple[bytes, dict[str, str]]:
     from cryptography.hazmat.primitives import serialization as of
 
     secret = private.private_bytes(of.Encoding.Raw, of.PrivateFormat.Raw, of.NoEncryption())
@@ -104,7 +109,7 @@ def _of_edwards(private) -> tuple[bytes, dict[str, str]]:
     return public, {"PrivateKey": base64.b64encode(secret).decode()}
 
 
-def _of_rsa(private) -> tuple[bytes, dict[str, str]]:
+def _of_rsa(private: rsa.RSAPrivateKey) -> tuple[bytes, dict[str, str]]:
     numbers = private.private_numbers()
     of = numbers.public_numbers
     values = (of.n, of.e, numbers.d, numbers.p, numbers.q, numbers.dmp1, numbers.dmq1,

@@ -59,7 +59,7 @@ def tell(zone: str, asked: Asked) -> Told:
     return Told(keys, moving, [it.format(ids=" ".join(ids)) for it in STOPS])
 
 
-def _found(row: re.Match, key: Key) -> Found:
+def _found(row: re.Match[str], key: Key) -> Found:
     role = row["role"].upper()
     return Found(key, role != "ZSK", role != "KSK", reference=_uri(row["id"]))
 
@@ -69,7 +69,7 @@ def _uri(number: str) -> str:
     return "pkcs11:id=" + "".join(f"%{number[at:at + 2]}" for at in range(0, len(number), 2))
 
 
-def _rows(zone: str, socket: str | None) -> list[re.Match]:
+def _rows(zone: str, socket: str | None) -> list[re.Match[str]]:
     """The rows of the zone's keys."""
     found = filter(None, map(DEBUG.fullmatch, _list("--debug", socket)))
     name = zone.rstrip(".").lower()
@@ -84,14 +84,14 @@ def _tags(socket: str | None) -> dict[str, tuple[int, int]]:
     return {it["id"].lower(): (int(it["tag"]), int(it["algorithm"])) for it in found}
 
 
-def _states(row: re.Match) -> list[str]:
+def _states(row: re.Match[str]) -> list[str]:
     """The states of a key's records that count."""
     states = [row[it] for it in ("ds", "dnskey", "keys", "rest")]
     expect(set(states) <= STATES, f"ods-enforcer key list: a state that isn't known: {row[0]}")
     return [it for it in states if it != NONE]
 
 
-def _moving(row: re.Match, counts: list[str], at: tuple[int, int] | None) -> str:
+def _moving(row: re.Match[str], counts: list[str], at: tuple[int, int] | None) -> str:
     """What is in progress with a key."""
     states = ", ".join("new" if it == NEW else it for it in counts)
     waits = ["wait until 'ods-enforcer key list --debug' says omnipresent"]
