@@ -50,7 +50,7 @@ class Act:
         """Whether CDS stays out in this step. It was taken out in it, or by the notes all servers
         of the parent have the DS set."""
         if self.args.no_cds or self.args.cds:
-            return self.args.no_cds
+            return bool(self.args.no_cds)
         found = filter(None, map(SAID.fullmatch, said))
         words_of_step = [it["word"] for it in found if it["step"] == _name(step)]
         if words_of_step:

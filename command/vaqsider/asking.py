@@ -14,6 +14,7 @@ PACKAGES = {"dns": "python3-dnspython", "cryptography": "python3-cryptography"}
 
 try:
     import cryptography  # noqa: F401 (dns.dnssec checks signatures by it)
+    import dns as dns  # (Others have it from here.)
     import dns.dnssec
     import dns.exception
     import dns.flags
@@ -70,8 +71,9 @@ class Answer:
 
 def exchange(query: dns.message.Message, address: str, port: int) -> dns.message.Message:
     """The response of a server: over UDP, and over TCP after truncation."""
-    how = {"ignore_unexpected": True, "one_rr_per_rrset": True}
-    return dns.query.udp_with_fallback(query, address, timeout=SECONDS, port=port, **how)[0]
+    return dns.query.udp_with_fallback(
+        query, address, timeout=SECONDS, port=port, ignore_unexpected=True, one_rr_per_rrset=True
+    )[0]
 
 
 def respond(server: Server, port: int, zone: str, kind: str) -> dns.message.Message | str:
@@ -219,4 +221,5 @@ def named_by(server: Server, port: int, zone: str) -> set[str]:
 
 
 def _target(data: Record) -> str:
-    return data.target.to_text(omit_final_dot=True)
+    target: dns.name.Name = data.target
+    return target.to_text(omit_final_dot=True)

@@ -89,15 +89,14 @@ class While:
 
 def whiles(lines: list[str], told: Status, args: Namespace, now: int) -> list[While]:
     """The sets of the time that is asked for: the one that is due, and those of planned rolls."""
-    assumed = plan.assumed(args.SCRIPT, args.ttls, args.delays, now)
-    made = plan.Plan(lines, now, *assumed)
+    made = plan.Plan(lines, now, *plan.assumed(args.SCRIPT, args.ttls, args.delays, now))
     for line in args.first or ():
         made.call(line)
     for words in args.roll or ():
         roll, old, new = _roll(words)
         made.roll(roll, old, new)
     last = max(now + int(args.span), made.moment)
-    steps = [(now, told["published"]), *((it["moment"], it["published"]) for it in made.steps)]
+    steps = [(now, status.sets_of(told)), *((it["moment"], it["published"]) for it in made.steps)]
     ends = [*(moment for moment, _ in steps[1:]), last]
     found: dict[tuple[frozenset[str], frozenset[str]], While] = {}
     for (begin, published), end in zip(steps, ends):
@@ -192,7 +191,8 @@ def take(args: Namespace, now: int) -> list[Row]:
 
 
 def _told(path: str) -> list[dict[str, Any]]:
-    return json.loads(Path(path).read_text(encoding="utf-8"))["signatures"]
+    told: list[dict[str, Any]] = json.loads(Path(path).read_text(encoding="utf-8"))["signatures"]
+    return told
 
 
 def _taken(told: Mapping[str, Any], number: int, origin: str, files: Files) -> Row:
@@ -208,11 +208,11 @@ def _taken(told: Mapping[str, Any], number: int, origin: str, files: Files) -> R
     except dns.exception.DNSException as error:
         text = f"signature {number}, by {one.key}, isn't right: {error}"
         raise Failure(text, WARNING) from None
-    return Row(origin, one.ttl, "RRSIG", rrsig.to_text())
+    return Row(origin, one.ttl, "RRSIG", str(rrsig))
 
 
 def _expires(row: Row) -> int:
-    return parsed("RRSIG", row.data).expiration
+    return int(parsed("RRSIG", row.data).expiration)
 
 
 def signatures(script: str | Path) -> list[Row]:

@@ -94,7 +94,7 @@ def _of_look(path: str | Path, lines: int, now: float) -> Iterator[Finding]:
     yield from (Finding(BROKEN, text) for text in kept.broken)
     if kept.until is not None and kept.until < now:
         yield Finding(BROKEN, f"by that look signatures expired at {words.moment(kept.until)}")
-    elif kept.until is not None and kept.renew <= now:
+    elif kept.until is not None and kept.renew is not None and kept.renew <= now:
         text = f"by that look signatures expire at {words.moment(kept.until)}"
         yield Finding(DUE, f"{text}: renew them, then ask again")
 
@@ -113,8 +113,8 @@ def _due(told: Status) -> Iterator[Finding]:
         if roll["waits_for"] != status.CACHES:
             text = f"{roll['roll']} waits for {roll['waits_for']}: {status.comes_next(roll)}"
             yield Finding(DUE, text)
-    for roll in told["ended"]:
-        yield Finding(DUE, f"{roll['roll']} was ended early, and its actions may not be done")
+    for ended in told["ended"]:
+        yield Finding(DUE, f"{ended['roll']} was ended early, and its actions may not be done")
 
 
 def false_claims(
@@ -144,7 +144,7 @@ def _of_moments(history: History, now: float) -> Iterator[tuple[int, str]]:
             yield call.number, f"a {line.roll} before the first algorithm-roll breaks a zone"
         is_signed |= (line.word, line.roll) == ("wait1", "algorithm-roll")
         if line.word in OF_CLOCK and call.moment <= now:
-            latest = call if latest is None else max(latest, call, key=lambda one: one.moment)
+            latest = call if latest is None or call.moment > latest.moment else latest
 
 
 def _of_moment(history: History, call: Call, latest: Call | None, now: float) -> Iterator[str]:

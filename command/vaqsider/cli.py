@@ -9,7 +9,7 @@ import re
 import sys
 from argparse import Namespace
 from pathlib import Path
-from typing import TYPE_CHECKING, Any, Iterable, NoReturn, Sequence, Tuple
+from typing import TYPE_CHECKING, Any, Callable, Iterable, NoReturn, Sequence, Tuple
 
 from . import arguments
 from .arguments import clock
@@ -132,8 +132,8 @@ def on_plan(args: Namespace) -> Outcome:
 
     lines, told = status.read(args.SCRIPT, clock())
     begin = int(clock() if args.start is None else args.start)
-    assumed = plan.assumed(args.SCRIPT, args.ttls, args.delays, begin)
-    made = plan.Plan(lines, begin, *assumed, signers.planned(args, told["zone"]))
+    ttls, delays = plan.assumed(args.SCRIPT, args.ttls, args.delays, begin)
+    made = plan.Plan(lines, begin, ttls, delays, signers.planned(args, told["zone"]))
     for line in args.first or ():
         made.call(line)
     made.roll(args.ROLL, args.OLD, args.NEW)
@@ -179,12 +179,11 @@ def on_ceremony(args: Namespace) -> Outcome:
         text = [f"{ceremony.path_of(args.SCRIPT)}: {len(new)} new signatures"]
         return OK, text, {"signatures": [row.data for row in new]}
     made = ceremony.written(ceremony.asked(args, int(clock())))
-    text = _json(made)
     if args.out:
         arguments.expect_other(args.out, args.SCRIPT)
-        Path(args.out).write_text(f"{text}\n", encoding="utf-8")
+        Path(args.out).write_text(f"{_json(made)}\n", encoding="utf-8")
         return OK, [f"{args.out}: {len(made['signatures'])} signatures are asked for"], made
-    return OK, [text], made
+    return OK, [_json(made)], made
 
 
 def on_watch(args: Namespace) -> Outcome:
@@ -374,7 +373,7 @@ def _epilog() -> str:
 def parsed(given: Sequence[str]) -> Namespace:
     """The arguments of a command line. Files may stand before and after options."""
     if (wrong := arguments.not_utf8(given)) is not None:
-        Parser(prog="vaqsider").error(f"an argument isn't UTF-8: {os.fsencode(wrong)}")
+        Parser(prog="vaqsider").error(f"an argument isn't UTF-8: {os.fsencode(wrong)!r}")
     top = parser(given[0] if given and f"on_{given[0]}" in globals() else None)
     args, more = top.parse_known_args(given)
     files = vars(args).get("KEYFILE", vars(args).get("SCRIPT"))
@@ -404,7 +403,7 @@ def _add(word: argparse.ArgumentParser, name: str, value: str | None, says: str)
 
         settings.update(choices=POLICIES, default=POLICIES[0])
     if is_option:
-        settings["action"] = "append" if value.endswith("..") else "store"
+        settings["action"] = "append" if str(value).endswith("..") else "store"
     word.add_argument(name if is_option else shown, **settings)
 
 
@@ -423,13 +422,14 @@ def main(given: Sequence[str] | None = None) -> int:
 def _done(args: Namespace) -> Outcome:
     """Does what a word asks for. Lines of a zone that several machines share are committed to the
     store before they are in its files."""
+    does: Callable[[Namespace], Outcome] = args.does
     if args.word not in OF_STORE or not args.store:
-        return args.does(args)
+        return does(args)
     from . import shared
 
     place = args.FOLDER if args.word == "zones" else args.SCRIPT
     with shared.held(args.store, Path(place)):
-        return args.does(args)
+        return does(args)
 
 
 def _open_standard() -> None:

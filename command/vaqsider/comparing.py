@@ -7,7 +7,7 @@ from dataclasses import dataclass
 from pathlib import Path
 from typing import TYPE_CHECKING, Callable, Iterable, Iterator, Sequence, cast
 
-from . import keyfiles, words
+from . import keyfiles, status, words
 from .asking import Answer, Record, dns
 from .errors import Failure
 
@@ -40,7 +40,7 @@ class Key:
         """Whether a DNSKEY record is this key, as far as is known of it."""
         if self.record is None:
             return (dns.dnssec.key_id(record), record.algorithm) == (self.tag, self.algorithm)
-        return record == self.record
+        return bool(record == self.record)
 
     def ds(self, digest_type: int, zone: str) -> Record | None:
         """Its DS record with a digest of this type, or None if that isn't known."""
@@ -76,7 +76,8 @@ class Due:
     @classmethod
     def of(cls, told: Status, folders: Sequence[str | Path]) -> Due:
         """What a status says, with the key files in these folders."""
-        names = {name for of in told["published"].values() for name in of}
+        published = status.sets_of(told)
+        names = {name for of in published.values() for name in of}
         keys: dict[str, Key]
         faults: list[str]
         keys, faults = {}, []
@@ -91,7 +92,7 @@ class Due:
             keys[reference] = Key(reference, tag, algorithm, record)
         known = frozenset((key["tag"], key["algorithm"]) for key in told["keys"])
         is_shared = any(key["kind"] == "public" for key in told["keys"])
-        return cls(told["zone"], told["published"], keys, known, is_shared, tuple(faults))
+        return cls(told["zone"], published, keys, known, is_shared, tuple(faults))
 
     def of_set(self, kind: str) -> list[Key]:
         return [self.keys[name] for name in self.published[kind]]
@@ -120,7 +121,8 @@ def cds_lacks(due: Due, type_: str, answer: Answer, now: float) -> list[str]:
     keys = [key.record for key in due.of_set("ds") if key.record]
     right = [it.to_text() for it in keys]
     if type_ == "CDS":
-        right = [ds_of(it, digest, due.zone).to_text() for it in keys for digest in DIGESTS]
+        made = (ds_of(it, digest, due.zone) for it in keys for digest in DIGESTS)
+        right = [it.to_text() for it in made if it is not None]
     given = () if due.is_shared else answer.records
     wrong = [it for it in given if it.to_text() not in (right or DELETION)]
     return [answer.fault] if answer.fault else [f"{type_} {it}, which isn't due" for it in wrong]
@@ -204,7 +206,7 @@ def signed(zone: str, answer: Answer, key: Key, now: float) -> Signed:
     """How an answer's set is signed by a key: by the signature that lasts longest."""
     of = [it for it in answer.signatures if (it.key_tag, it.algorithm) == (key.tag, key.algorithm)]
     faults = [f"no signature by {key.tag}"]
-    for signature in sorted(of, key=lambda it: it.expiration, reverse=True):
+    for signature in sorted(of, key=lambda it: int(it.expiration), reverse=True):
         fault = _fault(zone, answer, signature, key, now)
         if not fault:
             return Signed(signature.inception, signature.expiration)

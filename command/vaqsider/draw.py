@@ -50,7 +50,8 @@ class Scale:
     def shows(self, bar: Bar) -> bool:
         """Whether a part of a bar is on the page."""
         last = bar.end if bar.end is None or bar.word else bar.gone
-        return bar.begin <= self.end and (last is None or max(last, bar.end) >= self.begin)
+        is_open = last is None or bar.end is None or max(last, bar.end) >= self.begin
+        return bar.begin <= self.end and is_open
 
 
 def picture(
@@ -67,8 +68,8 @@ def picture(
         f'height="{ROW * (len(rows) + 5)}" font-family="sans-serif" font-size="12">'
     )
     yield f'<title>{escape(zone)}</title><desc><pre xmlns="http://www.w3.org/1999/xhtml">'
-    letters = _letters({**rows, "now": [Bar(now, now, word="now")]} if has_now else rows, at)
-    yield from map(escape, letters)
+    of_now = {"now": [Bar(now, now, word="now")]} if has_now else {}
+    yield from (escape(line) for line in _letters({**rows, **of_now}, at))
     yield f"</pre></desc><defs>{HATCH}</defs>"
     yield '<rect width="100%" height="100%" fill="white"/>'
     for label, bars in rows.items():
@@ -100,7 +101,7 @@ def _letters(rows: Mapping[str, Sequence[Bar]], at: Scale) -> Iterator[str]:
         for bar, (kind, *span) in ((bar, span) for bar in bars for span in _spans(bar)):
             first, last = (round(columns * at.part(moment)) for moment in span)
             row[first : last + 1] = SIGNS[kind] * (last - first + 1)
-            row[first] = NUMBERS.get(bar.word, "|") if kind == "phase" else row[first]
+            row[first] = NUMBERS.get(bar.word or "", "|") if kind == "phase" else row[first]
         yield f"{label:{width}}{''.join(row)}".rstrip()
     begin, end = (words.moment(round(moment)) for moment in (at.begin, at.end))
     yield f"{'':{width}}{begin} {end:>{columns - len(begin)}}"
@@ -127,14 +128,14 @@ def _bar(bar: Bar, at: Scale, y: int) -> Iterator[str]:
 def _names(phases: Iterable[Bar], at: Scale, y: int) -> Iterator[str]:
     """The names of the phases in their boxes, or below a small box its number. Numbers that would
     touch stand side by side."""
-    free = 0
+    free: float = 0
     for bar in phases:
-        x, end = at(bar.begin), at(bar.end)
-        if end - x > LETTER * len(bar.word):
-            yield _text(x + 3, y + BAR - 2, bar.word, SMALL)
+        x, end, word = at(bar.begin), at(bar.end), bar.word or ""
+        if end - x > LETTER * len(word):
+            yield _text(x + 3, y + BAR - 2, word, SMALL)
         else:
             free = max(free + LETTER, (x + end) / 2)
-            yield _text(round(free, 1), y + BAR + 8, NUMBERS[bar.word], TINY)
+            yield _text(round(free, 1), y + BAR + 8, NUMBERS[word], TINY)
 
 
 def _axis(at: Scale, y: int) -> Iterator[str]:

@@ -27,6 +27,16 @@ class Call:
         # (These lines have a moment.)
         self.moment = cast(int, self.line.moment) if self.line.word in OF_CLOCK else clock
 
+    @property
+    def roll(self) -> str:
+        """The roll of a line that has one."""
+        return self.line.fields["ROLL"]
+
+    @property
+    def ttl(self) -> int:
+        """The TTL of a report."""
+        return int(self.line.fields["TTL"])
+
 
 class History:
     """A script's lines, with the answers of the key set."""
@@ -65,12 +75,12 @@ class History:
 
     def reported(self, reports: Iterable[Call]) -> Iterator[Reported]:
         """What these reports say, of those that `calls` has."""
-        moments = (Line(text) for text in self.lines)
-        moments = (it.moment or 0 if it.word in OF_CLOCK else 0 for it in moments)
-        begun = [*accumulate(moments, max)]
+        lines = (Line(text) for text in self.lines)
+        moments = (it.moment or 0 if it.word in OF_CLOCK else 0 for it in lines)
+        begun = [*accumulate(moments, lambda one, other: max(one, other))]
         for call in reports:
             step, kinds = self.step_of(call)
-            yield Reported(call.number, call.line.roll, call.moment, call.line.ttl, step.number,
+            yield Reported(call.number, call.roll, call.moment, call.ttl, step.number,
                            begun[step.number - 1], kinds)
 
     def states(self) -> Iterator[tuple[Call, After]]:

@@ -101,7 +101,7 @@ def find(key: Named, folders: Sequence[str | Path]) -> KeyFile:
             file = read(path)
             if (file.tag, file.algorithm) != (key["tag"], key["algorithm"]):
                 raise Failure(f"{path}: its tag or algorithm isn't that of the script", BROKEN)
-            file.reference = key.get("private")
+            file.reference = key["private"]
             return file
     places = ", ".join(map(str, folders))
     raise Failure(f"no key file for {key['reference']} in {places}", UNAVAILABLE)

@@ -10,7 +10,7 @@ from typing import TYPE_CHECKING, Iterable, Iterator, Sequence
 import dns.dnssec
 import dns.name
 
-from . import keyfiles
+from . import keyfiles, status
 from .errors import UNAVAILABLE, Failure
 from .signers import DELETION, Key, Sets
 from .zonefile import By, Row, Zone, parsed
@@ -29,7 +29,7 @@ class KeySets:
 
     def __init__(self, told: Status, folders: Sequence[str | Path],
                  taken: Iterable[Row] = ()) -> None:
-        self.published = told["published"]
+        self.published = status.sets_of(told)
         self.origin = told["zone"].rstrip(".") + "."
         names = {name for names in self.published.values() for name in names}
         keys = [key for key in told["keys"] if key["reference"] in names]
@@ -68,7 +68,7 @@ class KeySets:
         name = dns.name.from_text(self.origin)
         keys = [parsed("DNSKEY", file.data) for file in self.of("ds")]
         made = (dns.dnssec.make_ds(name, key, DIGESTS[it]) for key in keys for it in digests)
-        return [data.to_text() for data in made]
+        return list(map(str, made))
 
     def cds(self, ttl: int, digests: Iterable[int]) -> dict[str, list[Row]]:
         """CDS and CDNSKEY for the DS set that is due, or those that ask to remove it."""
@@ -135,7 +135,7 @@ class KeySets:
                 valid.append(row)
         if not valid:
             raise Failure(f"{reason}, and no signature of {name} is valid any more", UNAVAILABLE)
-        return max(valid, key=lambda row: parsed("RRSIG", row.data).expiration)
+        return max(valid, key=lambda row: int(parsed("RRSIG", row.data).expiration))
 
     def _of_ceremonies(self, name: str, now: float) -> Iterator[Row]:
         """The signatures of the DNSKEY set that is due, by a key that is away, which are valid."""

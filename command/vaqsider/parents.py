@@ -67,7 +67,7 @@ def rises(noted: Noted, step: int | None, calls: int, old: int, new: int) -> Ite
     elif new > last.ttl:
         yield Version(last.call, new)
     published = [it for it in noted.versions if step is not None and it.call >= step]
-    if published and last.call < step:
+    if step is not None and published and last.call < step:
         # A crash between the two lines above.
         yield Version(published[-1].call, max(published[-1].ttl, new))
 

@@ -66,7 +66,7 @@ class Plan:
             raise Failure(f"{line}: {error.reason}", USAGE) from None
         published = vars(self.keys.published)
         if self.signer is not None:
-            self._expect(line, accepted, published)
+            self._expect(self.signer, line, accepted, published)
         asks, verdict = list(words.asks(actions, published)), f"chain {self.keys.chain}"
         self.steps.append({
             "moment": self.moment, "line": line, "actions": actions, "asks": asks,
@@ -74,30 +74,19 @@ class Plan:
         })
         return words.kinds_of(actions)
 
-    def _expect(self, line: str, actions: Collection[Action],
+    def _expect(self, signer: Planned, line: str, actions: Collection[Action],
                 published: Mapping[str, Iterable[str]]) -> None:
         """The signer can do what a call asks for."""
-        keys = {told.reference: self._key(told) for told in self.keys.keys().values()}
+        keys = {told.reference: _key(told, signer.folders) for told in self.keys.keys().values()}
         of = {kind: frozenset(keys[name] for name in names) for kind, names in published.items()}
         cds = of["ds"] or frozenset([Key(DELETION)])
         cds = cds if Action.CREATE_CDS_RRSET in actions else frozenset()
         wanted = Sets(of["dnskey"], of["signers"], of["zone"], cds)
-        lacks = list(self.signer.lacks(wanted))
+        lacks = list(signer.lacks(wanted))
         if set(published["dnskey"]) != self.present:
-            lacks += self.signer.away(wanted, self.moment)
+            lacks += signer.away(wanted, self.moment)
         if lacks:
             raise Failure(f"{line}: {'; '.join(lacks)}", DUE)
-
-    def _key(self, told: keyset.Key) -> Key:
-        """A key for a signer: by its file, or else by what the script says of it."""
-        try:
-            named = {"reference": told.reference, "tag": told.tag, "algorithm": told.algorithm}
-            file = keyfiles.find(named, self.signer.folders)
-            return Key.of(file.data, told.reference, file)
-        except Failure:
-            flags = ZONE_KEY | (SEP if told.kind in ("ksk", "csk") else 0)
-            key = base64.b64encode(told.reference.encode()).decode()
-            return Key(f"{flags} 3 {told.algorithm} {key}", told.reference)
 
     def spread(self, kinds: Collection[str]) -> None:
         """Goes on until all servers have what was asked, and CDS is out after a DS set."""
@@ -120,15 +109,29 @@ class Plan:
             self.call(f"delete {reference}")
 
 
+def _key(told: keyset.Key, folders: Sequence[str | Path]) -> Key:
+    """A key for a signer: by its file, or else by what the script says of it."""
+    try:
+        file = keyfiles.find({"reference": told.reference, "tag": told.tag,
+                              "algorithm": told.algorithm, "private": None}, folders)
+        return Key.of(file.data, told.reference, file)
+    except Failure:
+        flags = ZONE_KEY | (SEP if told.kind in ("ksk", "csk") else 0)
+        key = base64.b64encode(told.reference.encode()).decode()
+        return Key(f"{flags} 3 {told.algorithm} {key}", told.reference)
+
+
 def assumed(script: str | Path, ttls: Sequence[int] | None, delays: Sequence[int] | None,
-            now: float) -> list[dict[str, int]]:
+            now: float) -> tuple[dict[str, int], dict[str, int]]:
     """TTLs and delays by kind: the given ones, else the noted ones, else the usual ones."""
     seen = Seen(Notes(script).lines, now)
     noted = {kind: held[-1] for kind, held in seen.ttls.items()}
-    return [
-        dict(zip(KINDS, given)) if given else {**dict(zip(KINDS, usual)), **of_notes}
-        for given, usual, of_notes in ((ttls, TTLS, noted), (delays, DELAYS, seen.delays))
-    ]
+    return _by_kind(ttls, TTLS, noted), _by_kind(delays, DELAYS, seen.delays)
+
+
+def _by_kind(given: Sequence[int] | None, usual: Sequence[int],
+             noted: Mapping[str, int]) -> dict[str, int]:
+    return dict(zip(KINDS, given)) if given else {**dict(zip(KINDS, usual)), **noted}
 
 
 def as_text(steps: Iterable[Step]) -> Iterator[str]:

@@ -12,6 +12,7 @@ import contextlib
 import os
 from collections.abc import Iterator
 from concurrent.futures import ThreadPoolExecutor
+from functools import partial
 from pathlib import Path
 from typing import Any
 
@@ -121,7 +122,7 @@ class Store:
         """Meanwhile each line of the zone's files is committed before it is in its file."""
         paths = {of: os.path.realpath(folder / f"{zone}.{of}") for of in FILES}
         for of, path in paths.items():
-            file.WITNESSES[path] = lambda number, line, of=of: self.add(zone, of, number, line)
+            file.WITNESSES[path] = partial(self.add, zone, of)
         try:
             yield
         finally:

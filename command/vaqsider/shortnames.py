@@ -24,7 +24,7 @@ def names(lines: Sequence[str]) -> dict[str, str]:
         if line.word in ROLE and words.is_date(line.moment):
             name = f"{ROLE[line.word]}-{words.utc(line.moment, '%Y-%m')}"
             made[name] += 1
-            found[line["REF"]] = name if made[name] == 1 else f"{name}-{made[name]}"
+            found[line.fields["REF"]] = name if made[name] == 1 else f"{name}-{made[name]}"
     return found
 
 

@@ -9,6 +9,7 @@ from dataclasses import dataclass, field
 from pathlib import Path
 from typing import TYPE_CHECKING
 
+from . import status
 from .arguments import file_name
 from .policies import Policy
 from .signers import Sets
@@ -75,7 +76,7 @@ class Standing:
     def is_due(self, told: Status) -> bool:
         """Whether its sets are those that a status asks for. CDS is another question."""
         of = {key["reference"]: By(key["algorithm"], key["tag"]) for key in told["keys"]}
-        due = {kind: {of[name] for name in names} for kind, names in told["published"].items()}
+        due = {kind: {of[name] for name in names} for kind, names in status.sets_of(told).items()}
         signers = self.signed.get("DNSKEY", set()), self.signed.get("SOA", set())
         return (self.keys, *signers) == (due["dnskey"], due["signers"], due["zone"])
 

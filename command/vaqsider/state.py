@@ -81,8 +81,8 @@ class State:
     def kept(self, lines: int) -> looks.Kept:
         """What is kept of it, if the script has so many lines."""
         first = min(_signed(self.look), key=lambda it: it.end, default=None)
-        until = first and first.end
-        renew = first and first.end - (first.end - first.begin) // 4
+        until = None if first is None else first.end
+        renew = None if first is None else first.end - (first.end - first.begin) // 4
         servers = len({it.server for it in self.lacking})
         moment, texts = int(self.look.now), self.texts()
         return looks.Kept(moment, lines, servers, texts, self.broken, until, renew)

@@ -83,6 +83,12 @@ def comes_next(roll: RollMembers) -> str:
     return f"{call}, once the key that it checks has its stamp" if lacks_stamp else call
 
 
+def sets_of(told: Status) -> dict[str, list[str]]:
+    """The keys of each published set."""
+    # (Of a dictionary with known members a checker of types knows no common type of values.)
+    return cast("dict[str, list[str]]", told["published"])
+
+
 def asked(told: Status) -> dict[str, list[str]]:
     """The actions that are due, by roll, with those of rolls that were ended early."""
     ended = {roll["roll"]: roll["asked"] for roll in told["ended"]}
@@ -102,18 +108,19 @@ def screen(
         name: place for name, place in told["chain"].items() if name != "safe"})
     verdict = SAFE if told["chain"]["safe"] else f"chain {keyset.Broken(**places)}"
     yield f"{told['zone']}: {verdict}"
+    published = sets_of(told)
     for kind, label in LABELS.items():
-        yield f"  {label:8} {words.listed(told['published'][kind])}"
+        yield f"  {label:8} {words.listed(published[kind])}"
     if told["keys"]:
         yield ""
         yield from (f"  {line}" for line in words.table(_keys(told, names or {})))
     for roll in told["rolls"]:
         yield f"\n  {roll['roll']}: {roll['phase']}, waits for {roll['waits_for']}"
-        yield from (f"    {text}" for text in words.asks(roll["due"], told["published"]))
+        yield from (f"    {text}" for text in words.asks(roll["due"], published))
         yield f"    then: {comes_next(roll)}"
-    for roll in told["ended"]:
-        yield f"\n  {roll['roll']} was ended early: {BEFORE_ANEW[goes_on(last)]}"
-        yield from (f"    {text}" for text in words.asks(roll["asked"], told["published"]))
+    for ended in told["ended"]:
+        yield f"\n  {ended['roll']} was ended early: {BEFORE_ANEW[goes_on(last)]}"
+        yield from (f"    {text}" for text in words.asks(ended["asked"], published))
     if last is not None:
         when, how = words.moment(last.moment), MEANS[last.status]
         yield f"\n  the last tick, at {when}, {how}: {last.text}"
@@ -124,8 +131,9 @@ def _keys(told: Status, names: Mapping[str, str]) -> Iterator[tuple[object, ...]
     yield "KEY", "KIND", "TAG", "ALGORITHM", "STATE", "IN", "ROLL", "DELETE", *short
     for key in told["keys"]:
         name, kind = key["reference"], key["kind"]
-        sets = [kind for kind, keys in told["published"].items() if name in keys]
-        rolls = [f"{part} in {roll}" for part in ("old", "new") for roll in key[f"{part}_in"]]
+        sets = [kind for kind, keys in sets_of(told).items() if name in keys]
+        rolls = [f"old in {roll}" for roll in key["old_in"]]
+        rolls += [f"new in {roll}" for roll in key["new_in"]]
         states = dict.fromkeys(role["state"] for role in key["roles"])
         yield (
             name, kind if kind == "public" else kind.upper(), key["tag"], key["algorithm"],

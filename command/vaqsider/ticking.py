@@ -17,8 +17,8 @@ from keyset import Notes, WrongArgument
 from keyset.lines import Line
 from keyset.notes import Seen
 
-from . import act, advice, calling, cli, hooks, policies, resting, shortnames, signers, status
-from . import watching, words
+from . import act, advice, calling, cli, hooks, parents, policies, resting, shortnames, signers
+from . import status, watching, words
 from .advice import Said
 from .ending import PARENT_LACKS, REFUSED, RUN_LOW, STUCK, Clock, Deed, Done, End, Log
 from .errors import BROKEN, DUE, OK, WARNING, Failure
@@ -304,7 +304,7 @@ class Tick:
         eyes.notes, eyes.lines = self.notes, self.lines
         try:
             look = eyes.ask(self.told, kinds)
-            watching.parents.note(self.notes, self.lines, self.told, look)
+            parents.note(self.notes, self.lines, self.told, look)
             eyes.judge(look, kinds)
         except WrongArgument:
             raise

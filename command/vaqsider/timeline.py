@@ -42,7 +42,7 @@ class Bar:
     end: float | None = None
     gone: float | None = None
     word: str | None = None
-    line: int | None = None
+    line: int = 0
 
 
 @dataclass
@@ -105,9 +105,9 @@ class Held:
         for call in (call for call in history.calls if call.line.is_report):
             step, kinds = history.step_of(call)
             for kind in kinds:
-                end = call.moment + call.line.ttl
+                end = call.moment + call.ttl
                 self.ends.setdefault(kind, []).append((step.number, end))
-                self.ttls.setdefault(kind, []).append((call.number, call.line.ttl))
+                self.ttls.setdefault(kind, []).append((call.number, call.ttl))
         # Each end is the first of all that count from that step or a later one.
         for kind, ends in self.ends.items():
             self.ends[kind] = [*accumulate(sorted(ends, reverse=True), _first)][::-1]
@@ -123,12 +123,10 @@ class Held:
         that a call takes out. None if neither notes nor a report say it."""
         versions, seen = self.versions.get(kind, ()), self.seen.get(kind, ())
         first, last = (bisect_left(versions, (number,)) for number in (since, call.number))
-        ends = []
-        for version in range(first, last):
-            at = bisect_left(seen, (version + 2,))
-            ends.append(seen[at][1] + versions[version][1] if at < len(seen) else None)
-        if ends and None not in ends:
-            return max(ends)
+        # Where it is noted of each version that all servers have a later one.
+        noted = [bisect_left(seen, (version + 2,)) for version in range(first, last)]
+        if noted and max(noted) < len(seen):
+            return max(seen[at][1] + ttl for at, (_, ttl) in zip(noted, versions[first:last]))
         ends = self.ends.get(kind, ())
         at = bisect_left(ends, (call.number,))
         return ends[at][1] if at < len(ends) else None
@@ -148,7 +146,7 @@ def _first(later: tuple[int, int], report: tuple[int, int]) -> tuple[int, int]:
 def _phase(phases: dict[str, list[Bar]], call: Call) -> None:
     """Ends the phase before a call, and begins the one after it."""
     if call.line.word in PHASES:
-        row = phases.setdefault(call.line.roll, [])
+        row = phases.setdefault(call.roll, [])
         if row and row[-1].end is None:
             row[-1].end = call.moment
         if word := PHASES[call.line.word]:

@@ -100,7 +100,7 @@ def duration(seconds: int) -> str:
 
 def table(rows: Iterable[Iterable[object]]) -> Iterator[str]:
     """Rows of texts in columns."""
-    rows = [["-" if cell is None else str(cell) for cell in row] for row in rows]
-    widths = [max(map(len, column)) for column in zip(*rows)]
-    for row in rows:
+    cells = [["-" if cell is None else str(cell) for cell in row] for row in rows]
+    widths = [max(map(len, column)) for column in zip(*cells)]
+    for row in cells:
         yield "  ".join(cell.ljust(width) for cell, width in zip(row, widths)).rstrip()

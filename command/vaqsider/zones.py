@@ -62,7 +62,7 @@ def _of_status(told: Status, now: float, last: Rest | None) -> dict[str, object]
     waits = [roll for roll in told["rolls"] if roll["waits_for"] == status.CACHES]
     ends = [it["not_before"] for it in waits if isinstance(it["not_before"], int)]
     moment = min((end for end in ends if end), default=None)
-    waiting = {roll["waits_for"] for roll in told["rolls"]}
+    waiting: set[str] = {roll["waits_for"] for roll in told["rolls"]}
     waiting |= {status.goes_on(last) for _ in told["ended"]}
     waiting |= {status.YOU} if last is not None and last.status >= WARNING else set()
     who = next((who for who in status.WAITING if who in waiting), "nobody")

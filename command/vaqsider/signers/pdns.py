@@ -170,7 +170,7 @@ class PowerDns:
         name = dns.name.from_text(self.zone)
         data = {"CDNSKEY": [it.data for it in _sorted(keys)], "CDS": [
             "0 0 0 00" if it.data == DELETION else
-            dns.dnssec.make_ds(name, parsed("DNSKEY", it.data), "SHA256").to_text()
+            str(dns.dnssec.make_ds(name, parsed("DNSKEY", it.data), "SHA256"))
             for it in _sorted(keys)
         ]}
         yield from self.placed(data, int(self.soa().data.split()[-1]))
@@ -185,7 +185,7 @@ class PowerDns:
 
     def params(self) -> str | None:
         """The parameters of NSEC3 that an act is to give, if it is to give any; '' for NSEC."""
-        if self.nsec3 in (None, "no"):
+        if self.nsec3 is None or self.nsec3 == "no":
             return None if self.nsec3 is None else ""
         how = Nsec3.of(self.nsec3)
         return f"{how.algorithm} {how.flags} {how.iterations} {how.salt}"

@@ -141,9 +141,10 @@ class Api(PowerDns):
 
     def private(self, held: Held) -> str:
         told = self.ask("GET", self.at(f"/zones/ZONE/cryptokeys/{held.id}"))
-        if not isinstance(told, dict) or not isinstance(told.get("privatekey"), str):
+        private = told.get("privatekey") if isinstance(told, dict) else None
+        if not isinstance(private, str):
             raise self._odd(f"the private half of {held.key}")
-        return told["privatekey"]
+        return private
 
     def has_direct(self) -> bool:
         try:

@@ -39,7 +39,7 @@ def tell(zone: str, asked: Asked) -> Told:
 
 
 def _phase(phase: object) -> str:
-    return next(iter(phase)) if isinstance(phase, dict) else str(phase)
+    return str(next(iter(phase))) if isinstance(phase, dict) else str(phase)
 
 
 def _found(reference: str, told: Mapping[str, Any], folder: Path) -> tuple[Found | None, str]:

@@ -78,11 +78,11 @@ def from_pem(data: bytes, key: Key, where: str) -> str:
         private = serialization.load_pem_private_key(data, password=None)
     except (ValueError, TypeError) as error:
         raise Failure(f"{where}: {error}", UNAVAILABLE) from None
-    if isinstance(private, ec.EllipticCurvePrivateKey):
+    if isinstance(private, ec.EllipticCurvePrivateKeyWithSerialization):
         public, fields = _of_curve(private)
     elif isinstance(private, (ed25519.Ed25519PrivateKey, ed448.Ed448PrivateKey)):
         public, fields = _of_edwards(private)
-    elif isinstance(private, rsa.RSAPrivateKey):
+    elif isinstance(private, rsa.RSAPrivateKeyWithSerialization):
         public, fields = _of_rsa(private)
     else:
         raise Failure(f"{where}: a kind of key that DNSSEC hasn't got", UNAVAILABLE)
@@ -92,7 +92,9 @@ def from_pem(data: bytes, key: Key, where: str) -> str:
 
 
 # Each gives a key's public half as its DNSKEY record has it, and the fields of its private one.
-def _of_curve(private: ec.EllipticCurvePrivateKey) -> tuple[bytes, dict[str, str]]:
+def _of_curve(
+    private: ec.EllipticCurvePrivateKeyWithSerialization
+) -> tuple[bytes, dict[str, str]]:
     numbers, length = private.private_numbers(), (private.curve.key_size + 7) // 8
     point = numbers.public_numbers
     public = point.x.to_bytes(length, "big") + point.y.to_bytes(length, "big")
@@ -109,7 +111,7 @@ def _of_edwards(
     return public, {"PrivateKey": base64.b64encode(secret).decode()}
 
 
-def _of_rsa(private: rsa.RSAPrivateKey) -> tuple[bytes, dict[str, str]]:
+def _of_rsa(private: rsa.RSAPrivateKeyWithSerialization) -> tuple[bytes, dict[str, str]]:
     numbers = private.private_numbers()
     of = numbers.public_numbers
     values = (of.n, of.e, numbers.d, numbers.p, numbers.q, numbers.dmp1, numbers.dmq1,
