@@ -16,7 +16,7 @@ PYTHON ?= $(shell for python in python3 /usr/bin/python3; do \
 	if $$python -c 'import dns, cryptography, jsonschema' 2>/dev/null; then echo $$python; exit; fi; \
 	done; echo python3)
 # Debian's packages that the gate needs, beside compilers.
-PACKAGES = python3-dnspython python3-cryptography python3-jsonschema
+PACKAGES = python3-dnspython python3-cryptography python3-jsonschema mypy
 
 PROGRAM = crates/keyset/out/keyset
 PARTS = dnssec_base dnssec_key dnssec_zone dnssec_keyset dnssec_run dnssec_network dnssec_sets \
@@ -97,7 +97,7 @@ clean: ## removes what was built
 	@find . -name __pycache__ -prune -exec rm -rf {} +
 
 # Every proof, wrong body, test and program. It prints when each step was done.
-test: modules $(CALLERS) ## the gate: it ends with 'N passed, 0 failed'
+test: modules has-mypy $(CALLERS) ## the gate: it ends with 'N passed, 0 failed'
 	@$(PYTHON) tests/gate.py
 
 # Before a release: CONTRIBUTING says what it takes.
@@ -155,9 +155,9 @@ test-go: python has-go has-cc made ## tests the module for Go
 fuzz: python has-clang made ## lets libFuzzer make RUNS texts: it needs clang with its runtime
 	@tests/fuzz.py library/out $(RUNS)
 
-# What mypy has to find stands in the test.
-types: python has-mypy ## checks the types of the Python package by mypy
-	@tests/mistakes.py
+# What mypy has to find stands in the test, and what it checks in pyproject.toml.
+types: modules has-mypy ## checks the types of the command and of the Python package by mypy
+	@$(PYTHON) tests/mistakes.py
 
 help: ## prints these lines
 	@sed -n 's/^\([a-z-]*\):.* ## /\1\t/p' Makefile | \

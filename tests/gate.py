@@ -1,12 +1,12 @@
 #!/usr/bin/env python3
 """The gate: `tests/docs.py` and `tests/release.py`, then `rt ci`. Beside its first proofs run
-`tests/runbooks.py`, `tests/networks.py` and `tests/examples.py`, and beside its edits run
-`tests/memory.py`, `tests/sets.py`, `tests/notes.py`, `tests/command.py`, `tests/rolling.py`,
-`tests/nexts.py`, `tests/automatic.py` and `tests/library.py`, for which `tests/archive.py` builds
-the library. Then `tests/told.py` compares the numbers of docs/tests.txt with what all of them have
-printed. Before the last line of `rt ci` it prints from which files each proof was made, as a
-release wants it, when each step was done, in minutes and seconds since the start, so that a rise is
-seen, and which tests it leaves out."""
+`tests/runbooks.py`, `tests/networks.py`, `tests/examples.py` and `tests/mistakes.py`, and beside
+its edits run `tests/memory.py`, `tests/sets.py`, `tests/notes.py`, `tests/command.py`,
+`tests/rolling.py`, `tests/nexts.py`, `tests/automatic.py` and `tests/library.py`, for which
+`tests/archive.py` builds the library. Then `tests/told.py` compares the numbers of docs/tests.txt
+with what all of them have printed. Before the last line of `rt ci` it prints from which files each
+proof was made, as a release wants it, when each step was done, in minutes and seconds since the
+start, so that a rise is seen, and which tests it leaves out."""
 
 import contextlib
 import os
@@ -33,12 +33,12 @@ PRINTED = []
 # What the dearest proof takes of the memory, in bytes.
 MEMORY = 3_500_000_000
 # The tests that need no proof.
-FREE = ("runbooks", "networks", "examples")
+FREE = ("runbooks", "networks", "examples", "mistakes")
 # The priority of edits, as that of `nice`.
 LOW = 10
 # What it leaves out, for that needs servers, root or hours.
 LEFT_OUT = ("signers", "live", "first-hour", "machines", "mutants", "wrong", "fuzz", "asan",
-            "valgrind", "types", "try-dist", "test-arm", "test-go")
+            "valgrind", "try-dist", "test-arm", "test-go")
 
 
 def say(text):
