@@ -192,13 +192,13 @@ module _ {name : List ℕ} {calls : List Call} {entries : List Entry} {network :
   auto n c ci = elim (all.are_said n c ci) [
     | inl a ↦ inl a
     | inr s ↦ inr (record {
-        policy = watch.policy s.0;
-        view = watch.view n s.0;
-        at = (all.known n s.0 s.1 s.2).0;
-        clock = (let is = (all.known n s.0 s.1 s.2).1 in
-            let le = s.1.2 (within-calls n c ci) in omega (arith, is, le));
-        said = s.3;
-      })
+      policy = watch.policy s.0;
+      view = watch.view n s.0;
+      at = (all.known n s.0 s.1 s.2).0;
+      clock = (let is = (all.known n s.0 s.1 s.2).1 in
+          let le = s.1.2 (within-calls n c ci) in omega (arith, is, le));
+      said = s.3;
+    })
   ]
 
   pub never-aborts : (n : ℕ) (c : Call) → slice_get calls n ≡ Some c → (roll : RollType)

@@ -125,9 +125,11 @@ due-said policy v roll q d =
     let role = role_of roll in
     let term = renewal_of policy role in
     let published = unwrap_or d.key.timestamps.published 0 in
-    let old : IsPast v.now (over_by_age term.lifetime published) =
-    (published + d.lifetime * 1_000_000_000,
-        ap (λ o. over_by_age o published) d.lifetime_is, d.over) in
+    let old : IsPast v.now (over_by_age term.lifetime published) = (
+      published + d.lifetime * 1_000_000_000,
+      ap (λ o. over_by_age o published) d.lifetime_is,
+      d.over,
+    ) in
     let o = found role term v.now q d.key d.works
     (earlier-first v.now (over_by_age term.lifetime published) (over_on_demand term.once published)
     old) (entries_of v.set.keys) None (sym (get-entries v.set.keys q) ∙ d.there) in
@@ -238,8 +240,7 @@ module _ {name : List ℕ} {calls : List Call} {entries : List Entry} {network :
           let set : (watch.view n (now-at n)).set ≡ (watch.view n now).set =
           view.set ∙ sym (all.known n now after le).0.set in
           let there : get (watch.view n now).set.keys q ≡ Some due.key =
-          ap (λ (set : KeySetParts). get set.keys q) (sym set) ∙ due.there in
-          (
+          ap (λ (set : KeySetParts). get set.keys q) (sym set) ∙ due.there in (
             texts old.now,
             texts new.now,
             at,
@@ -279,13 +280,13 @@ module _ {name : List ℕ} {calls : List Call} {entries : List Entry} {network :
       by None is ok = inr (λ d. none-some roll (sym is ∙ ap start_of (sym (it d)) ∙ d.roll_is))
       by (Some r) is ok = elim (cases_Bool (same_roll r roll)) [
         | inl same ↦ inl (record {
-            call = c;
-            entry = e;
-            call_is = ci;
-            entry_is = ei;
-            accepted = ok;
-            roll_is = is ∙ ap Some (same-is r roll same);
-          })
+          call = c;
+          entry = e;
+          call_is = ci;
+          entry_is = ei;
+          accepted = ok;
+          roll_is = is ∙ ap Some (same-is r roll same);
+        })
         | inr apart ↦ inr (λ d.
             let its : r ≡ roll = same_Some r roll
             (sym is ∙ ap start_of (sym (it d)) ∙ d.roll_is) in
@@ -298,14 +299,22 @@ module _ {name : List ℕ} {calls : List Call} {entries : List Entry} {network :
   next n c e later within ci ei h =
       let x = soon n later (omega (arith, within)) h in
       elim (starts-now n c e ci ei) [
-        | inl d ↦ inl (n, later, omega arith, x.1,
-            starts-with n later (omega (arith, within)) h d)
-        | inr none ↦ inr (x.1, λ k after before d. elim (cases_lt k n) [
-          | inl lt ↦ h.1 k after lt d
-          | inr ge ↦
-              let same : k ≡ n = omega (arith, before, ge) in
-              none (subst (λ k. DoesAt start_of calls entries k roll) same d)
-        ])
+        | inl d ↦ inl (
+          n,
+          later,
+          omega arith,
+          x.1,
+          starts-with n later (omega (arith, within)) h d,
+        )
+        | inr none ↦ inr (
+          x.1,
+          λ k after before d. elim (cases_lt k n) [
+            | inl lt ↦ h.1 k after lt d
+            | inr ge ↦
+                let same : k ≡ n = omega (arith, before, ge) in
+                none (subst (λ k. DoesAt start_of calls entries k roll) same d)
+          ],
+        )
       ]
 
   started : m ≤ length entries → Started (length entries)

@@ -130,9 +130,9 @@ module _ {name : List ℕ} {calls : List Call} {entries : List Entry} {network :
     soon n from within p is st = elim (cases_lt n (length entries)) [
       | inl lt ↦ elim (cases_lt (network.made (suc n)) (max (network.made n)
           (network.made st.at + lasts p))) [
-        | inl early ↦ (lt, omega (arith, early, begun, so_far, grown, next))
-        | inr late ↦ on (λ lt. late)
-      ]
+            | inl early ↦ (lt, omega (arith, early, begun, so_far, grown, next))
+            | inr late ↦ on (λ lt. late)
+          ]
       | inr ge ↦ on (λ lt. absurd (omega (arith, lt, ge)))
     ]
       where
