@@ -18,27 +18,42 @@ void *__real_realloc(void *block, size_t size);
 void __real_free(void *block);
 
 /* What the library asks for while it is called: how often it asks, which request has to fail, and
-   how many blocks it holds. */
+   how many blocks it holds. Of the request that failed: its block and size, whether a block was
+   freed after it, and whether the next one asked at once for the same block, and no more. */
 static _Thread_local struct {
     bool is_called;
     size_t made, failing, held;
+    const void *block;
+    size_t size;
+    bool is_given_up, is_asked_again;
 } requests;
 
-static bool is_to_fail(void)
+static bool is_to_fail(const void *block, size_t size)
 {
-    return requests.is_called && ++requests.made == requests.failing;
+    if (!requests.is_called)
+        return false;
+    requests.made++;
+    if (requests.made == requests.failing + 1)
+        requests.is_asked_again =
+            !requests.is_given_up && block == requests.block && size <= requests.size;
+    if (requests.made != requests.failing)
+        return false;
+    requests.block = block;
+    requests.size = size;
+    requests.is_given_up = requests.is_asked_again = false;
+    return true;
 }
 
 void *__wrap_malloc(size_t size)
 {
-    void *block = is_to_fail() ? NULL : __real_malloc(size);
+    void *block = is_to_fail(NULL, size) ? NULL : __real_malloc(size);
     requests.held += requests.is_called && block != NULL;
     return block;
 }
 
 void *__wrap_realloc(void *block, size_t size)
 {
-    void *grown = is_to_fail() ? NULL : __real_realloc(block, size);
+    void *grown = is_to_fail(block, size) ? NULL : __real_realloc(block, size);
     requests.held += requests.is_called && block == NULL && grown != NULL;
     return grown;
 }
@@ -46,6 +61,7 @@ void *__wrap_realloc(void *block, size_t size)
 void __wrap_free(void *block)
 {
     requests.held -= requests.is_called && block != NULL;
+    requests.is_given_up |= requests.is_called && requests.made == requests.failing;
     __real_free(block);
 }
 

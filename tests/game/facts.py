@@ -1,5 +1,6 @@
 """What notes say of the sets on servers, and what reports count by them: written again from
-`Spread.antt` of crates/dnssec_network and `Ttls.antt` of crates/dnssec_policy. Times are seconds."""
+`Spread.antt` of crates/dnssec_network and `Ttls.antt` of crates/dnssec_policy. Times are in
+seconds."""
 
 from __future__ import annotations
 
