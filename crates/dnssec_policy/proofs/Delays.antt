@@ -4,7 +4,7 @@ use Rattle.std.proofs.Common.{false, List, Option, None, Some, length, max, refl
 use Rattle.std.proofs.Common.{◌∙◌, arith}
 use Rattle.std.proofs.lemmas.Bool.{cases_lt, true≢false}
 use Rattle.std.proofs.lemmas.Option.{none-some, same_Some, slice_get_within}
-use Rattle.std.specs.Prelude.{if◌then◌else◌, slice_get, ◌&&◌, ◌-◌}
+use Rattle.std.specs.Prelude.{if◌then◌else◌, slice_get, ◌&&◌}
 use Rattle.std.specs.Option.{option_map}
 use Rattle.dnssec_key.specs.declared.roll.RollState.{RollState}
 use Rattle.dnssec_key.specs.declared.roll.RollState.TheVariants.{Done}
