@@ -58,8 +58,8 @@ pub fn rolls_are_in_time()
     ensures ends { EndsAreInTime }
 {}
 
-/// If each call is made within a lag after it is said, a roll is done after what servers take to give
-/// the sets of its three steps, its two waits, and a lag for each call made meanwhile.
+/// If each call is made within a lag after it is said, a roll is done after what servers take to
+/// give the sets of its three steps, its two waits, and a lag for each call made meanwhile.
 pub fn rolls_end()
     ensures { RollsEnd }
 {}
