@@ -205,8 +205,8 @@ def goes_on() -> Iterator[str]:
 
 
 def unread() -> Iterator[str]:
-    """A policy that can't be read: a person is told once, and `zones` says it. Once it is right, all
-    goes on."""
+    """A policy that can't be read: a person is told once, and `zones` says it. Once it is right,
+    all goes on."""
     world = World()
     with folder() as here, living(world, ""):
         for path in set(here.glob("*.script")) - {here / f"{ZONE}.script"}:

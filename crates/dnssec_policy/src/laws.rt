@@ -30,8 +30,8 @@ pub fn automatic_runs_reach_resolvers()
     ensures { AutomaticRunsReachResolvers }
 {}
 
-/// So do validators that ask for a chain by each algorithm of a DS set, and keep its algorithms with
-/// a DNSKEY set that they checked by it.
+/// So do validators that ask for a chain by each algorithm of a DS set, and keep its algorithms
+/// with a DNSKEY set that they checked by it.
 pub fn automatic_runs_serve_keepers()
     ensures chain { AutomaticRunsServeKeepers }
     ensures sign { KeptAlgorithmsSign }
@@ -48,10 +48,10 @@ pub fn next_goes_on()
     ensures { NextGoesOn }
 {}
 
-/// A report counts no longer than the highest TTLs noted say. Once all servers have what it speaks of,
-/// by the notes, it is said, or another call; and so is the end of a roll, once they have what its
-/// last actions wait for. So a roll takes the time until servers have the sets of its three steps, and
-/// its two waits: these last no longer than `HighestTtls::roll_takes` counts.
+/// A report counts no longer than the highest TTLs noted say. Once all servers have what it speaks
+/// of, by the notes, it is said, or another call; and so is the end of a roll, once they have what
+/// its last actions wait for. So a roll takes the time until servers have the sets of its three
+/// steps, and its two waits: these last no longer than `HighestTtls::roll_takes` counts.
 pub fn rolls_are_in_time()
     ensures counts { ReportsCountNoLonger }
     ensures reports { ReportsAreInTime }
