@@ -10,4 +10,3 @@ pub mod Automatic
 pub mod Kept
 pub mod Code
 pub mod Laws
-pub mod Delays
