@@ -21,7 +21,7 @@ import testkeys
 from typed import TOP, folder, typed
 from vaqsider import keyfiles
 from vaqsider.errors import Failure
-from vaqsider.signers import DELETION, Key, Sets, inline, pdns_api
+from vaqsider.signers import DELETION, Key, Sets, daemon, inline, pdns_api
 from vaqsider.signers.hook import Hook
 from vaqsider.signers.inline import Inline
 from vaqsider.signers.knot import Knot
@@ -508,6 +508,34 @@ def deaf():
                 yield f"an act on a deaf database ends with {status}: {said}"
 
 
+# A command that says what it is given, but for the runs after so many.
+TOOL = """\
+#!/bin/sh
+echo >>runs
+[ "$(wc -l <runs)" -le "$1" ] || exit 0
+echo "Error: $2 (5)" >&2
+exit 1
+"""
+# How often a command fails, what it says then, and how often it runs at least and at most.
+LOCKS = ((2, daemon.LOCKED, 3, 3), (9, daemon.LOCKED, 2, 4), (9, "no such key", 1, 1))
+
+
+def locked():
+    """A command runs again if another program has locked its database, until its time is over."""
+    for fails, says, least, most in LOCKS:
+        with folder(), mock.patch.object(daemon, "PAUSE", 0.25):
+            Path("tool").write_text(TOOL)
+            Path("tool").chmod(0o755)
+            fault = ""
+            try:
+                daemon.said(["./tool", str(fails), says], seconds=1)
+            except Failure as failure:
+                fault = str(failure)
+            runs = len(Path("runs").read_text())
+            if not least <= runs <= most or (says in fault) != (fails > most):
+                yield f"{says} {fails} times: {runs} runs, and {fault}"
+
+
 def _notes() -> str:
     return Path("start.notes").read_text()
 
@@ -568,9 +596,9 @@ def without_dnspython():
 
 
 CHECKS = (without_dnspython, courses, lacks, wrong, private, behind, hooks, wires, names,
-          typed_acts, nsec3, deaf, typed_wrongly)
+          typed_acts, nsec3, deaf, locked, typed_wrongly)
 COUNT = sum(2 * len(it) - 2 for it in COURSES.values()) + len(LACKS) + len(WRONG) \
-    + len(BEHIND) + len(HOOKS) + len(WIRES) + len(TYPED)
+    + len(BEHIND) + len(HOOKS) + len(WIRES) + len(LOCKS) + len(TYPED)
 
 
 def faults():

@@ -7,6 +7,7 @@ from __future__ import annotations
 import contextlib
 import os
 import subprocess
+import time
 from argparse import Namespace
 from dataclasses import dataclass, replace
 from pathlib import Path
@@ -25,6 +26,9 @@ if TYPE_CHECKING:
 # For how long a command of a signer may run, in seconds: PowerDNS waits for a database that another
 # program has locked, and says nothing.
 SECONDS = 60
+# If it may not wait, as for SQLite in the midst of a change, it says this and has changed nothing:
+# the command runs again after a pause, in seconds, until its time is over.
+LOCKED, PAUSE = "database is locked", 0.5
 
 
 @dataclass(frozen=True)
@@ -46,22 +50,32 @@ class Step:
 
 def said(words: tuple[str, ...] | list[str], stdin: str = "", seconds: float = 0) -> str:
     """What a command prints, after it has done its work."""
+    end = time.monotonic() + (seconds or SECONDS)
+    while True:
+        done = _ended(list(words), stdin, seconds or SECONDS)
+        out = done.stdout.decode(errors="replace")
+        if not done.returncode:
+            return out
+        told = done.stderr.decode(errors="replace") + out
+        if LOCKED not in told or time.monotonic() + PAUSE > end:
+            lines = filter(None, (it.strip() for it in told.splitlines()))
+            why = "; ".join(list(lines)[:3]) or f"status {done.returncode}"
+            raise Failure(f"{shown(list(words))}: {why}", UNAVAILABLE)
+        time.sleep(PAUSE)
+
+
+def _ended(words: list[str], stdin: str, seconds: float) -> subprocess.CompletedProcess[bytes]:
+    """A command that has ended, whatever its status is."""
     try:
-        done = subprocess.run(
-            list(words), input=stdin.encode(), stdout=subprocess.PIPE, stderr=subprocess.PIPE,
-            timeout=seconds or SECONDS, env={**os.environ, "LC_ALL": "C", "TZ": "UTC"},
+        return subprocess.run(
+            words, input=stdin.encode(), stdout=subprocess.PIPE, stderr=subprocess.PIPE,
+            timeout=seconds, env={**os.environ, "LC_ALL": "C", "TZ": "UTC"},
         )
     except FileNotFoundError:
         raise Failure(f"{words[0]} is missing: install it", UNAVAILABLE) from None
     except subprocess.TimeoutExpired:
-        text = f"{shown(list(words))}: not done after {seconds or SECONDS} seconds"
+        text = f"{shown(words)}: not done after {seconds} seconds"
         raise Failure(text, UNAVAILABLE) from None
-    out = done.stdout.decode(errors="replace")
-    if done.returncode:
-        lines = [it.strip() for it in (done.stderr.decode(errors="replace") + out).splitlines()]
-        why = "; ".join(list(filter(None, lines))[:3]) or f"status {done.returncode}"
-        raise Failure(f"{shown(list(words))}: {why}", UNAVAILABLE)
-    return out
 
 
 class Store(Protocol):
