@@ -10,6 +10,7 @@ mod moments;
 mod places;
 mod plain;
 mod record;
+mod renew;
 mod running;
 mod sets;
 mod steps;

@@ -19,7 +19,8 @@ ghost use Rattle.dnssec_run.specs.declared.record.Entry.{Entry};
 
 use crate::call::{Call, KeyChange};
 use crate::record::{Entry, Mark, Outcome, Published, Reply, Run};
-use crate::sets::{WalkOrder, copy_sets, renew};
+use crate::renew::renew;
+use crate::sets::{WalkOrder, copy_sets};
 use dnssec_base::Name;
 use dnssec_keyset::{Error, KeySet};
 use std::alloc::Global;

@@ -1,15 +1,14 @@
 //! What is published of a key set, read in the order of its references.
 ghost use Rattle.std.specs.Prelude.{◌≡◌, ◌≤◌, ◌++◌, ◌∷◌, [], IfOk, IfErr, OnOk, map, true, false};
-ghost use Rattle.std.specs.Prelude.{◌||◌, IsSome, None, string_bytes, vec_len};
+ghost use Rattle.std.specs.Prelude.{string_bytes, vec_len};
 ghost use Rattle.std.specs.BTreeMap as tree;
 ghost use Rattle.std.specs.HashMap as hash;
 ghost use Rattle.std.specs.Option.{option_map};
 ghost use Rattle.dnssec_base.specs.declared.error.Error.TheVariants.{OutOfMemory};
 ghost use Rattle.dnssec_run.specs.Published.{IsPublished, World, id_of};
-ghost use Rattle.dnssec_run.specs.Recorder.{Agrees, AreFound, ChangesOnly, HasSameKeys, Leaves};
+ghost use Rattle.dnssec_run.specs.Recorder.{Agrees, AreFound, HasSameKeys, Leaves};
 ghost use Rattle.dnssec_run.specs.Recorder.{ids_read, shown_once, shows};
 
-use crate::places::renew_key;
 use crate::record::{Published, PublishedKey, Touched};
 use dnssec_keyset::{Error, Key, KeySet, KeyType};
 use std::alloc::Global;
@@ -271,7 +270,7 @@ fn key_at<'a>(
 
 /// Reads what is published of a key set, with the positions of its keys, in one walk in the order
 /// of the references. What was published before is used again, and sets that weren't touched stay.
-fn read_sets(
+pub(crate) fn read_sets(
     alloc: Global,
     keyset: &KeySet,
     added: &BTreeMap<String, usize>,
@@ -304,44 +303,6 @@ fn read_sets(
     sets.dnskey_signers = dnskey_signers.into_keys();
     sets.zone_signers = zone_signers.into_keys();
     Ok(())
-}
-
-/// Renews the sets that a call has touched, and says whether there are any. After a setter it looks
-/// only at that key, and says whether they have changed.
-pub(crate) fn renew(
-    alloc: Global,
-    keyset: &KeySet,
-    added: &BTreeMap<String, usize>,
-    order: &mut WalkOrder,
-    sets: &mut Published,
-    touched: Touched<'_>,
-) -> Result<bool, Error>
-    ensures kept { IfOk result (λ changed. changed ≡ false → sets.new ≡ sets.old) }
-    ensures walked { IfOk result (λ changed. touched.entry.only ≡ None → changed
-        ≡ (touched.entry.ds || touched.entry.dnskey || touched.entry.zone_signers)) }
-    ensures by_hand { IfOk result (λ changed. IsSome touched.entry.only → changed ≡ true →
-        ¬ HasSameKeys sets.old sets.new) }
-    ensures read { OnOk result ((v w : World) → IsPublished sets.old v → Leaves touched.entry v w →
-        ChangesOnly (option_map (λ r. r.now) touched.entry.only) v w →
-        Agrees keyset.now (tree.get_by_text added.now) w → IsPublished sets.new w) }
-    ensures err { IfErr result (λ e. e ≡ OutOfMemory) }
-{
-    match touched {
-        Touched {
-            ds: false,
-            dnskey: false,
-            zone_signers: false,
-            ..
-        } => Ok(false),
-        Touched {
-            only: Some(reference),
-            ..
-        } => renew_key(alloc, keyset, added, sets, touched, reference),
-        Touched { only: None, .. } => {
-            read_sets(alloc, keyset, added, order, sets, touched)?;
-            Ok(true)
-        }
-    }
 }
 
 /// A copy of what is published.
