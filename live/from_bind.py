@@ -98,10 +98,12 @@ def types_of(made):
 
 
 def is_signed(made, denial):
-    """Whether each set is signed, and just this kind of denial is there."""
+    """Whether each set is signed, and just this kind of denial is there. With NSEC3 its parameters
+    have to be there too: BIND adds them once the chain is whole."""
     rows = list(types_of(made))
     kinds = {it for types, _ in rows for it in types if it in ("NSEC", "NSEC3")}
-    return kinds == {denial} and all(types <= signed for types, signed in rows)
+    is_whole = denial == "NSEC" or made.get_rdataset(made.origin, "NSEC3PARAM") is not None
+    return kinds == {denial} and is_whole and all(types <= signed for types, signed in rows)
 
 
 def ds_of(made):
