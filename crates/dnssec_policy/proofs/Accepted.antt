@@ -85,7 +85,7 @@ module _ (at : List ℕ → Option KeyParts) where
         grind arith
 
 -- an entry that passes is listed
-listed-in : (p : KeyParts → Bool) (es : List Entry) (q : List ℕ) (k : KeyParts)
+pub listed-in : (p : KeyParts → Bool) (es : List Entry) (q : List ℕ) (k : KeyParts)
     → find (slice_cmp nat_cmp) q es ≡ Some k → p k ≡ true → is_listed (picks p es) q ≡ true
 listed-in p [] q k f e = absurd (cc)
 listed-in p (x ∷ xs) q k f e =

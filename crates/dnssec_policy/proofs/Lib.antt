@@ -13,7 +13,9 @@
 -- | `automatic_deletions_follow`      | `leaves`                              | Ends      |
 -- | `next_goes_on`                    | `prompt`, `ahead`                     | Prompt    |
 -- | `rolls_are_in_time`               | `no-longer`, `in-time`                | Bound     |
+-- | `rolls_end`                       | `rolls-end`                           | RollsEnd  |
 -- | `starts_are_in_time`              | `renewals-in-time`, `changes-in-time` | InTime    |
+-- | `keys_leave`                      | `keys-leave`                          | KeysLeave |
 -- | `nothing_is_silent`               | `outspoken`                           | Silence   |
 -- | `rest_is_as_wanted`               | `as-wanted`                           | Rests     |
 -- | `automatic_runs_grow`             | `grows`                               | Growing   |
@@ -38,4 +40,8 @@ pub mod Spreads
 pub mod Kept
 pub mod Keepers
 pub mod Bound
+pub mod Lags
+pub mod Delays
+pub mod RollsEnd
+pub mod KeysLeave
 pub mod Loops

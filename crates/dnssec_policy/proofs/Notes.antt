@@ -71,7 +71,7 @@ by-view policy v network time are (keyset.Wait r Second now) m roll second step 
 by-view policy v network time are _ m roll second step at ttl there mk mo = absurd (cc)
 
 -- its moment is that at which it was said
-at-now : (policy : Policy) (v : View) (c : keyset.Call) → May policy v c → (at : ℕ)
+pub at-now : (policy : Policy) (v : View) (c : keyset.Call) → May policy v c → (at : ℕ)
     → moment c ≡ Some at → at ≡ v.now
 at-now policy v (keyset.StartRoll r olds news now) m at mo = (cc) ∙ m.0
 at-now policy v (keyset.Report r half ttl now) m at mo = (cc) ∙ m.0
@@ -80,7 +80,7 @@ at-now policy v (keyset.Set r s) m at mo = absurd m
 at-now policy v _ m at mo = absurd (none-some at mo)
 
 -- an add has no moment and is no report
-add-moment : (c : Call) → is_add c ≡ true → call_moment c ≡ None
+pub add-moment : (c : Call) → is_add c ≡ true → call_moment c ≡ None
 add-moment c h = grind arith
 
 add-mark : (c : Call) → is_add c ≡ true → mark (call_of c) ≡ Other

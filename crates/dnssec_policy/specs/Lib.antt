@@ -10,3 +10,4 @@ pub mod Automatic
 pub mod Kept
 pub mod Code
 pub mod Laws
+pub mod Delays

@@ -8,6 +8,7 @@ ghost use Rattle.dnssec_policy.specs.Laws.{ChangesStartInTime, NextGoesOn, NextI
 ghost use Rattle.dnssec_policy.specs.Laws.{NothingIsSilent};
 ghost use Rattle.dnssec_policy.specs.Laws.{EndsAreInTime, RenewalsStartInTime, ReportsAreInTime};
 ghost use Rattle.dnssec_policy.specs.Laws.{ReportsCountNoLonger, RestIsAsWanted};
+ghost use Rattle.dnssec_policy.specs.Delays.{KeysLeave, RollsEnd};
 ghost use Rattle.dnssec_policy.specs.Kept.{AutomaticRunsServeKeepers, KeptAlgorithmsSign};
 
 /// If each call adds a key or was said by `next`, the list of calls is plain, and keeps the sets
@@ -29,8 +30,8 @@ pub fn automatic_runs_reach_resolvers()
     ensures { AutomaticRunsReachResolvers }
 {}
 
-/// So do validators that ask for a chain by each algorithm of a DS set, and keep its algorithms with
-/// a DNSKEY set that they checked by it.
+/// So do validators that ask for a chain by each algorithm of a DS set, and keep its algorithms
+/// with a DNSKEY set that they checked by it.
 pub fn automatic_runs_serve_keepers()
     ensures chain { AutomaticRunsServeKeepers }
     ensures sign { KeptAlgorithmsSign }
@@ -47,14 +48,20 @@ pub fn next_goes_on()
     ensures { NextGoesOn }
 {}
 
-/// A report counts no longer than the highest TTLs noted say. Once all servers have what it speaks of,
-/// by the notes, it is said, or another call; and so is the end of a roll, once they have what its
-/// last actions wait for. So a roll takes the time until servers have the sets of its three steps, and
-/// its two waits: these last no longer than `HighestTtls::roll_takes` counts.
+/// A report counts no longer than the highest TTLs noted say. Once all servers have what it speaks
+/// of, by the notes, it is said, or another call; and so is the end of a roll, once they have what
+/// its last actions wait for. So a roll takes the time until servers have the sets of its three
+/// steps, and its two waits: these last no longer than `HighestTtls::roll_takes` counts.
 pub fn rolls_are_in_time()
     ensures counts { ReportsCountNoLonger }
     ensures reports { ReportsAreInTime }
     ensures ends { EndsAreInTime }
+{}
+
+/// If each call is made within a lag after it is said, a roll is done after what servers take to
+/// give the sets of its three steps, its two waits, and a lag for each call made meanwhile.
+pub fn rolls_end()
+    ensures { RollsEnd }
 {}
 
 /// A roll that is ended, as `next` said, has left nothing that isn't on all servers yet.
@@ -72,6 +79,12 @@ pub fn automatic_deletions_follow()
 pub fn starts_are_in_time()
     ensures renewals { RenewalsStartInTime }
     ensures changes { ChangesStartInTime }
+{}
+
+/// A key whose lifetime is over has left after what its roll takes, and a lag for each call made
+/// meanwhile, if until the start a new key is there and nothing bars the roll.
+pub fn keys_leave()
+    ensures { KeysLeave }
 {}
 
 /// Whatever the policy wants is done, or what is in its way is said by `stuck`.

@@ -148,6 +148,27 @@ module _ {name : List ℕ} {calls : List Call} {entries : List Entry} (run : IsR
     data_of = λ r p e. absurd (none-some p e);
   }) (λ n c e later. clock-next n c e) n (omega arith) within
 
+  -- the reports that a wait counts from
+  counted : (n : ℕ) → n ≤ length entries → (r : RollType) (h : Half) (ttl : ℕ)
+      → roll_now (set_at n) r ≡ Some (cache_expire h ttl)
+      → Arms entries (set_at n) n r h × Tells entries n r h ttl
+  counted n within r First ttl phase =
+      let d = (clocks n within).data_of r (CacheExpire1 ttl) phase in (d.0, d.1)
+  counted n within r Second ttl phase = (clocks n within).data_of r (CacheExpire2 ttl) phase
+
+  -- once the TTL has passed since the report that it counts from, nothing bars a wait
+  pub clear-from : (n : ℕ) → n ≤ length entries → (r : RollType) (h : Half) (ttl : ℕ)
+      → roll_now (set_at n) r ≡ Some (cache_expire h ttl)
+      → (from : LastReport entries r (counts_from r h) n)
+      × ((now : ℕ) → from.moment + ttl * 1_000_000_000 ≤ now
+      → keyset.wait_clearance r h now (set_at n) ≡ waits.Clear)
+  clear-from n within r h ttl phase =
+      let arms = (counted n within r h ttl phase).0 in (
+        arms.0,
+        λ now le. clearance_is (set_at n) (in-order run plain n) r h ttl now arms.0.moment phase
+            arms.1 (omega (arith, le)) ∙ none-left _ (omega (arith, le)),
+      )
+
   -- what the record says of the wait, and what the wait is answered
   exactly : (n : ℕ) (r : RollType) (h : Half) (now ttl : ℕ)
       → (wait : IsMade calls entries n (keyset.Wait r h now))
@@ -157,7 +178,7 @@ module _ {name : List ℕ} {calls : List Call} {entries : List Entry} (run : IsR
       × WaitsUntil (from.moment + last.ttl * 1_000_000_000) now (reply_of wait.entry.reply)
       (keyset.accepted_reply (keyset.Wait r h now))
   exactly n r h now ttl wait phase =
-      let d = counted h phase in
+      let d = counted n within r h ttl phase in
       let its = phase ∙ ap (λ t. Some (cache_expire h t)) (sym d.1.1) in
       let mo = (plainly wait.made).moment_is ∙ ap moment wait.call_is in
       let said : d.0.0.moment ≤ time_at entries d.0.0.at =
@@ -176,12 +197,6 @@ module _ {name : List ℕ} {calls : List Call} {entries : List Entry} (run : IsR
     where
       within : n ≤ length entries
       within = let lt = slice_get_within entries n wait.entry wait.entry_is in omega arith
-
-      counted : (h : Half) → roll_now (set_at n) r ≡ Some (cache_expire h ttl)
-          → Arms entries (set_at n) n r h × Tells entries n r h ttl
-      counted First phase =
-          let d = (clocks n within).data_of r (CacheExpire1 ttl) phase in (d.0, d.1)
-      counted Second phase = (clocks n within).data_of r (CacheExpire2 ttl) phase
 
 -- each wait in its phase lasts exactly as long as its report says
 pub waits-exactly : {name : List ℕ} {calls : List Call} {entries : List Entry}
