@@ -11,7 +11,7 @@ use Rattle.dnssec_run.specs.declared.{call.Call.Call, record.Entry.Entry, record
 use Rattle.dnssec_run.specs.declared.record.{Published.Published, PublishedKey.PublishedKey}
 use Rattle.dnssec_run.specs.{declared.running.Recorder.Recorder, Published.Id, Published.id_of}
 use Rattle.dnssec_run.{specs.Recorder.HasSameKeys, specs.Recorder.Records, proofs.Grow.at_end}
-use Rattle.dnssec_judge.specs.Inner.Window.{GoesOnWith}
+use Rattle.dnssec_judge.specs.Judge.{IsPublishedNext}
 use Rattle.dnssec_run.specs.Origins.{set_at, set_in}
 use Rattle.dnssec_judge.specs.declared.{judging.Judge.Judge, verdict.Broken.Broken}
 use Rattle.dnssec_judge.specs.{Judge.ComesNext, Judge.Knows, Verdict.IsVerdict}
@@ -114,14 +114,14 @@ next_comes : (name : List ℕ) (calls : List Call) (entries : List Entry) (r s :
 next_comes name calls entries r s outcome news so kept handed = record {
   has_mark = refl;
   has_moment = refl;
-  publishes = λ kind. subst (λ news. GoesOnWith (option_map (set_in kind) news)
+  publishes = λ kind. subst (λ news. IsPublishedNext (option_map (set_in kind) news)
       (set_at kind (position_at entries (length entries)))
       (set_at kind (position_of (entry_of outcome s.published))))
       (sym handed) (by outcome.may_publish kept kind);
 }
   where
     by : (b : Bool) → (b ≡ false → s.published ≡ r.published) → (kind : SetKind)
-        → GoesOnWith (option_map (set_in kind) (if b then Some s.published else None))
+        → IsPublishedNext (option_map (set_in kind) (if b then Some s.published else None))
         (set_at kind (position_at entries (length entries)))
         (set_at kind (position_of (entry_of outcome s.published)))
     by true kept kind = told_held (entry_of outcome s.published) kind

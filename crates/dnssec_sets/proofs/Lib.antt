@@ -1,1 +1,4 @@
 pub mod Lists
+pub mod Words
+pub mod Means
+pub mod Table

@@ -1,2 +1,4 @@
+pub mod Bits
 pub mod Chained
+pub mod Numbers
 pub mod Sets

@@ -1,158 +1,181 @@
-//! A set as a judge holds it.
-ghost use Rattle.std.specs.Prelude.{◌≡◌, [], map, IfOk, IfErr, true};
+//! A set that caches may hold.
+ghost use Rattle.std.specs.Prelude.{◌≡◌, ◌&&◌, ◌||◌, ℕ, false, true, not, nat_eq, if◌then◌else◌};
+ghost use Rattle.std.specs.Prelude.{IfOk, IfErr, OnOk};
 ghost use Rattle.dnssec_base.specs.declared.error.Error.TheVariants.{OutOfMemory};
-ghost use Rattle.dnssec_run.specs.Origins.{same_set};
-ghost use Rattle.dnssec_run.specs.Published.{id_of};
-ghost use Rattle.dnssec_sets.specs.Chained.{is_none};
-ghost use Rattle.dnssec_sets.specs.Sets.{keys_hold, parts_of, set_of_held, zone_holds};
+ghost use Rattle.dnssec_sets.specs.Bits.{has, has_none, meet_three, words_of};
+ghost use Rattle.dnssec_sets.specs.Sets.{keys_hold, parts_of, set_of, zone_holds};
 
-use crate::list::KeyList;
-use crate::shared::share_list;
-use crate::trust::{Found, Trust, test};
+use crate::bits::Bits;
 use dnssec_keyset::Error;
-use dnssec_run::PublishedKey;
 use std::alloc::Global;
 
-/// A set of keys, with its signers if it is a DNSKEY set. It is held once for all positions of a
-/// window that publish it.
+/// A set that caches may hold, by the numbers of its keys. It is kept once for all positions that
+/// publish it, and known by the position at which it came.
 #[derive(Debug, Drop)]
-pub struct Held {
-    keys: KeyList,
-    signers: KeyList,
+pub struct OpenSet {
     /// Since this position caches may hold it without a break.
     pub since: usize,
     /// The last position at which it was published, but not at the one before.
     pub last: usize,
-    /// Sets with other sums are other sets.
-    sum: usize,
+    keys: Bits,
+    /// The keys that sign it, if it is a DNSKEY set.
+    signers: Bits,
+    /// Sets with other digests are other sets.
+    digest: u64,
 }
 
-impl Held {
+impl OpenSet {
     /// No keys, as at position 0.
-    pub fn none() -> Self
-        ensures set { set_of_held result ≡ ([], []) }
+    pub fn none(alloc: Global) -> Self
+        ensures since { result.since ≡ 0 }
         ensures last { result.last ≡ 0 }
+        ensures keys { (n : ℕ) → has result.keys n ≡ false }
+        ensures signers { (n : ℕ) → has result.signers n ≡ false }
     {
-        Held {
-            keys: KeyList::Empty,
-            signers: KeyList::Empty,
-            since: 0,
-            last: 0,
-            sum: 0,
+        OpenSet::new(0, Bits::new(alloc), Bits::new(alloc))
+    }
+
+    /// The set of a position, by its keys and signers.
+    pub fn new(at: usize, keys: Bits, signers: Bits) -> Self
+        ensures { parts_of result ≡ ((words_of keys, words_of signers), at, at) }
+    {
+        let digest = signers.digest(keys.digest(0));
+        OpenSet {
+            since: at,
+            last: at,
+            keys,
+            signers,
+            digest,
         }
     }
 
-    /// The set of a position, with its sum. What it has in common with the set before it is shared.
-    pub fn new(
-        alloc: Global,
-        at: usize,
-        keys: &[PublishedKey],
-        signers: &[PublishedKey],
-        sum: usize,
-        before: Option<&Held>,
-    ) -> Result<Self, Error>
-        ensures ok { IfOk result (λ h. (set_of_held h ≡ (map id_of keys.now, map id_of signers.now))
-            × (h.since ≡ at) × (h.last ≡ at)) }
-        ensures err { IfErr result (λ e. e ≡ OutOfMemory) }
-    {
-        let empty = KeyList::Empty;
-        let (keys_before, signers_before) = match before {
-            Some(before) => (&before.keys, &before.signers),
-            None => (&empty, &empty),
-        };
-        let keys = share_list(alloc, keys, keys_before, keys_before)?;
-        let signers = share_list(alloc, signers, signers_before, &keys)?;
-        Ok(Held {
-            keys,
-            signers,
-            since: at,
-            last: at,
-            sum,
-        })
-    }
-
-    /// The same set, which shares its keys.
-    fn try_clone(&self, alloc: Global) -> Result<Self, Error>
+    /// The same set.
+    pub fn try_clone(&self) -> Result<Self, Error>
         ensures ok { IfOk result (λ h. parts_of h ≡ parts_of self.now) }
         ensures err { IfErr result (λ e. e ≡ OutOfMemory) }
     {
-        Ok(Held {
-            keys: self.keys.try_clone(alloc)?,
-            signers: self.signers.try_clone(alloc)?,
+        Ok(OpenSet {
             since: self.since,
             last: self.last,
-            sum: self.sum,
+            keys: self.keys.try_clone()?,
+            signers: self.signers.try_clone()?,
+            digest: self.digest,
         })
     }
 
-    /// Whether it is this set, which has this sum.
-    pub fn is(&self, keys: &[PublishedKey], signers: &[PublishedKey], sum: usize) -> bool
-        ensures { result ≡ true →
-            set_of_held self.now ≡ (map id_of keys.now, map id_of signers.now) }
+    /// The set of another position, which is this one until `flip` has changed it.
+    pub fn next(&self, at: usize) -> Result<Self, Error>
+        ensures ok { IfOk result (λ h. parts_of h ≡ (set_of self.now, at, at)) }
+        ensures err { IfErr result (λ e. e ≡ OutOfMemory) }
     {
-        if self.sum != sum {
-            return false;
-        }
-        self.has(keys, signers)
+        Ok(OpenSet {
+            since: at,
+            last: at,
+            keys: self.keys.try_clone()?,
+            signers: self.signers.try_clone()?,
+            digest: 0,
+        })
     }
 
-    /// The same, for who has no sum of the set.
-    pub fn has(&self, keys: &[PublishedKey], signers: &[PublishedKey]) -> bool
-        ensures { result ≡ same_set (set_of_held self.now)
-            (map id_of keys.now, map id_of signers.now) }
+    /// Has a key come into the set or leave it.
+    pub fn flip_key(&mut self, number: usize) -> Result<(), Error>
+        ensures ok { OnOk result ((n : ℕ) → has self.new.keys n
+            ≡ (if nat_eq number n then not (has self.old.keys n) else has self.old.keys n)) }
+        ensures kept { OnOk result (self.new ≡ record (self.old) {
+          keys = self.new.keys;
+        }) }
+        ensures err { IfErr result (λ e. e ≡ OutOfMemory) }
     {
-        self.keys.is(keys) && self.signers.is(signers)
+        self.keys.flip(number)
+    }
+
+    /// Has a key come to its signers or leave them.
+    pub fn flip_signer(&mut self, number: usize) -> Result<(), Error>
+        ensures ok { OnOk result ((n : ℕ) → has self.new.signers n
+            ≡ (if nat_eq number n then not (has self.old.signers n)
+            else has self.old.signers n)) }
+        ensures kept { OnOk result (self.new ≡ record (self.old) {
+          signers = self.new.signers;
+        }) }
+        ensures err { IfErr result (λ e. e ≡ OutOfMemory) }
+    {
+        self.signers.flip(number)
+    }
+
+    /// Renews its digest, after `flip_key` or `flip_signer`.
+    pub fn renew_digest(&mut self)
+        ensures { parts_of self.new ≡ parts_of self.old }
+    {
+        self.digest = self.signers.digest(self.keys.digest(0));
+    }
+
+    /// Sets with other digests are other sets.
+    pub fn digest(&self) -> u64 {
+        self.digest
+    }
+
+    /// Whether it has the same keys, and the same keys sign it.
+    pub fn is(&self, other: &OpenSet) -> bool
+        ensures { result ≡ true → set_of self.now ≡ set_of other.now }
+    {
+        self.digest == other.digest && self.keys.is(&other.keys) && self.signers.is(&other.signers)
     }
 
     /// It is published at this position too, after others.
     #[inline(always)]
     pub fn show_at(&mut self, at: usize)
-        ensures { parts_of self.new ≡ (set_of_held self.old, self.old.since, at) }
+        ensures { parts_of self.new ≡ (set_of self.old, self.old.since, at) }
     {
         self.last = at;
     }
 
     /// Whether it has no keys.
-    pub fn has_no_keys(&self) -> bool
-        ensures { result ≡ is_none (set_of_held self.now).0 }
+    pub fn is_empty(&self) -> bool
+        ensures { result ≡ has_none (words_of self.now.keys) }
     {
         self.keys.is_empty()
     }
 
-    /// Whether it is a DS set with no key, or one of its keys is in the DNSKEY set and signs it.
-    /// The key of the test before is tried first.
-    #[inline(always)]
-    pub fn trusts_keys_of<'a>(&'a self, dnskey: &Held, before: Option<Found<'a>>) -> Trust<'a>
-        ensures { result.holds ≡ keys_hold (set_of_held self.now) (set_of_held dnskey.now) }
+    /// Keeps only the keys and signers that another set has too.
+    pub fn keep(&mut self, other: &OpenSet)
+        ensures keys { (n : ℕ) → has self.new.keys n
+            ≡ (has self.old.keys n && has other.now.keys n) }
+        ensures signers { (n : ℕ) → has self.new.signers n
+            ≡ (has self.old.signers n && has other.now.signers n) }
     {
-        if self.has_no_keys() {
-            return Trust {
-                holds: true,
-                by: before,
-            };
-        }
-        test(&self.keys, &dnskey.keys, Some(&dnskey.signers), before)
+        self.keys.keep(&other.keys);
+        self.signers.keep(&other.signers);
     }
 
-    /// Whether one of its keys, as those of a DNSKEY set, signs the zone. The key of the test
-    /// before is tried first.
-    #[inline(always)]
-    pub fn trusts_signers<'a>(&self, zone: &'a Held, before: Option<Found<'a>>) -> Trust<'a>
-        ensures { result.holds ≡ zone_holds (set_of_held self.now) (set_of_held zone.now) }
+    /// Whether the number is that of a key or of a signer.
+    pub fn has(&self, number: usize) -> bool
+        ensures { result ≡ (has self.now.keys number || has self.now.signers number) }
     {
-        test(&zone.keys, &self.keys, None, before)
+        self.keys.has(number) || self.signers.has(number)
     }
-}
 
-/// The same sets, which share their keys.
-#[tactic(auto, using(std::proofs::lemmas::Grind::common_steps))]
-pub fn clone_sets(alloc: Global, sets: &[Held]) -> Result<Vec<Held>, Error>
-    ensures ok { IfOk result (λ copies. map parts_of copies.items ≡ map parts_of sets.now) }
-    ensures err { IfErr result (λ e. e ≡ OutOfMemory) }
-{
-    let mut copies = Vec::with_capacity(alloc, sets.len())?;
-    for held in sets {
-        copies.push(held.try_clone(alloc)?)?;
+    /// Whether one of its keys, as those of a DS set, is in the DNSKEY set and signs it.
+    #[inline(always)]
+    pub fn names_key_of(&self, dnskey: &OpenSet) -> bool
+        ensures { result ≡ meet_three (words_of self.now.keys) (words_of dnskey.now.keys)
+            (words_of dnskey.now.signers) }
+    {
+        self.keys.meets_both(&dnskey.keys, &dnskey.signers)
     }
-    Ok(copies)
+
+    /// Whether it holds with a DNSKEY set: there is no DS, or it names a key of that.
+    #[inline(always)]
+    pub fn holds_with_keys(&self, dnskey: &OpenSet) -> bool
+        ensures { result ≡ keys_hold (set_of self.now) (set_of dnskey.now) }
+    {
+        self.is_empty() || self.names_key_of(dnskey)
+    }
+
+    /// Whether one of its keys, as those of a DNSKEY set, signs the zone.
+    #[inline(always)]
+    pub fn holds_with_signers(&self, zone: &OpenSet) -> bool
+        ensures { result ≡ zone_holds (set_of self.now) (set_of zone.now) }
+    {
+        self.keys.meets(&zone.keys)
+    }
 }

@@ -1,15 +1,13 @@
-//! The sets that caches may hold: a set with its signers, its keys in pieces that sets share, and
-//! whether two sets hold in a chain.
+//! The sets that caches may hold: keys as small numbers, sets as bits, and whether two sets hold in
+//! a chain.
 //!
 //! `dnssec_judge` keeps them and tests them.
 #![tactic(auto)]
 
+mod bits;
 mod held;
-mod list;
-mod place;
-mod shared;
-mod trust;
+mod numbers;
 
-pub use held::{Held, clone_sets};
-pub use shared::sum_of;
-pub use trust::{Found, Trust};
+pub use bits::Bits;
+pub use held::OpenSet;
+pub use numbers::Numbers;

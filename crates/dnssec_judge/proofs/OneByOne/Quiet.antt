@@ -22,5 +22,6 @@ quiet-takes w at time none =
         above,
       );
       keeps = λ n at k. stays n w k;
-      origin = λ n set k has. refl;
+      starts = λ n at k. omega arith;
+      origin = refl;
     }

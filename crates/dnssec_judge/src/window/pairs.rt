@@ -1,89 +1,133 @@
-//! Any two sets of the windows are tested once: each new set with all sets of the other kinds.
-ghost use Rattle.std.specs.Prelude.{◌≡◌, ◌&&◌};
-ghost use Rattle.dnssec_sets.specs.Sets.{keys_hold, set_of_held, zone_holds};
-ghost use Rattle.dnssec_judge.specs.Inner.Window.{all_in, new_in, pair_holds};
+//! Any two sets of the windows are tested once: each new set with all sets of the other kind.
+ghost use Rattle.std.specs.Prelude.{◌≡◌, ◌≤◌, ◌&&◌, ℕ, true};
+ghost use Rattle.std.specs.List.{Contains};
+ghost use Rattle.dnssec_sets.specs.Sets.{keys_hold, set_of, zone_holds};
+ghost use Rattle.dnssec_sets.specs.declared.held.OpenSet.{OpenSet};
+ghost use Rattle.dnssec_judge.specs.Inner.Window.{AllHold, AreByAge, IsOpen, Keeps, NewPass};
+ghost use Rattle.dnssec_judge.specs.Inner.Window.{Tested, all_in};
 
 use super::Window;
-use dnssec_sets::{Found, Held, Trust};
+use dnssec_sets::OpenSet;
 
-/// What a set of a window is to another set. Which two hold depends on it.
-#[derive(Clone, Copy)]
-pub(crate) enum Pair {
-    /// A DS set, which names a key that is in the DNSKEY set and signs it.
-    DsOfKeys,
-    /// A DNSKEY set, for a DS set.
-    KeysOfDs,
-    /// A DNSKEY set, for the keys that sign the zone.
-    KeysOfSigners,
-    /// The keys that sign the zone, one of them in the DNSKEY set.
-    SignersOfKeys,
-}
-
-impl Pair {
-    /// Whether the set of a window holds with the other one, which may be by the key of before.
-    #[inline(always)]
-    fn test<'a>(self, held: &'a Held, other: &'a Held, before: Option<Found<'a>>) -> Trust<'a>
-        ensures { result.holds ≡ pair_holds self (set_of_held other.now) (set_of_held held.now) }
-    {
-        match self {
-            Pair::DsOfKeys => held.trusts_keys_of(other, before),
-            Pair::KeysOfDs => other.trusts_keys_of(held, before),
-            Pair::KeysOfSigners => held.trusts_signers(other, before),
-            Pair::SignersOfKeys => other.trusts_signers(held, before),
-        }
+/// Whether each set that came at position `tested` or later holds with all sets of the other kind.
+pub(crate) fn new_sets_hold(ds: &Window, dnskey: &Window, zone: &Window, tested: usize) -> bool
+    ensures { (n : ℕ) → result ≡ true → Keeps n ds.now → Keeps n dnskey.now → Keeps n zone.now →
+        Tested tested ds.now dnskey.now zone.now → AllHold ds.now dnskey.now zone.now }
+{
+    if !ds.new_ds_hold(dnskey, tested) {
+        return false;
     }
+    if !dnskey.new_keys_hold(ds, zone, tested) {
+        return false;
+    }
+    zone.new_signers_hold(dnskey, tested)
 }
 
+// If there are many sets, a test with all of them first asks what is common to them. So most sets
+// are tested once, and not with each of the others.
 impl Window {
-    /// Whether each set that came at position `tested` or later holds with each set of the other
-    /// window.
-    #[inline(always)]
-    pub(crate) fn new_hold(&self, other: &Window, pair: Pair, tested: usize) -> bool
-        ensures { result ≡ new_in self.now tested (λ p. all_in other.now (pair_holds pair p)) }
+    /// The sets that came at position `tested` or later.
+    fn new_sets(&self, tested: usize) -> &[OpenSet]
+        ensures { AreByAge self.now.sets.items → (h : OpenSet) → IsOpen self.now h →
+            tested ≤ h.since → Contains result.now h }
     {
-        let begin = self.begin();
-        for held in &self.sets {
-            if held.last < begin || held.since < tested {
-                continue;
-            }
-            if !other.all_hold(pair, held) {
+        let first = self.sets.partition_point(|set| set.since < tested);
+        let (_, new) = self.sets.split_at(first);
+        new
+    }
+
+    /// Whether each new DS set holds with each DNSKEY set.
+    fn new_ds_hold(&self, dnskey: &Window, tested: usize) -> bool
+        ensures { result ≡ true → (n : ℕ) → Keeps n self.now → Keeps n dnskey.now →
+            NewPass tested self.now (λ p. all_in dnskey.now (λ q. keys_hold p q)) }
+    {
+        for ds in self.new_sets(tested) {
+            if !dnskey.keys_hold_with(ds) {
                 return false;
             }
         }
         true
     }
 
-    /// Whether each DNSKEY set that came at position `tested` or later is trusted by each DS set,
-    /// and trusts all zone signers.
-    pub(crate) fn new_keys_trust(&self, ds: &Window, zone: &Window, tested: usize) -> bool
-        ensures { result ≡ new_in self.now tested (λ q. all_in ds.now (λ p. keys_hold p q)
+    /// Whether each new DNSKEY set holds with each DS set and with all zone signers.
+    fn new_keys_hold(&self, ds: &Window, zone: &Window, tested: usize) -> bool
+        ensures { result ≡ true → (n : ℕ) → Keeps n self.now → Keeps n ds.now →
+            Keeps n zone.now → NewPass tested self.now (λ q. all_in ds.now (λ p. keys_hold p q)
             && all_in zone.now (λ z. zone_holds q z)) }
     {
-        let begin = self.begin();
-        self.sets.iter().all(|dnskey| {
-            dnskey.last < begin
-                || dnskey.since < tested
-                || ds.all_hold(Pair::DsOfKeys, dnskey) && zone.all_hold(Pair::SignersOfKeys, dnskey)
-        })
-    }
-
-    /// Whether each set of the window holds with the other set. It is first tested by the key by
-    /// which the one before it held.
-    #[inline(always)]
-    fn all_hold(&self, pair: Pair, other: &Held) -> bool
-        ensures { result ≡ all_in self.now (pair_holds pair (set_of_held other.now)) }
-    {
-        let begin = self.begin();
-        let mut by = None;
-        for held in &self.sets {
-            if begin <= held.last {
-                let trust = pair.test(held, other, by);
-                if !trust.holds {
-                    return false;
-                }
-                by = trust.by;
+        for keys in self.new_sets(tested) {
+            if !ds.ds_hold_with(keys) {
+                return false;
+            }
+            if !zone.signers_hold_with(keys) {
+                return false;
             }
         }
         true
+    }
+
+    /// Whether the new zone signers hold with each DNSKEY set.
+    fn new_signers_hold(&self, dnskey: &Window, tested: usize) -> bool
+        ensures { result ≡ true → (n : ℕ) → Keeps n self.now → Keeps n dnskey.now →
+            NewPass tested self.now (λ z. all_in dnskey.now (λ q. zone_holds q z)) }
+    {
+        for zone in self.new_sets(tested) {
+            if !dnskey.keys_hold_with_signers(zone) {
+                return false;
+            }
+        }
+        true
+    }
+
+    /// Whether the DS set holds with each DNSKEY set of the window.
+    fn keys_hold_with(&self, ds: &OpenSet) -> bool
+        ensures { (n : ℕ) → Keeps n self.now →
+            result ≡ all_in self.now (λ q. keys_hold (set_of ds.now) q) }
+    {
+        if let Some(common) = self.common() {
+            if ds.names_key_of(common) {
+                return true;
+            }
+        }
+        self.sets.iter().all(|keys| ds.holds_with_keys(keys))
+    }
+
+    /// Whether each DS set of the window holds with the DNSKEY set.
+    fn ds_hold_with(&self, keys: &OpenSet) -> bool
+        ensures { (n : ℕ) → Keeps n self.now →
+            result ≡ all_in self.now (λ p. keys_hold p (set_of keys.now)) }
+    {
+        if let Some(common) = self.common() {
+            if common.names_key_of(keys) {
+                return true;
+            }
+        }
+        self.sets.iter().all(|ds| ds.holds_with_keys(keys))
+    }
+
+    /// Whether the DNSKEY set holds with all zone signers of the window.
+    fn signers_hold_with(&self, keys: &OpenSet) -> bool
+        ensures { (n : ℕ) → Keeps n self.now →
+            result ≡ all_in self.now (λ z. zone_holds (set_of keys.now) z) }
+    {
+        if let Some(common) = self.common() {
+            if keys.holds_with_signers(common) {
+                return true;
+            }
+        }
+        self.sets.iter().all(|zone| keys.holds_with_signers(zone))
+    }
+
+    /// Whether each DNSKEY set of the window holds with the zone signers.
+    fn keys_hold_with_signers(&self, zone: &OpenSet) -> bool
+        ensures { (n : ℕ) → Keeps n self.now →
+            result ≡ all_in self.now (λ q. zone_holds q (set_of zone.now)) }
+    {
+        if let Some(common) = self.common() {
+            if common.holds_with_signers(zone) {
+                return true;
+            }
+        }
+        self.sets.iter().all(|keys| keys.holds_with_signers(zone))
     }
 }

@@ -23,11 +23,11 @@ impl Due {
     pub(crate) fn of(
         mark: Mark,
         moment: Option<UnixTime>,
-        steps: Steps,
+        steps: &Steps,
         kind: SetKind,
     ) -> Option<Due>
         ensures { (time : ℕ) → time < most → over_any result time
-            ≡ over_by (kind_of kind) (base_of steps) mark moment time }
+            ≡ over_by (kind_of kind) (base_of steps.now) mark moment time }
     {
         let Mark::Report { roll, second, ttl } = mark else {
             return None;

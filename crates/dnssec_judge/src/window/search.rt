@@ -1,174 +1,187 @@
-//! The first sets without a chain, once a test has failed: the spans are searched in their order.
-ghost use Rattle.std.specs.Prelude.{◌≡◌, max};
-ghost use Rattle.std.specs.Option.{option_copied};
-ghost use Rattle.dnssec_sets.specs.Sets.{keys_hold, set_of_any, set_of_held, sets_have_chain};
-ghost use Rattle.dnssec_sets.specs.Sets.{zone_holds};
-ghost use Rattle.dnssec_judge.specs.Inner.Window.{all_pass, first_ds, first_failing, first_keys};
-ghost use Rattle.dnssec_judge.specs.Inner.Window.{set_at_place, stretches_of};
+//! The first sets without a chain, once a test has failed: the sets are searched in the order of
+//! their first positions, each pair of them once.
+ghost use Rattle.std.specs.Prelude.{◌≡◌, ◌⊎◌, ℕ, false, true, Some, slice_get, IfOk, IfErr};
+ghost use Rattle.dnssec_base.specs.declared.error.Error.TheVariants.{OutOfMemory};
+ghost use Rattle.dnssec_sets.specs.Bits.{has_none};
+ghost use Rattle.dnssec_sets.specs.Sets.{set_of, sets_have_chain, zone_holds};
+ghost use Rattle.dnssec_judge.specs.Inner.Firsts.{AreSigned, HaveFirsts, IsSigned, firsts_of};
+ghost use Rattle.dnssec_judge.specs.Inner.Firsts.{signed_of};
+ghost use Rattle.dnssec_judge.specs.Inner.Window.{Keeps, first_ds, first_failing, first_keys};
+ghost use Rattle.dnssec_judge.specs.Inner.Window.{stretches_of};
 
-use super::{Span, Window};
+use super::Window;
 use crate::verdict::Broken;
-use dnssec_sets::Held;
+use dnssec_keyset::Error;
+use dnssec_sets::OpenSet;
+use std::alloc::Global;
+
+/// A set of a window, with its first position that isn't retired.
+#[derive(Drop)]
+pub(crate) struct First<'a> {
+    at: usize,
+    set: &'a OpenSet,
+}
+
+/// The same of a DNSKEY set, with the first zone signers that it doesn't hold with.
+#[derive(Drop)]
+pub(crate) struct Signed<'a> {
+    at: usize,
+    set: &'a OpenSet,
+    failing: Option<usize>,
+}
+
+/// The first DS set, with a DNSKEY set and zone signers, that has no chain.
+pub(crate) fn find_broken(
+    alloc: Global,
+    ds: &Window,
+    dnskey: &Window,
+    zone: &Window,
+    at: usize,
+) -> Result<Option<Broken>, Error>
+    ensures ok { IfOk result (λ found. (n : ℕ) → Keeps n ds.now → Keeps n dnskey.now →
+        Keeps n zone.now → found ≡ first_ds at ds.now.floor (stretches_of ds.now)
+        dnskey.now.floor (stretches_of dnskey.now) zone.now.floor (stretches_of zone.now)) }
+    ensures err { IfErr result (λ e. e ≡ OutOfMemory) }
+{
+    let ds = ds.firsts(alloc)?;
+    let dnskey = dnskey.firsts(alloc)?;
+    let zone = zone.firsts(alloc)?;
+    let dnskey = sign_all(alloc, &dnskey, &zone)?;
+    Ok(find_ds(&ds, &dnskey, &zone, at))
+}
+
+/// For each DNSKEY set, the first zone signers that it doesn't hold with.
+fn sign_all<'a>(
+    alloc: Global,
+    dnskey: &[First<'a>],
+    zone: &[First<'_>],
+) -> Result<Vec<Signed<'a>>, Error>
+    ensures ok { IfOk result (λ all. (signed_of all.items ≡ firsts_of dnskey.now)
+        × AreSigned (firsts_of zone.now) all.items) }
+    ensures err { IfErr result (λ e. e ≡ OutOfMemory) }
+{
+    let mut all = Vec::with_capacity(alloc, dnskey.len())?;
+    for keys in dnskey {
+        all.push(Signed {
+            at: keys.at,
+            set: keys.set,
+            failing: find_zone(keys.set, zone),
+        })?;
+    }
+    Ok(all)
+}
+
+/// The first zone signers that the DNSKEY set doesn't hold with.
+fn find_zone(keys: &OpenSet, zone: &[First<'_>]) -> Option<usize>
+    ensures { result ≡ first_failing (zone_holds (set_of keys.now)) 0 (firsts_of zone.now) }
+{
+    for signers in zone {
+        if !keys.holds_with_signers(signers.set) {
+            return Some(signers.at);
+        }
+    }
+    None
+}
+
+/// The first DS set, with a DNSKEY set and zone signers, that has no chain.
+fn find_ds(
+    ds: &[First<'_>],
+    dnskey: &[Signed<'_>],
+    zone: &[First<'_>],
+    at: usize,
+) -> Option<Broken>
+    ensures { AreSigned (firsts_of zone.now) dnskey.now → result
+        ≡ first_ds at 0 (firsts_of ds.now) 0 (signed_of dnskey.now) 0 (firsts_of zone.now) }
+{
+    for first in ds {
+        if let Some(broken) = find_keys(first, dnskey, zone, at) {
+            return Some(broken);
+        }
+    }
+    None
+}
+
+/// The first DNSKEY set, with zone signers, that leaves the DS set without a chain.
+fn find_keys(
+    ds: &First<'_>,
+    dnskey: &[Signed<'_>],
+    zone: &[First<'_>],
+    at: usize,
+) -> Option<Broken>
+    ensures { AreSigned (firsts_of zone.now) dnskey.now → result
+        ≡ first_keys at ds.now.at (set_of ds.now.set.now) 0 (signed_of dnskey.now) 0
+        (firsts_of zone.now) }
+{
+    if ds.set.is_empty() {
+        return None;
+    }
+    for keys in dnskey {
+        if let Some(zone) = failing_zone(ds.set, keys, zone) {
+            return Some(Broken {
+                at,
+                ds: ds.at,
+                dnskey: keys.at,
+                zone,
+            });
+        }
+    }
+    None
+}
+
+/// The first zone signers that leave a DS set, which isn't empty, and a DNSKEY set without a chain.
+fn failing_zone(ds: &OpenSet, keys: &Signed<'_>, zone: &[First<'_>]) -> Option<usize>
+    ensures { has_none (set_of ds.now).0 ≡ false → IsSigned (firsts_of zone.now) keys.now → result
+        ≡ first_failing (sets_have_chain (set_of ds.now) (set_of keys.now.set.now)) 0
+        (firsts_of zone.now) }
+{
+    if ds.holds_with_keys(keys.set) {
+        return keys.failing;
+    }
+    match zone.first() {
+        Some(first) => Some(first.at),
+        None => None,
+    }
+}
 
 impl Window {
-    /// The window's first DS set, with a DNSKEY set and zone signers, that has no chain.
-    pub(crate) fn find_ds(&self, dnskey: &Window, zone: &Window, at: usize) -> Option<Broken>
-        ensures { result ≡ first_ds at self.now.floor (stretches_of self.now)
-            dnskey.now.floor (stretches_of dnskey.now) zone.now.floor (stretches_of zone.now) }
+    /// Its sets, in the order of their first positions that aren't retired.
+    fn firsts(&self, alloc: Global) -> Result<Vec<First<'_>>, Error>
+        ensures ok { IfOk result (λ firsts. (n : ℕ) → Keeps n self.now →
+            HaveFirsts self.now.floor (firsts_of firsts.items) (stretches_of self.now)) }
+        ensures err { IfErr result (λ e. e ≡ OutOfMemory) }
     {
-        let is_trusted = dnskey.trust_all(zone);
+        let mut is_met = Vec::new(alloc);
+        is_met.resize(self.sets.len(), false)?;
+        let mut firsts = Vec::new(alloc);
         for span in &self.spans {
-            let ds = self.held_at(span);
-            if let Some(broken) = dnskey.find_for(zone, is_trusted, ds, self.start(span), at) {
-                return Some(broken);
+            let Some(place) = self.place_since(span.set) else {
+                continue;
+            };
+            let Some(set) = self.sets.get(place) else {
+                continue;
+            };
+            if meet(&mut is_met, place) {
+                continue;
             }
+            let at = self.floor.max(span.from);
+            firsts.push(First { at, set })?;
         }
-        None
-    }
-
-    /// The window's first DNSKEY set, with zone signers, that leaves the DS set without a chain.
-    /// There is no search if the DS set is empty, or if it trusts all DNSKEY sets and they trust
-    /// all zone signers. So among many DS sets only the first broken one takes a search of both.
-    fn find_for(
-        &self,
-        zone: &Window,
-        is_trusted: bool,
-        ds: Option<&Held>,
-        from: usize,
-        at: usize,
-    ) -> Option<Broken>
-        requires { is_trusted ≡ all_pass (λ q. all_pass (λ z. zone_holds q z)
-            (stretches_of zone.now)) (stretches_of self.now) }
-        ensures { result ≡ first_keys at from (set_of_any (option_copied ds.entry))
-            self.now.floor (stretches_of self.now) zone.now.floor (stretches_of zone.now) }
-    {
-        let Some(ds) = ds else {
-            return None;
-        };
-        if ds.has_no_keys() {
-            return None;
-        }
-        if is_trusted && self.are_all_trusted(ds) {
-            return None;
-        }
-        self.find_keys(zone, ds, from, at)
-    }
-
-    /// Whether each DNSKEY set of the window trusts all zone signers.
-    fn trust_all(&self, zone: &Window) -> bool
-        ensures { result ≡ all_pass (λ q. all_pass (λ z. zone_holds q z) (stretches_of zone.now))
-            (stretches_of self.now) }
-    {
-        for span in &self.spans {
-            if !zone.are_all_signers(self.held_at(span)) {
-                return false;
-            }
-        }
-        true
-    }
-
-    /// Whether the DNSKEY set trusts all zone signers of the window.
-    fn are_all_signers(&self, dnskey: Option<&Held>) -> bool
-        ensures { result ≡ all_pass (λ z. zone_holds (set_of_any (option_copied dnskey.entry)) z)
-            (stretches_of self.now) }
-    {
-        for span in &self.spans {
-            if !has_signer(dnskey, self.held_at(span)) {
-                return false;
-            }
-        }
-        true
-    }
-
-    /// Whether the DS set trusts each DNSKEY set of the window.
-    fn are_all_trusted(&self, ds: &Held) -> bool
-        ensures { result ≡ all_pass (λ q. keys_hold (set_of_held ds.now) q)
-            (stretches_of self.now) }
-    {
-        for span in &self.spans {
-            if !has_trusted(ds, self.held_at(span)) {
-                return false;
-            }
-        }
-        true
-    }
-
-    /// The same by a search of the window.
-    fn find_keys(&self, zone: &Window, ds: &Held, from: usize, at: usize) -> Option<Broken>
-        ensures { result ≡ first_keys at from (set_of_held ds.now)
-            self.now.floor (stretches_of self.now) zone.now.floor (stretches_of zone.now) }
-    {
-        for span in &self.spans {
-            if let Some(zone) = zone.find_zone(ds, self.held_at(span)) {
-                return Some(Broken {
-                    at,
-                    ds: from,
-                    dnskey: self.start(span),
-                    zone,
-                });
-            }
-        }
-        None
-    }
-
-    /// The first zone signers that leave the other two sets without a chain.
-    fn find_zone(&self, ds: &Held, dnskey: Option<&Held>) -> Option<usize>
-        ensures { result ≡ first_failing (sets_have_chain (set_of_held ds.now)
-            (set_of_any (option_copied dnskey.entry))) self.now.floor (stretches_of self.now) }
-    {
-        for span in &self.spans {
-            if !is_chained(ds, dnskey, self.held_at(span)) {
-                return Some(self.start(span));
-            }
-        }
-        None
-    }
-
-    /// The set of a span.
-    fn held_at(&self, span: &Span) -> Option<&Held>
-        ensures { set_of_any (option_copied result)
-            ≡ set_at_place self.now.sets.items span.now.place }
-    {
-        self.sets.get(span.place)
-    }
-
-    /// The first position of a span that isn't retired.
-    fn start(&self, span: &Span) -> usize
-        ensures { result ≡ max self.now.floor span.now.from }
-    {
-        self.floor.max(span.from)
+        Ok(firsts)
     }
 }
 
-/// Whether the sets have a chain.
-fn is_chained(ds: &Held, dnskey: Option<&Held>, zone: Option<&Held>) -> bool
-    ensures { result ≡ sets_have_chain (set_of_held ds.now)
-        (set_of_any (option_copied dnskey.entry)) (set_of_any (option_copied zone.entry)) }
+/// Meets a place, and answers whether it was met before.
+fn meet(is_met: &mut Vec<bool>, place: usize) -> bool
+    ensures was { result ≡ true → slice_get is_met.old.items place ≡ Some true }
+    ensures met { (p : ℕ) → slice_get is_met.new.items p ≡ Some true →
+        (p ≡ place) ⊎ (slice_get is_met.old.items p ≡ Some true) }
 {
-    ds.has_no_keys() || has_trusted(ds, dnskey) && has_signer(dnskey, zone)
-}
-
-/// Whether the DS set has no key, or one of its keys is in the DNSKEY set and signs it.
-fn has_trusted(ds: &Held, dnskey: Option<&Held>) -> bool
-    ensures { result ≡ keys_hold (set_of_held ds.now) (set_of_any (option_copied dnskey.entry)) }
-{
-    match dnskey {
-        Some(dnskey) => ds.trusts_keys_of(dnskey, None).holds,
-        None => ds.has_no_keys(),
-    }
-}
-
-/// Whether a key of the DNSKEY set signs the zone.
-#[tactic(auto, using(crate::proofs::Verdicts::Chains::no_key_signs))]
-fn has_signer(dnskey: Option<&Held>, zone: Option<&Held>) -> bool
-    ensures { result ≡ zone_holds (set_of_any (option_copied dnskey.entry))
-        (set_of_any (option_copied zone.entry)) }
-{
-    let Some(zone) = zone else {
+    if is_met.len() <= place {
         return false;
-    };
-    match dnskey {
-        Some(dnskey) => dnskey.trusts_signers(zone, None).holds,
-        None => false,
     }
+    if is_met[place] {
+        return true;
+    }
+    is_met[place] = true;
+    false
 }

@@ -29,6 +29,7 @@ follows-as : (es : List Entry) (w : Judge) (at tested : ℕ) (found : Option Bro
     → Follows es (record w { at = at; tested = tested; found = found })
 follows-as es w at tested found within all f = record {
   time = f.time;
+  table = f.table;
   ds = f.ds;
   dnskey = f.dnskey;
   zone = f.zone;
@@ -78,18 +79,19 @@ returns-clause-ok c es e next h =
     let none : j.found ≡ None = sym c.in_ok-follow.ensures.found ∙ still in
     let was : IsSafe es (length es) =
     subst (λ (o : Option Broken). IsVerdict es o) none h.verdict (length es) (omega arith) in
-    let tested = c.look.ensures.tested (length more) here g.within g.tested in
-    subst (Knows more) (sym c.look.ensures.kept) (record {
+    let tested = c.in_ok-look.ensures.tested (length more) here g.within g.ds.keeps
+    g.dnskey.keeps g.zone.keeps g.tested in
+    subst (Knows more) (sym c.in_ok-look.ensures.kept) (record {
       at = c.in_ok-follow.ensures.at ∙ here;
       steps = steps-follow es e j.steps w.steps c.args.mark c.in-Some.at (origins_of w) h.steps at
           next.has_mark (origins-are es e w g) c.in_ok-follow.ensures.steps;
       verdict = none-found es e j.found new.found none h.verdict
           (found-or-safe more (length more) (search (length more)) new.found
           c.is_some-2.result
-          (λ t. c.look.ensures.found t (length more) here g.within still g.ds.keeps g.dnskey.keeps
+          (λ t. c.in_ok-look.ensures.found t (length more) here g.within still g.ds.keeps g.dnskey.keeps
           g.zone.keeps g.tested ∙ ap search here)
-          (λ t. c.look.ensures.none t ∙ still)
-          (judged more (length more) (omega arith) w.ds w.dnskey w.zone
+          (λ t. c.in_ok-look.ensures.none t ∙ still)
+          (judged more (length more) (omega arith) w.numbers g.table w.ds w.dnskey w.zone
           g.ds g.dnskey g.zone)
           (λ t. subst (IsSafe more) (sym (count es e)) (stays-safe es e
           (λ kind. rw (is-none c.args.published (sym c.is_some-2.ensures ∙ t))

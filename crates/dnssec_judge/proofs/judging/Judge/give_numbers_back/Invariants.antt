@@ -1,0 +1,13 @@
+-- Numbers in use stay with their keys.
+use Rattle.std.proofs.Common.{◌≡◌, ℕ, true}
+use Rattle.dnssec_sets.specs.Numbers.{IsTable, key_at}
+use Rattle.dnssec_judge.specs.Judge.{is_in_use}
+use Rattle.dnssec_judge.proofs.judging.Judge.give_numbers_back.Given as goal
+
+abbrev pub invariant-loop-number : goal.invariant-loop-number
+invariant-loop-number l = record {
+  kept : l.self ≡ record (l.initial.self) { numbers = l.self.numbers };
+  table : IsTable l.initial.self.numbers → IsTable l.self.numbers;
+  in_use : (number : ℕ) → is_in_use l.initial.self number ≡ true
+      → key_at l.self.numbers number ≡ key_at l.initial.self.numbers number;
+}

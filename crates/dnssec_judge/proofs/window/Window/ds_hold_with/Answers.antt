@@ -1,0 +1,22 @@
+-- What holds with the common set holds with each.
+use Rattle.std.proofs.Common.{ap, List, rules, sym, tests, ◌∙◌}
+use Rattle.std.proofs.lemmas.Iterator.{YieldsList-from_slice, Search.all_from_yields_List}
+use Rattle.std.specs.List.{list_all}
+use Rattle.dnssec_sets.specs.declared.held.OpenSet.{OpenSet}
+use Rattle.dnssec_sets.specs.Sets.{keys_hold, set_of, zone_holds}
+use Rattle.dnssec_judge.proofs.OneByOne.Pairs.{all-from, ds-by-common}
+use Rattle.dnssec_judge.proofs.window.Window.ds_hold_with.Goals as goal
+
+pub returns-then-names_key_of : goal.returns-then-names_key_of
+returns-then-names_key_of c n k =
+    let other = set_of c.args.keys.now in
+    sym (all-from (λ h. keys_hold (set_of h) other) c.args.self.now.sets.items
+    (λ place h e. ds-by-common other c.in-Some.common.now h (c.in-Some.ensures n k h (place, e))
+    (sym c.names_key_of.ensures ∙ c.if-names_key_of.true)))
+
+pub returns : goal.returns
+returns c n k =
+    let test = λ (x : OpenSet). keys_hold (set_of x) (set_of c.args.keys.now) in
+    all_from_yields_List test _ _ _ c.all.ensures.ran (YieldsList-from_slice c.deref.result.now cc)
+    (λ x b q called. search (rules, tests))
+    ∙ ap (λ (hs : List OpenSet). list_all test hs) c.deref.ensures.value

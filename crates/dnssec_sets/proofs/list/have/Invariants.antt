@@ -1,9 +1,0 @@
--- The pieces that are left have the answer.
-use Rattle.std.{proofs.Common.◌≡◌, proofs.Common.drop, specs.Prelude.flat_map}
-use Rattle.dnssec_sets.specs.Chained.{ids_of_piece, is_in, shared_id}
-use Rattle.dnssec_sets.proofs.list.have.Given as goal
-
-abbrev pub invariant-loop-piece : goal.invariant-loop-piece
-invariant-loop-piece l =
-    is_in (flat_map ids_of_piece (drop l.piece-index l.pieces)) (shared_id l.key)
-    ≡ is_in (flat_map ids_of_piece l.pieces) (shared_id l.key)
