@@ -1,5 +1,5 @@
 -- A copy of a judge knows what the judge knows.
-use Rattle.std.proofs.Common.{◌≡◌, ℕ, ◌<◌, refl, sym, ◌∙◌, ap, arith, List, Option, None, Some}
+use Rattle.std.proofs.Common.{◌≡◌, ℕ, refl, sym, ◌∙◌, ap, arith, List, Option, None, Some}
 use Rattle.std.proofs.Common.{subst, true, false, [], ◌∷◌, length, map}
 use Rattle.std.proofs.lemmas.Option.{none-some, same_Some, slice_get-map}
 use Rattle.std.specs.{Option.option_map, Option.option_map_or, Prelude.Bool, Prelude.slice_get}

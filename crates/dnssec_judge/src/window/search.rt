@@ -84,12 +84,7 @@ fn find_zone(keys: &OpenSet, zone: &[First<'_>]) -> Option<usize>
 }
 
 /// The first DS set, with a DNSKEY set and zone signers, that has no chain.
-fn find_ds(
-    ds: &[First<'_>],
-    dnskey: &[Signed<'_>],
-    zone: &[First<'_>],
-    at: usize,
-) -> Option<Broken>
+fn find_ds(ds: &[First<'_>], dnskey: &[Signed<'_>], zone: &[First<'_>], at: usize) -> Option<Broken>
     ensures { AreSigned (firsts_of zone.now) dnskey.now → result
         ≡ first_ds at 0 (firsts_of ds.now) 0 (signed_of dnskey.now) 0 (firsts_of zone.now) }
 {
@@ -102,12 +97,7 @@ fn find_ds(
 }
 
 /// The first DNSKEY set, with zone signers, that leaves the DS set without a chain.
-fn find_keys(
-    ds: &First<'_>,
-    dnskey: &[Signed<'_>],
-    zone: &[First<'_>],
-    at: usize,
-) -> Option<Broken>
+fn find_keys(ds: &First<'_>, dnskey: &[Signed<'_>], zone: &[First<'_>], at: usize) -> Option<Broken>
     ensures { AreSigned (firsts_of zone.now) dnskey.now → result
         ≡ first_keys at ds.now.at (set_of ds.now.set.now) 0 (signed_of dnskey.now) 0
         (firsts_of zone.now) }

@@ -1,7 +1,6 @@
 -- No span's set goes.
-use Rattle.std.proofs.Common.{◌≡◌, ◌∙◌, ap, leb, List, refl, rules, sym, tests, None}
+use Rattle.std.proofs.Common.{◌≡◌, ◌∙◌, ap, leb, refl, rules, tests, None}
 use Rattle.dnssec_key.proofs.Retained.{filtered}
-use Rattle.dnssec_sets.specs.declared.held.OpenSet.{OpenSet}
 use Rattle.dnssec_judge.specs.declared.window.Window.{Window}
 use Rattle.dnssec_judge.specs.Inner.Window.{begin_of}
 use Rattle.dnssec_judge.proofs.OneByOne.Sets.{dropped, left}

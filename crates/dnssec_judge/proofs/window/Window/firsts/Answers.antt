@@ -1,5 +1,5 @@
 -- A span whose set was met is left out, and another is taken.
-use Rattle.std.proofs.Common.{◌≡◌, ◌∙◌, ◌++◌, ◌∷◌, ◌<◌, [], ap, arith, inl, inr, length, List, None, refl}
+use Rattle.std.proofs.Common.{◌≡◌, ◌∙◌, ◌++◌, ◌∷◌, [], ap, arith, inl, inr, length, List, refl}
 use Rattle.std.proofs.Common.{rules, Some, subst, sym, ℕ}
 use Rattle.std.proofs.lemmas.Option.{none-some, same_Some, slice_get_read, slice_get_within}
 use Rattle.std.specs.{Prelude.slice_get, VecDeque.Iter.deque_iter_rest}
@@ -39,8 +39,12 @@ loop-span-preserved-in_default-get c =
       found = λ n k test.
           (let f = c.in-Some-place_since.ensures.some k.by_age in
           let within = slice_get_within sets c.in-Some-place_since.place f.0 f.1 in
-          absurd (omega (arith, within, past,
-          ap (λ (xs : List OpenSet). length xs) c.deref.ensures.value)));
+          absurd (omega (
+            arith,
+            within,
+            past,
+            ap (λ (xs : List OpenSet). length xs) c.deref.ensures.value,
+          )));
       met = so.met;
     }
 
@@ -66,7 +70,7 @@ loop-span-preserved-then-meet c =
           ∙ ap (λ (ss : List Span). first-then test w.floor sets fs ss) (sym rest)
           ∙ so.found n k test);
       met = λ place h there at. elim (c.meet.ensures.met place there) [
-        | inl is ↦ so.met place h 
+        | inl is ↦ so.met place h
             (ap (slice_get c.loop-span.is_met.items) is ∙ was) at
         | inr old ↦ so.met place h old at
       ];

@@ -1,5 +1,5 @@
 -- The new sets are those from a place on.
-use Rattle.std.proofs.Common.{◌≡◌, ◌∙◌, ◌-◌, ◌+◌, ◌<◌, ◌≤◌, ap, arith, get_or, inl, inr, length, List, ltb, ℕ}
+use Rattle.std.proofs.Common.{◌≡◌, ◌∙◌, ◌-◌, ◌+◌, ◌≤◌, ap, arith, get_or, inl, inr, List, ltb, ℕ}
 use Rattle.std.proofs.Common.{drop, rules, Some, subst, sym}
 use Rattle.std.proofs.lemmas.Bool.{cases_lt, ltb-true}
 use Rattle.std.proofs.lemmas.List.{get_or-drop, length-drop}

@@ -2,7 +2,7 @@
 use Rattle.std.proofs.Common.{◌∙◌, sym}
 use Rattle.dnssec_sets.specs.Sets.{set_of}
 use Rattle.dnssec_judge.specs.Inner.Firsts.{firsts_of}
-use Rattle.dnssec_judge.proofs.OneByOne.Firsts.{missed-fails, signed-fails}
+use Rattle.dnssec_judge.proofs.OneByOne.Firsts.{signed-fails}
 use Rattle.dnssec_judge.proofs.window.search.failing_zone.Goals as goal
 
 pub returns-then-holds_with_keys : goal.returns-then-holds_with_keys

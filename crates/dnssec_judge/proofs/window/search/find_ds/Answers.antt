@@ -1,6 +1,6 @@
 -- The first of the rest has an answer, or is left out.
-use Rattle.std.proofs.Common.{◌≡◌, ◌∙◌, ◌+◌, ◌∷◌, ℕ, ap, arith, drop, get_or, List, Option, Some, None}
-use Rattle.std.proofs.Common.{sym, subst}
+use Rattle.std.proofs.Common.{◌≡◌, ◌∙◌, ◌+◌, ◌∷◌, ℕ, ap, arith, drop, List, Option}
+use Rattle.std.proofs.Common.{sym}
 use Rattle.std.proofs.lemmas.List.{at_drop_all, at_drop_more}
 use Rattle.std.specs.{Option.option_or, Prelude.max}
 use Rattle.dnssec_sets.specs.Sets.{set_of}

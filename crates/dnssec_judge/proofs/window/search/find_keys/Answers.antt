@@ -1,12 +1,12 @@
 -- No DNSKEY set fails an empty DS set; else the first of the rest fails, or is left out.
-use Rattle.std.proofs.Common.{◌≡◌, ◌∙◌, ◌+◌, ◌∷◌, ℕ, ap, arith, drop, get_or, List, Option, Some, None}
+use Rattle.std.proofs.Common.{◌≡◌, ◌∙◌, ◌+◌, ◌∷◌, ℕ, ap, arith, drop, List, Option, Some}
 use Rattle.std.proofs.Common.{sym, subst}
-use Rattle.std.proofs.lemmas.List.{at_drop_all, at_drop_more, drop_more}
+use Rattle.std.proofs.lemmas.List.{at_drop_all, drop_more}
 use Rattle.std.specs.{Option.option_map, Option.option_or, Prelude.max}
-use Rattle.dnssec_sets.specs.Sets.{set_of, sets_have_chain}
+use Rattle.dnssec_sets.specs.Sets.{set_of}
 use Rattle.dnssec_judge.specs.declared.window.search.Signed.{Signed}
 use Rattle.dnssec_judge.specs.Inner.Firsts.{AreSigned, firsts_of, signed_of}
-use Rattle.dnssec_judge.specs.Inner.Window.{broken, first_failing, first_keys}
+use Rattle.dnssec_judge.specs.Inner.Window.{broken, first_keys}
 use Rattle.dnssec_judge.proofs.OneByOne.Pairs.{no-keys}
 use Rattle.dnssec_judge.proofs.window.search.find_keys.Goals as goal
 
@@ -45,8 +45,7 @@ loop-keys-preserved c signed =
     let same = drop_more ks i k c.loop-keys-test.true
     ∙ ap (λ (g : Signed). g ∷ drop (i + 1) ks) (sym c.keys-item.is) in
     let are = subst (λ (xs : List Signed). AreSigned zone xs) same so.0 in
-    let fails = sym (c.failing_zone.ensures (sym c.is_empty.ensures ∙ c.if-is_empty.false) are.0) ∙ c.in_default.is in
-    (
+    let fails = sym (c.failing_zone.ensures (sym c.is_empty.ensures ∙ c.if-is_empty.false) are.0) ∙ c.in_default.is in (
       are.1,
       sym (ap search same
           ∙ ap (λ (o : Option ℕ). option_or

@@ -1,5 +1,5 @@
 -- The first of the rest fails, or is left out.
-use Rattle.std.proofs.Common.{◌≡◌, ◌∙◌, ◌+◌, ◌∷◌, ℕ, ap, arith, drop, get_or, List, Option, Some, None}
+use Rattle.std.proofs.Common.{◌≡◌, ◌∙◌, ◌+◌, ◌∷◌, ℕ, ap, arith, drop, List, Some, None}
 use Rattle.std.proofs.Common.{sym}
 use Rattle.std.proofs.lemmas.List.{at_drop_all, at_drop_more}
 use Rattle.std.specs.{Option.option_or, Prelude.if◌then◌else◌, Prelude.max}

@@ -1,9 +1,9 @@
 -- If the set is another, its bits are those of the lists.
-use Rattle.std.proofs.Common.{◌≡◌, ◌∙◌, ap, map, List, ℕ, subst, sym}
+use Rattle.std.proofs.Common.{◌∙◌, ap, map, List, ℕ, subst, sym}
 use Rattle.std.specs.{List.list_any, Prelude.nat_eq, Prelude.not}
 use Rattle.dnssec_run.{proofs.Since.same-set, specs.Published.id_of}
 use Rattle.dnssec_sets.proofs.Means.{bits-mean}
-use Rattle.dnssec_sets.specs.{Bits.words_of, Numbers.MeansSet, Sets.Numbered, Sets.set_of}
+use Rattle.dnssec_sets.specs.{Bits.words_of, Numbers.MeansSet, Sets.Numbered}
 use Rattle.dnssec_judge.proofs.window.last.Last.read.Goals as goal
 
 pub returns-then-not-branch-clause-news : goal.returns-then-not-branch-clause-news

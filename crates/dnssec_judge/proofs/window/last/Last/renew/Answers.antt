@@ -1,5 +1,5 @@
 -- Keys and signers, one after the other.
-use Rattle.std.proofs.Common.{◌∙◌, ap, map, sym}
+use Rattle.std.proofs.Common.{◌∙◌, ap, map}
 use Rattle.std.specs.Prelude.{◌&&◌, not}
 use Rattle.dnssec_run.specs.{Origins.same_ids, Published.id_of}
 use Rattle.dnssec_sets.proofs.Table.{stand-on}

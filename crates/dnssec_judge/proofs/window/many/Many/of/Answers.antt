@@ -1,8 +1,7 @@
 -- One set more.
-use Rattle.std.proofs.Common.{◌≡◌, ◌∙◌, arith, get_or, inl, inr, sym, subst}
+use Rattle.std.proofs.Common.{◌≡◌, ◌∙◌, arith, get_or, inl, inr, subst}
 use Rattle.std.proofs.lemmas.Bool.{cases_lt}
 use Rattle.std.proofs.lemmas.Option.{get_or_from_slice_get, slice_get_within}
-use Rattle.dnssec_sets.specs.declared.held.OpenSet.{OpenSet}
 use Rattle.dnssec_judge.specs.Inner.Window.{IsIn}
 use Rattle.dnssec_judge.proofs.window.many.Many.of.Goals as goal
 
