@@ -9,7 +9,8 @@ use Rattle.dnssec_base.specs.Inner.{Pieces.IsPiece, Pieces.IsBadPiece, DraftName
 use Rattle.dnssec_base.specs.declared.name.error.NameError.TheVariants.{EmptyLabel, LongLabel}
 use Rattle.dnssec_base.specs.declared.name.error.NameError.TheVariants.{LongName, BadEscape}
 use Rattle.dnssec_base.specs.declared.name.error.NameError.TheVariants.{BadByte}
-use Rattle.dnssec_base.specs.declared.name.{piece.Piece.TheVariants.Byte, error.NameError.NameError}
+use Rattle.dnssec_base.specs.declared.name.piece.NamePiece.TheVariants.{Byte}
+use Rattle.dnssec_base.specs.declared.name.error.NameError.{NameError}
 use Rattle.dnssec_base.proofs.Symbols.{begins}
 use Rattle.dnssec_base.proofs.Places.{Spot, spot, Step, by_symbol, by_dot, step_at}
 use Rattle.dnssec_base.proofs.Faults.{FaultsAhead, faults_start, faults_step, symbol_no_fault}

@@ -7,7 +7,7 @@ use Rattle.std.specs.Option.{option_map_or}
 use Rattle.dnssec_base.specs.NameText.{IsSymbol, plain, escaped, decimal, dot, backslash}
 use Rattle.dnssec_base.specs.NameText.{decimal_of, IsDigit, IsVisible, BeginsWithSymbol, is_visible}
 use Rattle.dnssec_base.specs.Inner.Pieces.{IsDecimal, IsEscape, IsPiece}
-use Rattle.dnssec_base.specs.declared.name.piece.Piece.TheVariants.{Byte}
+use Rattle.dnssec_base.specs.declared.name.piece.NamePiece.TheVariants.{Byte}
 
 -- ---- the symbol at the front of a text is computed
 

@@ -4,8 +4,8 @@ use Rattle.dnssec_base.specs.NameText.{IsSymbol, IsDigit, IsVisible, BeginsWith}
 use Rattle.dnssec_base.specs.NameText.{BeginsWithSymbol, decimal_of, dot, backslash}
 use Rattle.dnssec_base.specs.declared.name.error.NameError.{NameError}
 use Rattle.dnssec_base.specs.declared.name.error.NameError.TheVariants.{BadByte, BadEscape}
-use Rattle.dnssec_base.specs.declared.name.piece.Piece.{Piece}
-use Rattle.dnssec_base.specs.declared.name.piece.Piece.TheVariants.{Dot, Byte}
+use Rattle.dnssec_base.specs.declared.name.piece.NamePiece.{NamePiece}
+use Rattle.dnssec_base.specs.declared.name.piece.NamePiece.TheVariants.{Dot, Byte}
 
 -- the text is three digits that write this byte, and then this rest
 pub record IsDecimal (byte : ℕ) (text after : List ℕ) : Type 0 where
@@ -26,7 +26,7 @@ pub record IsEscape (byte : ℕ) (text after : List ℕ) : Type 0 where
   pub text_is : text ≡ escape ++ after
 
 -- the text is a dot, or a symbol for this byte, and then this rest
-abbrev pub IsPiece : Piece → List ℕ → List ℕ → Type 0
+abbrev pub IsPiece : NamePiece → List ℕ → List ℕ → Type 0
 IsPiece Dot text after = text ≡ dot ∷ after
 IsPiece (Byte byte) text after = (symbol : List ℕ) × IsSymbol symbol byte × (text ≡ symbol ++ after)
 

@@ -6,7 +6,7 @@ ghost use Rattle.dnssec_base.specs.Inner.Pieces.{IsPiece, IsEscape, IsDecimal, I
 use super::NameError;
 
 /// What stands at one place of a name's text.
-pub enum Piece {
+pub enum NamePiece {
     /// An unescaped dot, which ends a label.
     Dot,
     /// A symbol, by the byte that it stands for.
@@ -15,17 +15,17 @@ pub enum Piece {
 
 /// The piece that begins with the byte `first`, and the text after it. `text` follows that byte.
 #[tactic(auto, using(crate::proofs::Symbols::plain_piece))]
-pub fn split_piece(first: u8, text: &[u8]) -> Result<(Piece, &[u8]), NameError>
+pub fn split_piece(first: u8, text: &[u8]) -> Result<(NamePiece, &[u8]), NameError>
     ensures ok { IfOk result (λ split. IsPiece split.0 (first ∷ text.now) split.1.now) }
     ensures err { IfErr result (λ error. IsBadPiece error (first ∷ text.now)) }
 {
     match first {
-        b'.' => Ok((Piece::Dot, text)),
+        b'.' => Ok((NamePiece::Dot, text)),
         b'\\' => {
             let (byte, text) = split_escape(text).ok_or(NameError::BadEscape)?;
-            Ok((Piece::Byte(byte), text))
+            Ok((NamePiece::Byte(byte), text))
         }
-        b'!'..=b'~' => Ok((Piece::Byte(first), text)),
+        b'!'..=b'~' => Ok((NamePiece::Byte(first), text)),
         _ => Err(NameError::BadByte),
     }
 }

@@ -5,7 +5,7 @@ ghost use Rattle.dnssec_base.specs.NameText.{StandsFirst, root_text};
 
 use super::NameError;
 use super::draft::Draft;
-use super::piece::{Piece, split_piece};
+use super::piece::{NamePiece, split_piece};
 
 /// Reads a text that is neither empty nor the root's, in one pass.
 #[tactic(auto, using(crate::proofs::Reading::reading))]
@@ -20,9 +20,9 @@ pub fn read(text: &[u8]) -> Result<Draft, NameError>
     'pieces: while let Some((&first, after)) = rest.split_first() {
         let (piece, after) = split_piece(first, after)?;
         match piece {
-            Piece::Dot if draft.label_len() == 0 => return Err(NameError::EmptyLabel),
-            Piece::Dot => draft.end_label(),
-            Piece::Byte(byte) => draft.push(byte)?,
+            NamePiece::Dot if draft.label_len() == 0 => return Err(NameError::EmptyLabel),
+            NamePiece::Dot => draft.end_label(),
+            NamePiece::Byte(byte) => draft.push(byte)?,
         }
         rest = after;
     }

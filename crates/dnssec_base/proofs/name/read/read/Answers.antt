@@ -2,17 +2,18 @@
 use Rattle.std.proofs.Common.{◌≡◌, List, sym, ap, subst, ◌∙◌, length, arith, ℕ}
 use Rattle.std.proofs.lemmas.{List.nil_from_length, Result.err_from_is_err_and}
 use Rattle.dnssec_base.specs.Inner.Pieces.{IsPiece}
-use Rattle.dnssec_base.specs.declared.name.piece.Piece.{Piece, TheVariants.Dot, TheVariants.Byte}
+use Rattle.dnssec_base.specs.declared.name.piece.NamePiece.{NamePiece}
+use Rattle.dnssec_base.specs.declared.name.piece.NamePiece.TheVariants.{Dot, Byte}
 use Rattle.dnssec_base.proofs.Reading.{reads_start, reads_dot, reads_byte, empty_label, over_limit}
 use Rattle.dnssec_base.proofs.Reading.{reads_end}
 use Rattle.dnssec_base.proofs.name.read.read.Goals as goal
 
 -- the piece at the front of the text, by what the code found it to be
-piece_is : (found piece : Piece) (rest text after : List ℕ) → found ≡ piece → rest ≡ text
+piece_is : (found piece : NamePiece) (rest text after : List ℕ) → found ≡ piece → rest ≡ text
     → IsPiece found text after
     → IsPiece piece rest after
 piece_is found piece rest text after e f is =
-    let P : Piece → Type 0 = λ p. IsPiece p rest after in
+    let P : NamePiece → Type 0 = λ p. IsPiece p rest after in
     let Q : List ℕ → Type 0 = λ t. IsPiece found t after in
     subst P e (subst Q (sym f) is)
 
