@@ -16,9 +16,9 @@ use Rattle.dnssec_key.specs.{RollTable.after_early_end, RollTable.old_at_start}
 use Rattle.dnssec_key.specs.{RollTable.new_at_start, declared.roll.RollType.RollType, Key.KeyParts}
 use Rattle.dnssec_key.specs.{Setters.Setting, Setters.set_by}
 use Rattle.dnssec_zone.specs.Lists.{nothing_listed, lists_after_report}
-use Rattle.dnssec_zone.specs.declared.rolls.Part.TheVariants.{Old, New}
-use Rattle.dnssec_zone.specs.{Inner.Entries.is_of_roll, declared.rolls.Entry.Entry, Keys.Keys}
-use Rattle.dnssec_zone.specs.Inner.Entries.{is_of}
+use Rattle.dnssec_zone.specs.declared.lists.Part.TheVariants.{Old, New}
+use Rattle.dnssec_zone.specs.Inner.Entries.{is_of, is_of_roll}
+use Rattle.dnssec_zone.specs.{declared.lists.ListedKey.ListedKey, Keys.Keys}
 use Rattle.dnssec_zone.specs.{Refusals.Answers, Refusals.add_refusal, Start.is_listed}
 use Rattle.dnssec_zone.proofs.Listing.Starts.{lists_of-reported, lists_of-taken_out}
 use Rattle.dnssec_zone.proofs.Tags.{kept_at, kept_set, kept_unmarked}
@@ -27,11 +27,11 @@ use Rattle.dnssec_keyset.proofs.{Allowed.came_in, Laws.no_add, Moves.kept_starte
 use Rattle.dnssec_keyset.proofs.{Sides.starts-clear}
 
 -- the entries agree with the keys, and mean these lists
-abbrev pub Listing : Keys → List Entry → Lists → Type 0
+abbrev pub Listing : Keys → List ListedKey → Lists → Type 0
 Listing keys es lists = EntriesAgree keys es × (lists_of keys es ≡ lists)
 
 -- what is listed for a roll is taken out
-taken_out : (roll : RollType) (keys : Keys) (es : List Entry) → EntriesAgree keys es
+taken_out : (roll : RollType) (keys : Keys) (es : List ListedKey) → EntriesAgree keys es
     → EntriesAgree keys (without_roll roll es)
 taken_out roll keys es agree = record {
   apart = agree.apart;
@@ -39,7 +39,7 @@ taken_out roll keys es agree = record {
 }
 
 -- a key is changed by hand, and isn't forgotten
-pub set-kept : {old new : Keys} {es : List Entry} → EntriesAgree old es → (r : List ℕ)
+pub set-kept : {old new : Keys} {es : List ListedKey} → EntriesAgree old es → (r : List ℕ)
     (setting : Setting) → ((q : List ℕ) → get new q
     ≡ option_map (λ k. if bytes_eq r q then set_by setting k else k) (get old q))
     → Listing new es (lists_of old es)
@@ -47,7 +47,7 @@ set-kept {old} {new} {es} agree r setting is =
     means-mapped (λ q k. if bytes_eq r q then set_by setting k else k)
     (λ q k. kept_at (set_by setting) (kept_set setting) (bytes_eq r q) k) old new is es agree
 
-module _ {old : Keys} {es : List Entry} (agree : EntriesAgree old es) (new : Keys) where
+module _ {old : Keys} {es : List ListedKey} (agree : EntriesAgree old es) (new : Keys) where
   -- a key comes in, or none does
   pub added : (r : List ℕ) (x : KeyParts) (o : Result (Unit {0}) Error)
       → Answers (add_refusal old r x.key_tag) o
@@ -133,8 +133,8 @@ module _ {old : Keys} {es : List Entry} (agree : EntriesAgree old es) (new : Key
         grind (arith, is q, listed)
 
 -- the keys are marked by a start, the old ones first
-module _ (set : KeySetParts) {es : List Entry} (agree : EntriesAgree set.keys es) (mid new : Keys)
-    (roll : RollType) (olds news : List (List ℕ)) (now : ℕ)
+module _ (set : KeySetParts) {es : List ListedKey} (agree : EntriesAgree set.keys es)
+    (mid new : Keys) (roll : RollType) (olds news : List (List ℕ)) (now : ℕ)
     (one : (q : List ℕ) → get mid q
     ≡ option_map (λ k. if is_listed olds q then old_at_start k else k) (get set.keys q))
     (two : (q : List ℕ) → get new q

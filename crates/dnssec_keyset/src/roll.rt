@@ -8,7 +8,7 @@ ghost use Rattle.dnssec_keyset.specs.Step.{reply_list, start_refusal};
 
 use crate::set::KeySet;
 use dnssec_key::{Action, Error, Half, RollState, RollType, UnixTime};
-use dnssec_zone::{Mark, may_go_over};
+use dnssec_zone::{KeyMark, may_go_over};
 use std::alloc::Global;
 
 impl KeySet {
@@ -55,8 +55,8 @@ impl KeySet {
         // The last request for memory comes before the first write: nothing after it can fail.
         self.rolls.put_in(rolltype, RollState::Propagation1)?;
         self.lists = lists;
-        self.keys.mark(old, &Mark::AsOld);
-        self.keys.mark(new, &Mark::AsNew(rolltype, *now));
+        self.keys.mark(old, &KeyMark::AsOld);
+        self.keys.mark(new, &KeyMark::AsNew(rolltype, *now));
         Ok(actions)
     }
 

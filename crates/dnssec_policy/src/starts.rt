@@ -5,7 +5,7 @@ ghost use Rattle.std.specs.List.{list_all, list_any};
 ghost use Rattle.dnssec_key.specs.declared.roll.RollType.{RollType as AnyRoll};
 ghost use Rattle.dnssec_key.specs.declared.roll.RollType.TheVariants.{AlgorithmRoll};
 ghost use Rattle.dnssec_zone.specs.Keys.{Keys, some_key};
-ghost use Rattle.dnssec_zone.specs.Start.{are_apart, conflict, has_conflict, texts, together};
+ghost use Rattle.dnssec_zone.specs.Start.{conflict, has_conflict, texts};
 ghost use Rattle.dnssec_keyset.specs.declared.wait.WaitEnd.{WaitEnd as AnyEnd};
 ghost use Rattle.dnssec_policy.specs.Code.{AreKeysOf, entry_of, news_of, todo_of, view_of};
 ghost use Rattle.dnssec_policy.specs.Keys.{earlier, first_over, is_unwanted, new_keys};
@@ -18,9 +18,8 @@ use crate::keys::{Pick, is_unwanted, references, roles_of, serves};
 use crate::policy::{KeyRole, Policy, Scheme, Term};
 use crate::state::State;
 use crate::todo::Next;
-use dnssec_key::{Side, side_of};
 use dnssec_keyset::{Key, RollType, UnixTime};
-use dnssec_zone::all_rolls;
+use dnssec_zone::{all_rolls, go_together};
 use std::alloc::{AllocError, Global};
 use std::time::Duration;
 
@@ -39,23 +38,6 @@ fn has_conflict(state: &State<'_>, roll: RollType) -> bool
     ensures { result ≡ has_conflict roll state.now.keyset.now.rolls }
 {
     all_rolls().iter().any(|other| is_in_progress(state, *other) && !go_together(roll, *other))
-}
-
-/// Whether two rolls go together.
-fn go_together(roll: RollType, other: RollType) -> bool
-    ensures { result ≡ together roll other }
-{
-    are_apart(side_of(roll), side_of(other))
-}
-
-/// Whether one side has only KSKs, and the other only ZSKs.
-fn are_apart(one: Side, other: Side) -> bool
-    ensures { result ≡ are_apart one other }
-{
-    matches!(
-        (one, other),
-        (Side::KskSide, Side::ZskSide) | (Side::ZskSide, Side::KskSide)
-    )
 }
 
 // ---- new keys

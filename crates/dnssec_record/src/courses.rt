@@ -4,19 +4,10 @@ ghost use Rattle.dnssec_record.specs.Courses.{as_listed, ended_after, is_another
 ghost use Rattle.dnssec_record.specs.Courses.{listed_after, listings, turn_after, turn_of};
 ghost use Rattle.dnssec_zone.specs.Start.{texts, together};
 
-use dnssec_key::{Side, side_of};
 use dnssec_keyset::RollType;
 use dnssec_run::{Call, Reply};
+use dnssec_zone::{Part, go_together};
 use std::alloc::{AllocError, Global};
-
-/// The part that a key plays in a roll.
-#[derive(Clone, Copy, Debug, PartialEq, Eq)]
-pub enum Part {
-    /// It goes out.
-    Old,
-    /// It comes in.
-    New,
-}
 
 /// A key that the start of a roll listed, while the roll is in progress.
 #[derive(Debug, Drop, PartialEq)]
@@ -191,7 +182,7 @@ impl Courses {
         ensures ended { self.new.ended.items ≡ filter (together roll) self.old.ended.items }
         ensures listed { self.new.listed ≡ self.old.listed }
     {
-        self.ended.retain(|ended| goes_beside(roll, *ended));
+        self.ended.retain(|ended| go_together(roll, *ended));
     }
 
     /// The keys of rolls in progress.
@@ -207,14 +198,4 @@ impl Courses {
     {
         &self.ended
     }
-}
-
-/// Whether two rolls may be in progress together: one changes only KSKs, the other only ZSKs.
-fn goes_beside(roll: RollType, other: RollType) -> bool
-    ensures { result ≡ together roll other }
-{
-    matches!(
-        (side_of(roll), side_of(other)),
-        (Side::KskSide, Side::ZskSide) | (Side::ZskSide, Side::KskSide)
-    )
 }

@@ -10,7 +10,7 @@ mod script;
 mod session;
 
 pub use answers::action_name;
-pub use courses::{Listed, Part};
+pub use courses::Listed;
 pub use device::{DeviceFault, Sink, Source, Std};
 pub use dnssec_judge::{
     Broken, Judge, audit, audit_window, plain_runs_pass, records_have_one_verdict, runs_stay_safe,
@@ -20,6 +20,7 @@ pub use dnssec_run::{
     each_chain_is_one, run, starts_suffice, whole_runs_stay_safe,
 };
 pub use dnssec_script::{Fields, all_lines};
+pub use dnssec_zone::Part;
 pub use fault::{CallFault, ScriptFault};
 pub use script::{record_script, run_script};
 pub use session::{Session, Told, Tried};

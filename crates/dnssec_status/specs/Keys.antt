@@ -1,5 +1,5 @@
 -- The keys of a status.
-use Rattle.std.specs.Prelude.{ℕ, ◌/◌, Bool, true, false, ◌&&◌, List, ◌++◌, codes, decimal}
+use Rattle.std.specs.Prelude.{ℕ, ◌/◌, Bool, ◌&&◌, List, ◌++◌, codes, decimal}
 use Rattle.std.specs.Prelude.{if◌then◌else◌}
 use Rattle.std.specs.List.{filter, list_any}
 use Rattle.std.specs.Str.{bytes_eq}
@@ -11,11 +11,12 @@ use Rattle.dnssec_key.specs.Key.{KeyParts, all_states}
 use Rattle.dnssec_key.specs.Sides.{side_of}
 use Rattle.dnssec_key.specs.State.{Flags, is_active_ksk, is_active_zsk, is_fresh, is_future}
 use Rattle.dnssec_key.specs.State.{is_leaving, is_stale}
+use Rattle.dnssec_zone.specs.Lists.{same_part}
 use Rattle.dnssec_zone.specs.Rolls.{all_rolls, same_roll}
 use Rattle.dnssec_zone.specs.Start.{lists_kind}
 use Rattle.dnssec_record.specs.Courses.{Listed}
-use Rattle.dnssec_record.specs.declared.courses.Part.{Part}
-use Rattle.dnssec_record.specs.declared.courses.Part.TheVariants.{Old, New}
+use Rattle.dnssec_zone.specs.declared.lists.Part.{Part}
+use Rattle.dnssec_zone.specs.declared.lists.Part.TheVariants.{Old, New}
 use Rattle.dnssec_status.specs.Json.{array_json, flag_json, option_json, text_json}
 use Rattle.dnssec_status.specs.Names.{roll_json}
 
@@ -64,13 +65,6 @@ kind_json (Csk s t) =
 kind_json (Include s) = codes "\"public\",\"roles\":[" ++ public_json s ++ codes "]"
 
 -- ---- the rolls of a key
-
--- both are the same part
-abbrev pub same_part : Part → Part → Bool
-same_part Old Old = true
-same_part New New = true
-same_part Old New = false
-same_part New Old = false
 
 -- the roll's start listed the key at a reference as this
 abbrev pub has_listed : RollType → Part → List ℕ → Listed → Bool

@@ -4,13 +4,13 @@ ghost use Rattle.std.specs.List.{list_any};
 ghost use denote.Bor.{now};
 ghost use Rattle.dnssec_key.specs.declared.roll.RollType.{RollType as AnyRoll};
 ghost use Rattle.dnssec_record.specs.Courses.{as_listed};
-ghost use Rattle.dnssec_record.specs.declared.courses.Part.{Part as AnyPart};
+ghost use Rattle.dnssec_zone.specs.declared.lists.Part.{Part as AnyPart};
 ghost use Rattle.dnssec_status.specs.Inner.Entries.{lists, roll_if_listed};
-ghost use Rattle.dnssec_status.specs.Keys.{has_listed, rolls_of, same_part};
+ghost use Rattle.dnssec_status.specs.Keys.{has_listed, rolls_of};
 
 use dnssec_keyset::RollType;
 use dnssec_record::{Listed, Part};
-use dnssec_zone::all_rolls;
+use dnssec_zone::{all_rolls, same_part};
 use std::alloc::{AllocError, Global};
 use std::marker::Model;
 
@@ -108,12 +108,7 @@ fn note(
 fn is_listed(listed: &[&Listed], roll: RollType, part: Part, reference: &String) -> bool
     ensures { result ≡ list_any (lists roll part (string_bytes reference.now)) listed.now }
 {
-    for key in listed {
-        if lists(key, roll, part, reference) {
-            return true;
-        }
-    }
-    false
+    listed.iter().any(|key| lists(key, roll, part, reference))
 }
 
 /// Whether this is a listing of the key for the roll and as this part.
@@ -121,14 +116,4 @@ fn lists(listed: &Listed, roll: RollType, part: Part, reference: &String) -> boo
     ensures { result ≡ has_listed roll part (string_bytes reference.now) (as_listed listed.now) }
 {
     roll == listed.roll && same_part(part, listed.part) && *reference == listed.reference
-}
-
-/// Whether the two parts are one.
-fn same_part(part: Part, other: Part) -> bool
-    ensures { result ≡ same_part part other }
-{
-    match (part, other) {
-        (Part::Old, Part::Old) | (Part::New, Part::New) => true,
-        (Part::Old, Part::New) | (Part::New, Part::Old) => false,
-    }
 }

@@ -10,7 +10,8 @@ use Rattle.std.specs.{Prelude.◌||◌, Prelude.Option, Prelude.if◌then◌else
 use Rattle.std.specs.{Prelude.◌&&◌, Prelude.not, FinMap.get, List.list_any, Option.option_or}
 use Rattle.std.specs.{Option.option_map, Option.option_map_or, Str.bytes_eq}
 use Rattle.std.specs.{Cmp.Lexicographic.nat_list_eq_equiv, Cmp.Lexicographic.bytes_decides}
-use Rattle.dnssec_zone.specs.{declared.keys.Mark.Mark, Inner.Mark.marked, Keys.Keys, Keys.TagsApart}
+use Rattle.dnssec_zone.specs.{declared.keys.KeyMark.KeyMark, Inner.KeyMark.marked}
+use Rattle.dnssec_zone.specs.{Keys.Keys, Keys.TagsApart}
 use Rattle.dnssec_zone.specs.{Inner.NewKeys.freshness_fault, Inner.Tags.HasListed}
 use Rattle.dnssec_zone.proofs.Quantified.{list_any-map}
 use Rattle.dnssec_key.specs.{declared.roll.RollType.RollType, Key.KeyParts, RollTable.column}
@@ -41,7 +42,7 @@ pub ruleset lists = (is_listed-texts, new_fault-at)
 
 -- ---- a mark that is made twice
 
-pub marked-twice : (mark : Mark) (k : KeyParts) → marked mark (marked mark k) ≡ marked mark k
+pub marked-twice : (mark : KeyMark) (k : KeyParts) → marked mark (marked mark k) ≡ marked mark k
 unfolding column
 marked-twice mark k = grind arith
 

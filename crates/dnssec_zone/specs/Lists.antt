@@ -1,5 +1,5 @@
 -- What starts have listed. It is kept for rolls that may still be ended early.
-use Rattle.std.specs.Prelude.{ℕ, List, [], if◌then◌else◌, filter, not, Bool, false}
+use Rattle.std.specs.Prelude.{ℕ, List, [], if◌then◌else◌, filter, not, Bool, false, true}
 use Rattle.std.specs.Str.{bytes_eq}
 use Rattle.std.specs.FinMap.{get}
 use Rattle.std.specs.Option.{option_map_or}
@@ -7,8 +7,17 @@ use Rattle.dnssec_key.specs.declared.roll.RollType.{RollType}
 use Rattle.dnssec_key.specs.State.{is_kept}
 use Rattle.dnssec_key.specs.Key.{all_states}
 use Rattle.dnssec_key.specs.RollTable.{Half, First, Second}
+use Rattle.dnssec_zone.specs.declared.lists.Part.{Part}
+use Rattle.dnssec_zone.specs.declared.lists.Part.TheVariants.{Old, New}
 use Rattle.dnssec_zone.specs.Rolls.{same_roll}
 use Rattle.dnssec_zone.specs.Keys.{Keys}
+
+-- both are the same part
+abbrev pub same_part : Part → Part → Bool
+same_part Old Old = true
+same_part Old New = false
+same_part New Old = false
+same_part New New = true
 
 -- what is kept of a start until its first report
 pub record Listed : Type 0 where

@@ -12,13 +12,13 @@ ghost use Rattle.dnssec_key.specs.Sides.{wait_moves_kept};
 ghost use Rattle.dnssec_key.specs.Inner.TagIndex.{has};
 ghost use Rattle.dnssec_zone.specs.Inner.Counts.{CountsAgree, count_after, count_of, counts_after};
 ghost use Rattle.dnssec_zone.specs.Inner.Counts.{moves_counts, no_counts, with_key, without_key};
-ghost use Rattle.dnssec_zone.specs.Inner.Mark.{marked};
+ghost use Rattle.dnssec_zone.specs.Inner.KeyMark.{marked};
 ghost use Rattle.dnssec_zone.specs.Inner.Reported.{IsKnown, known_after};
 ghost use Rattle.dnssec_zone.specs.Inner.Tags.{TagsAgree};
 ghost use Rattle.dnssec_zone.specs.Keys.{has_tag, keys_in_map};
 ghost use Rattle.dnssec_zone.specs.Refusals.{Answers, reference_refusal};
 
-use crate::keys::Mark;
+use crate::keys::KeyMark;
 use crate::wait_end::{ReportedWait, over_from, seen};
 use dnssec_key::{
     Error, Half, Key, KeyType, RollType, Setting, TagIndex, Want, apply_setting, is_kept_at_parent,
@@ -239,7 +239,7 @@ impl Derived {
     }
 
     /// Marks a key as a start does.
-    pub(crate) fn mark(&mut self, key: &mut Key, mark: &Mark)
+    pub(crate) fn mark(&mut self, key: &mut Key, mark: &KeyMark)
         ensures key { key.new ≡ marked mark.now key.old }
         ensures tags { self.new.tags ≡ self.old.tags }
         ensures counts { self.new.counts ≡ with_key (marked mark.now key.old).keytype
@@ -249,8 +249,8 @@ impl Derived {
         self.reported = None;
         self.counts.count(&key.keytype(), Counting::OneLess);
         match *mark {
-            Mark::AsOld => mark_old(key),
-            Mark::AsNew(roll, now) => mark_new(key, roll, now),
+            KeyMark::AsOld => mark_old(key),
+            KeyMark::AsNew(roll, now) => mark_new(key, roll, now),
         }
         self.counts.count(&key.keytype(), Counting::OneMore);
     }

@@ -8,7 +8,7 @@ ghost use Rattle.dnssec_base.specs.declared.error.Error.TheVariants.{OutOfMemory
 ghost use Rattle.dnssec_key.specs.RollTable.{which, after_report, after_wait, after_early_end};
 ghost use Rattle.dnssec_key.specs.Setters.{setting_of, set_by};
 ghost use Rattle.dnssec_key.specs.Inner.Bits.{is_set};
-ghost use Rattle.dnssec_zone.specs.Inner.{Counts.count_in, Counts.passes, Mark.marked};
+ghost use Rattle.dnssec_zone.specs.Inner.{Counts.count_in, Counts.passes, KeyMark.marked};
 ghost use Rattle.dnssec_zone.specs.Keys.{TagsApart, keys_in_map, has_tag};
 ghost use Rattle.dnssec_zone.specs.Start.{is_listed, serves_as_kept, texts};
 ghost use Rattle.dnssec_zone.specs.Refusals.{Answers, AnswersExactly, add_refusal};
@@ -49,7 +49,7 @@ impl Model for Keys {
 
 /// What a start marks the keys as that it lists: as old, or as new by a roll from a moment on.
 #[derive(Clone, Copy)]
-pub enum Mark {
+pub enum KeyMark {
     AsOld,
     AsNew(RollType, UnixTime),
 }
@@ -223,7 +223,7 @@ impl Keys {
     }
 
     /// Marks the keys that a start lists.
-    pub fn mark(&mut self, references: &[&str], mark: &Mark)
+    pub fn mark(&mut self, references: &[&str], mark: &KeyMark)
         ensures { (q : List ℕ) → map.get self.new q
             ≡ option_map (λ k. if is_listed (texts references.now) q then marked mark.now k else k)
             (map.get self.old q) }

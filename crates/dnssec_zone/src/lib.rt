@@ -8,9 +8,11 @@
 mod check;
 mod derived;
 mod keys;
+mod lists;
 mod rolls;
 mod wait_end;
 
 pub use check::{NewKeys, may_go_over};
-pub use keys::{Keys, Mark};
-pub use rolls::{Lists, Rolls, all_rolls};
+pub use keys::{Keys, KeyMark};
+pub use lists::{Lists, Part, same_part};
+pub use rolls::{Rolls, all_rolls, go_together};

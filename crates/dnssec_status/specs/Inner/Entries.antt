@@ -7,7 +7,7 @@ use Rattle.dnssec_key.specs.Key.{KeyParts}
 use Rattle.dnssec_key.specs.declared.roll.RollType.{RollType}
 use Rattle.dnssec_record.specs.Courses.{Listed, as_listed}
 use Rattle.dnssec_record.specs.declared.courses.Listed as code
-use Rattle.dnssec_record.specs.declared.courses.Part.{Part}
+use Rattle.dnssec_zone.specs.declared.lists.Part.{Part}
 use Rattle.dnssec_status.specs.Keys.{has_listed, key_json}
 
 -- the bytes of its reference, with its key

@@ -13,9 +13,9 @@ use Rattle.std.specs.{Option.option_map, Str.bytes_eq, Ordering.nat_cmp, FinMap.
 use Rattle.std.specs.List.{list_any}
 use Rattle.dnssec_key.specs.{declared.roll.RollType.RollType, Key.KeyParts}
 use Rattle.dnssec_zone.specs.Inner.Entries.{IsThere, AreThere, EntriesAgree}
-use Rattle.dnssec_zone.specs.{Keys.Keys, Keys.TagsApart, Keys.has_tag, declared.rolls.Entry.Entry}
-use Rattle.dnssec_zone.specs.{declared.rolls.Part.Part, declared.rolls.Part.TheVariants.Old}
-use Rattle.dnssec_zone.specs.{declared.rolls.Part.TheVariants.New, Lists.without, Lists.others}
+use Rattle.dnssec_zone.specs.{Keys.Keys, Keys.TagsApart, Keys.has_tag, Lists.without, Lists.others}
+use Rattle.dnssec_zone.specs.declared.lists.{ListedKey.ListedKey, Part.Part, Part.TheVariants.Old}
+use Rattle.dnssec_zone.specs.declared.lists.Part.TheVariants.{New}
 use Rattle.dnssec_zone.specs.{Start.is_listed, Start.texts}
 use Rattle.dnssec_zone.proofs.{Tags.there-removed, Quantified.here-found, Quantified.later-found}
 use Rattle.dnssec_zone.proofs.{Quantified.same_key, Quantified.second, Marks.texts-more}
@@ -36,8 +36,8 @@ entries_of-at keys roll part rs i d h = ap (entries_of keys roll part) (texts-mo
     ∙ entries_of-more keys roll part (texts (take i rs)) (get_or rs i d).now
 
 -- the references that entries mean
-abbrev pub names : Keys → List Entry → List (List ℕ)
-names keys = map (λ (e : Entry). reference_of keys e.key_tag)
+abbrev pub names : Keys → List ListedKey → List (List ℕ)
+names keys = map (λ (e : ListedKey). reference_of keys e.key_tag)
 
 -- ---- the reference of a tag
 
@@ -82,7 +82,7 @@ module _ (keys : Keys) (differ : TagsApart keys) (q : List ℕ) (k : KeyParts)
       grind (arith, bytes_decides, nat_tests, is, differ there.0 q there.1 k there.2 found)
 
   -- an entry that passes has the key's tag if and only if its reference is listed
-  pub has_entry-is : (p : Entry → Bool) (es : List Entry) → AreThere keys es
+  pub has_entry-is : (p : ListedKey → Bool) (es : List ListedKey) → AreThere keys es
       → list_any (λ e. p e && nat_eq e.key_tag k.key_tag) es
       ≡ is_listed (names keys (filter p es)) q
   has_entry-is p [] there = refl
@@ -90,7 +90,7 @@ module _ (keys : Keys) (differ : TagsApart keys) (q : List ℕ) (k : KeyParts)
       grind (arith, same_tag-is e.key_tag there.0, has_entry-is p es there.1)
 
   -- what is left without its tag are the other references
-  pub others-is : (p : Entry → Bool) (es : List Entry) → AreThere keys es
+  pub others-is : (p : ListedKey → Bool) (es : List ListedKey) → AreThere keys es
       → names keys (filter p (without_tag k.key_tag es)) ≡ others q (names keys (filter p es))
   others-is p [] there = refl
   others-is p (e ∷ es) there = grind (arith, same_tag-is e.key_tag there.0, others-is p es there.1)
@@ -98,17 +98,17 @@ module _ (keys : Keys) (differ : TagsApart keys) (q : List ℕ) (k : KeyParts)
 -- ---- the lists that are meant
 
 -- a list is cut, and each entry is of a key, of the same set or another
-there-cut : (old new : Keys) (p : Entry → Bool)
-    → ((e : Entry) → p e ≡ true → IsThere old e.key_tag → IsThere new e.key_tag)
-    → (es : List Entry) → AreThere old es → AreThere new (filter p es)
+there-cut : (old new : Keys) (p : ListedKey → Bool)
+    → ((e : ListedKey) → p e ≡ true → IsThere old e.key_tag → IsThere new e.key_tag)
+    → (es : List ListedKey) → AreThere old es → AreThere new (filter p es)
 there-cut old new p stays [] there = tt
 there-cut old new p stays (e ∷ es) there = grind (arith, stays e, there-cut old new p stays es)
 
-pub there-filter : (keys : Keys) (p : Entry → Bool) (es : List Entry) → AreThere keys es
+pub there-filter : (keys : Keys) (p : ListedKey → Bool) (es : List ListedKey) → AreThere keys es
     → AreThere keys (filter p es)
 there-filter keys p = there-cut keys keys p (λ e t there. there)
 
-pub there-append : (keys : Keys) (es fs : List Entry) → AreThere keys es → AreThere keys fs
+pub there-append : (keys : Keys) (es fs : List ListedKey) → AreThere keys es → AreThere keys fs
     → AreThere keys (es ++ fs)
 there-append keys [] fs one two = two
 there-append keys (e ∷ es) fs one two = (one.0, there-append keys es fs one.1 two)
@@ -117,7 +117,7 @@ there-append keys (e ∷ es) fs one two = (one.0, there-append keys es fs one.1 
 module _ (some all : Keys) (differ : TagsApart some) (apart : TagsApart all)
     (within : (tag : ℕ) → (o : IsThere some tag)
     → (l : KeyParts) × (get all o.0 ≡ Some l) × (l.key_tag ≡ tag)) where
-  there-within : (es : List Entry) → AreThere some es → AreThere all es
+  there-within : (es : List ListedKey) → AreThere some es → AreThere all es
   there-within [] there = tt
   there-within (e ∷ es) there = let l = within e.key_tag there.0 in
       ((there.0.0, l.0, l.1, l.2), there-within es there.1)
@@ -128,23 +128,23 @@ module _ (some all : Keys) (differ : TagsApart some) (apart : TagsApart all)
       ap (reference_of all) (sym l.2) ∙ reference_of-is all apart o.0 l.0 l.1
       ∙ sym (ap (reference_of some) (sym o.3) ∙ reference_of-is some differ o.0 o.1 o.2)
 
-  lists_of-within : (es : List Entry) → AreThere some es → lists_of all es ≡ lists_of some es
+  lists_of-within : (es : List ListedKey) → AreThere some es → lists_of all es ≡ lists_of some es
   lists_of-within es there = λ i roll. record {
     olds = same (is_of roll Old) es there i;
     news = same (is_of roll New) es there i;
   }
     where
-      same : (p : Entry → Bool) (es : List Entry) → AreThere some es
+      same : (p : ListedKey → Bool) (es : List ListedKey) → AreThere some es
           → names all (filter p es) ≡ names some (filter p es)
       same p [] there = refl
       same p (e ∷ es) there =
           grind (arith, reference_of-within e.key_tag there.0, same p es there.1)
 
 -- what is kept afterwards, and means the same
-abbrev pub MeansTheSame : Keys → Keys → List Entry → Type 0
+abbrev pub MeansTheSame : Keys → Keys → List ListedKey → Type 0
 MeansTheSame old new es = EntriesAgree new es × (lists_of new es ≡ lists_of old es)
 
-means-within : (old new : Keys) (es : List Entry) → EntriesAgree old es → TagsApart new
+means-within : (old new : Keys) (es : List ListedKey) → EntriesAgree old es → TagsApart new
     → ((tag : ℕ) → (o : IsThere old tag) → (l : KeyParts) × (get new o.0 ≡ Some l)
     × (l.key_tag ≡ tag)) → MeansTheSame old new es
 means-within old new es agree apart within = (
@@ -155,7 +155,7 @@ means-within old new es agree apart within = (
 -- keys are changed, and keep their tags
 pub means-mapped : (f : List ℕ → KeyParts → KeyParts) → ((q : List ℕ) (k : KeyParts)
     → (f q k).key_tag ≡ k.key_tag) → (old new : Keys)
-    → ((q : List ℕ) → get new q ≡ option_map (f q) (get old q)) → (es : List Entry)
+    → ((q : List ℕ) → get new q ≡ option_map (f q) (get old q)) → (es : List ListedKey)
     → EntriesAgree old es → MeansTheSame old new es
 means-mapped f keeps old new is es agree = means-within old new es agree
     (apart-mapped old new f keeps is agree.apart) (there-mapped old new f keeps is)
@@ -164,13 +164,13 @@ means-mapped f keeps old new is es agree = means-within old new es agree
 pub means-added : (old new : Keys) (r : List ℕ) (x : KeyParts) → get old r ≡ None
     → has_tag x.key_tag old ≡ false
     → ((q : List ℕ) → get new q ≡ (if bytes_eq r q then Some x else get old q))
-    → (es : List Entry) → EntriesAgree old es → MeansTheSame old new es
+    → (es : List ListedKey) → EntriesAgree old es → MeansTheSame old new es
 means-added old new r x absent free is es agree = means-within old new es agree
     (apart-added old new r x absent is free agree.apart)
     (λ tag o. (o.1, grind (arith, bytes_decides, absent, is o.0, o.2), o.3))
 
 -- the key at r is forgotten
-module _ (keys : Keys) (es : List Entry) (agree : EntriesAgree keys es) (r : List ℕ)
+module _ (keys : Keys) (es : List ListedKey) (agree : EntriesAgree keys es) (r : List ℕ)
     (x : KeyParts) (found : get keys r ≡ Some x) where
   lists_of-forgotten : lists_of keys (without_tag x.key_tag es) ≡ without r (lists_of keys es)
   lists_of-forgotten = λ i roll. record {
@@ -204,7 +204,7 @@ module _ (keys : Keys) (es : List Entry) (agree : EntriesAgree keys es) (r : Lis
             ∙ lists_of-forgotten,
       )
     where
-      stays : (e : Entry) → not (nat_eq e.key_tag x.key_tag) ≡ true → IsThere keys e.key_tag
+      stays : (e : ListedKey) → not (nat_eq e.key_tag x.key_tag) ≡ true → IsThere keys e.key_tag
           → IsThere new e.key_tag
       stays e other o =
           (o.0, o.1, there-removed keys new r is x found _ (grind (arith, nat_tests)) o, o.3)

@@ -8,13 +8,13 @@ use Rattle.std.specs.FinMap.{get}
 use Rattle.dnssec_key.specs.RollTable.{Half, First, Second}
 use Rattle.dnssec_key.specs.{declared.roll.RollType.RollType, State.is_kept, Key.KeyParts}
 use Rattle.dnssec_key.specs.Key.{all_states}
-use Rattle.dnssec_zone.specs.Inner.Entries.{is_of, is_of_roll, same_part, without_roll, entry_of}
+use Rattle.dnssec_zone.specs.Inner.Entries.{is_of, is_of_roll, without_roll, entry_of}
 use Rattle.dnssec_zone.specs.Inner.Entries.{entries_of, entries_at_start, entries_after_report}
 use Rattle.dnssec_zone.specs.Inner.Entries.{references_of, lists_of, AreThere}
 use Rattle.dnssec_zone.specs.Lists.{Listed, with_listed, others, nothing_listed, has_kept_key}
-use Rattle.dnssec_zone.specs.Lists.{listed_at_start, lists_after_report}
-use Rattle.dnssec_zone.specs.declared.rolls.{Entry.Entry, Part.Part, Part.TheVariants.Old}
-use Rattle.dnssec_zone.specs.{declared.rolls.Part.TheVariants.New, Keys.Keys, Keys.TagsApart}
+use Rattle.dnssec_zone.specs.Lists.{listed_at_start, lists_after_report, same_part}
+use Rattle.dnssec_zone.specs.declared.lists.{ListedKey.ListedKey, Part.Part, Part.TheVariants.Old}
+use Rattle.dnssec_zone.specs.{declared.lists.Part.TheVariants.New, Keys.Keys, Keys.TagsApart}
 use Rattle.dnssec_zone.specs.{Rolls.same_roll, Start.new_entry_fault, Start.new_fault}
 use Rattle.dnssec_zone.proofs.Listing.References.{names, reference_of-is, there-append}
 use Rattle.dnssec_zone.proofs.Listing.References.{there-filter}
@@ -24,13 +24,13 @@ use Rattle.dnssec_base.specs.declared.error.Error.{Error}
 -- ---- the entries of one roll
 
 -- a test that passes nothing of what is cut finds as much as before
-filter-within : (p w : Entry → Bool) → ((e : Entry) → w e ≡ false → p e ≡ false)
-    → (es : List Entry) → filter p (filter w es) ≡ filter p es
+filter-within : (p w : ListedKey → Bool) → ((e : ListedKey) → w e ≡ false → p e ≡ false)
+    → (es : List ListedKey) → filter p (filter w es) ≡ filter p es
 filter-within p w out [] = refl
 filter-within p w out (e ∷ es) = grind (arith, out e, filter-within p w out es)
 
 -- a test that refuses what a start lists finds none there
-none_of : (keys : Keys) (roll : RollType) (of : Part) (p : Entry → Bool)
+none_of : (keys : Keys) (roll : RollType) (of : Part) (p : ListedKey → Bool)
     → ((tag : ℕ) → p record { roll = roll; part = of; key_tag = tag } ≡ false)
     → (qs : List (List ℕ)) → filter p (entries_of keys roll of qs) ≡ []
 none_of keys roll of p fails [] = refl
@@ -38,7 +38,7 @@ none_of keys roll of p fails (q ∷ qs) = grind (arith, fails, none_of keys roll
 
 -- those of another roll are the same
 module _ (roll other : RollType) (apart : same_roll roll other ≡ false) where
-  without_other : (part : Part) (es : List Entry)
+  without_other : (part : Part) (es : List ListedKey)
       → filter (is_of other part) (without_roll roll es) ≡ filter (is_of other part) es
   without_other part = filter-within (is_of other part) (λ e. not (is_of_roll roll e))
       (λ e out. grind (arith, apart, same_roll-is other e.roll))
@@ -50,7 +50,7 @@ module _ (roll other : RollType) (apart : same_roll roll other ≡ false) where
 
 -- ---- a roll's own entries
 
-none_of_same : (roll : RollType) (part : Part) (es : List Entry)
+none_of_same : (roll : RollType) (part : Part) (es : List ListedKey)
     → filter (is_of roll part) (without_roll roll es) ≡ []
 none_of_same roll part [] = refl
 none_of_same roll part (e ∷ es) = grind (arith, none_of_same roll part es)
@@ -89,7 +89,7 @@ there-listed keys roll part (q ∷ qs) = there-append keys (entry_of roll part (
 -- ---- a start, and what takes it back
 
 module _ (keys : Keys) (roll : RollType) where
-  lists_of-put : (es fs : List Entry) (listed : Listed)
+  lists_of-put : (es fs : List ListedKey) (listed : Listed)
       → references_of keys roll Old fs ≡ listed.olds
       → references_of keys roll New fs ≡ listed.news
       → ((other : RollType) → same_roll roll other ≡ false → (part : Part)
@@ -105,14 +105,14 @@ module _ (keys : Keys) (roll : RollType) where
       }) i
 
   -- nothing is kept for the roll any more
-  pub lists_of-taken_out : (es : List Entry) → lists_of keys (without_roll roll es)
+  pub lists_of-taken_out : (es : List ListedKey) → lists_of keys (without_roll roll es)
       ≡ with_listed (lists_of keys es) roll nothing_listed
   lists_of-taken_out es = lists_of-put es (without_roll roll es) nothing_listed
       (ap (names keys) (none_of_same roll Old es)) (ap (names keys) (none_of_same roll New es))
       (λ other t part. without_other roll other t part es)
 
   -- what a report leaves
-  pub lists_of-reported : (half : Half) (es : List Entry)
+  pub lists_of-reported : (half : Half) (es : List ListedKey)
       → lists_of keys (entries_after_report roll half es)
       ≡ lists_after_report roll half (lists_of keys es)
   lists_of-reported First es = lists_of-taken_out es
@@ -121,7 +121,7 @@ module _ (keys : Keys) (roll : RollType) where
   module _ (olds news : List (List ℕ)) where
     -- what a start lists, each new key being one that is not old
     pub lists_of-started : TagsApart keys → filter (has_kept_key keys) news ≡ news
-        → (es : List Entry) → lists_of keys (entries_at_start keys roll olds news es)
+        → (es : List ListedKey) → lists_of keys (entries_at_start keys roll olds news es)
         ≡ with_listed (lists_of keys es) roll (listed_at_start keys olds news)
     lists_of-started differ fresh es = lists_of-put es _ (listed_at_start keys olds news)
         (rw (
@@ -147,7 +147,7 @@ module _ (keys : Keys) (roll : RollType) where
           none_of_other roll other t keys New part news,
         ) (append-nil _ ∙ append-nil _))
 
-    pub there-started : (es : List Entry) → AreThere keys es
+    pub there-started : (es : List ListedKey) → AreThere keys es
         → AreThere keys (entries_at_start keys roll olds news es)
     there-started es there = there-append keys _ _
         (there-append keys _ _ (there-filter keys (λ e. not (is_of_roll roll e)) es there)

@@ -8,57 +8,51 @@ use Rattle.dnssec_key.specs.declared.roll.RollType.{RollType}
 use Rattle.dnssec_key.specs.State.{is_kept}
 use Rattle.dnssec_key.specs.Key.{KeyParts, all_states}
 use Rattle.dnssec_key.specs.RollTable.{Half, First, Second}
-use Rattle.dnssec_zone.specs.declared.rolls.Entry.{Entry}
-use Rattle.dnssec_zone.specs.declared.rolls.Part.{Part}
-use Rattle.dnssec_zone.specs.declared.rolls.Part.TheVariants.{Old, New}
+use Rattle.dnssec_zone.specs.declared.lists.ListedKey.{ListedKey}
+use Rattle.dnssec_zone.specs.declared.lists.Part.{Part}
+use Rattle.dnssec_zone.specs.declared.lists.Part.TheVariants.{Old, New}
 use Rattle.dnssec_zone.specs.Keys.{Keys, TagsApart}
-use Rattle.dnssec_zone.specs.Lists.{Lists}
+use Rattle.dnssec_zone.specs.Lists.{Lists, same_part}
 use Rattle.dnssec_zone.specs.Rolls.{same_roll}
 
-abbrev pub same_part : Part → Part → Bool
-same_part Old Old = true
-same_part Old New = false
-same_part New Old = false
-same_part New New = true
-
-abbrev pub is_of_roll : RollType → Entry → Bool
+abbrev pub is_of_roll : RollType → ListedKey → Bool
 is_of_roll roll e = same_roll roll e.roll
 
 -- the roll's start has listed the key as this
-abbrev pub is_of : RollType → Part → Entry → Bool
+abbrev pub is_of : RollType → Part → ListedKey → Bool
 is_of roll part e = is_of_roll roll e && same_part part e.part
 
 -- a key with the tag is listed by the roll as this
-abbrev pub has_entry : RollType → Part → ℕ → List Entry → Bool
+abbrev pub has_entry : RollType → Part → ℕ → List ListedKey → Bool
 has_entry roll part tag = list_any (λ e. is_of roll part e && nat_eq e.key_tag tag)
 
-abbrev pub without_roll : RollType → List Entry → List Entry
+abbrev pub without_roll : RollType → List ListedKey → List ListedKey
 without_roll roll = filter (λ e. not (is_of_roll roll e))
 
-abbrev pub without_tag : ℕ → List Entry → List Entry
+abbrev pub without_tag : ℕ → List ListedKey → List ListedKey
 without_tag tag = filter (λ e. not (nat_eq e.key_tag tag))
 
 -- ---- a start
 
 -- the entry of a key that is there, and not old
-abbrev pub entry_of : RollType → Part → Option KeyParts → List Entry
+abbrev pub entry_of : RollType → Part → Option KeyParts → List ListedKey
 entry_of roll part None = []
 entry_of roll part (Some k) =
     if all_states is_kept k.keytype
     then record { roll = roll; part = part; key_tag = k.key_tag } ∷ []
     else []
 
-abbrev pub entries_of : Keys → RollType → Part → List (List ℕ) → List Entry
+abbrev pub entries_of : Keys → RollType → Part → List (List ℕ) → List ListedKey
 entries_of keys roll part [] = []
 entries_of keys roll part (q ∷ qs) =
     entry_of roll part (get keys q) ++ entries_of keys roll part qs
 
-abbrev pub entries_at_start : Keys → RollType → List (List ℕ) → List (List ℕ) → List Entry
-    → List Entry
+abbrev pub entries_at_start : Keys → RollType → List (List ℕ) → List (List ℕ) → List ListedKey
+    → List ListedKey
 entries_at_start keys roll olds news es =
     (without_roll roll es ++ entries_of keys roll Old olds) ++ entries_of keys roll New news
 
-abbrev pub entries_after_report : RollType → Half → List Entry → List Entry
+abbrev pub entries_after_report : RollType → Half → List ListedKey → List ListedKey
 entries_after_report roll First es = without_roll roll es
 entries_after_report roll Second es = es
 
@@ -72,11 +66,11 @@ first_with tag (e ∷ es) = if nat_eq e.1.key_tag tag then e.0 else first_with t
 abbrev pub reference_of : Keys → ℕ → List ℕ
 reference_of keys tag = first_with tag (entries keys)
 
-abbrev pub references_of : Keys → RollType → Part → List Entry → List (List ℕ)
+abbrev pub references_of : Keys → RollType → Part → List ListedKey → List (List ℕ)
 references_of keys roll part es =
     map (λ e. reference_of keys e.key_tag) (filter (is_of roll part) es)
 
-abbrev pub lists_of : Keys → List Entry → Lists
+abbrev pub lists_of : Keys → List ListedKey → Lists
 lists_of keys es = λ roll. record {
   olds = references_of keys roll Old es;
   news = references_of keys roll New es;
@@ -88,11 +82,11 @@ IsThere keys tag =
     (q : List ℕ) × (k : KeyParts) × (get keys q ≡ Some k) × (k.key_tag ≡ tag)
 
 -- each entry is of a key
-abbrev pub AreThere : Keys → List Entry → Type 0
+abbrev pub AreThere : Keys → List ListedKey → Type 0
 AreThere keys [] = Unit {0}
 AreThere keys (e ∷ es) = IsThere keys e.key_tag × AreThere keys es
 
 -- no two keys have one tag, and each entry is of a key
-pub record EntriesAgree (keys : Keys) (es : List Entry) : Type 0 where
+pub record EntriesAgree (keys : Keys) (es : List ListedKey) : Type 0 where
   pub apart : TagsApart keys
   pub there : AreThere keys es

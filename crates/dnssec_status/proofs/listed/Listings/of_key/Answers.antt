@@ -10,9 +10,9 @@ use Rattle.std.specs.Ordering.{is_le, is_lt, nat_cmp}
 use Rattle.dnssec_record.specs.declared.courses.Listed as code
 use Rattle.dnssec_status.proofs.Listing.{between, of_no_other, parted_le, parted_lt}
 use Rattle.dnssec_status.specs.Inner.Entries.{listing_of, lists, reference_of}
-use Rattle.dnssec_status.specs.Keys.{has_listed, same_part}
+use Rattle.dnssec_status.specs.Keys.{has_listed}
 use Rattle.dnssec_zone.proofs.Quantified.{list_any-map}
-use Rattle.dnssec_zone.specs.Rolls.{same_roll}
+use Rattle.dnssec_zone.specs.{Lists.same_part, Rolls.same_roll}
 use Rattle.dnssec_status.proofs.listed.Listings.of_key.Goals as goal
 
 abbrev Lent : Type 0

@@ -4,7 +4,7 @@ use Rattle.std.proofs.Common.{◌≡◌, ℕ, List, [], None, Some, rules, refl,
 use Rattle.std.specs.{Prelude.if◌then◌else◌, Str.bytes_eq, Option.option_map}
 use Rattle.std.specs.{Cmp.Lexicographic.bytes_decides}
 use Rattle.dnssec_key.specs.Inner.TagIndex.{has}
-use Rattle.dnssec_zone.specs.{Inner.Mark.marked, Keys.keys_in_map}
+use Rattle.dnssec_zone.specs.{Inner.KeyMark.marked, Keys.keys_in_map}
 use Rattle.dnssec_zone.proofs.{Counted.counts-exchanged, Counted.fits-shown, Walks.shown}
 use Rattle.dnssec_zone.proofs.{Walks.put-changed, Tags.tags-changed}
 use Rattle.dnssec_zone.proofs.{Marks.mark_more, Marks.marked-twice}

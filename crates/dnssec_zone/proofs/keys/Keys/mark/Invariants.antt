@@ -1,6 +1,6 @@
 -- The keys that have been marked so far, and what is derived of them.
 use Rattle.std.proofs.Common.{take}
-use Rattle.dnssec_zone.specs.{Inner.Mark.marked, Inner.Derived.IsDerived, Keys.keys_in_map}
+use Rattle.dnssec_zone.specs.{Inner.KeyMark.marked, Inner.Derived.IsDerived, Keys.keys_in_map}
 use Rattle.dnssec_zone.proofs.Marks.{IsMarked}
 use Rattle.dnssec_zone.proofs.keys.Keys.mark.Given as goal
 

@@ -1,7 +1,7 @@
 -- What has been listed so far.
 use Rattle.std.proofs.Common.{◌≡◌, ◌++◌, take}
 use Rattle.dnssec_zone.specs.{Start.texts, Inner.Entries.entries_of}
-use Rattle.dnssec_zone.proofs.rolls.Lists.list.Given as goal
+use Rattle.dnssec_zone.proofs.lists.Lists.list.Given as goal
 
 -- the references so far are looked at
 abbrev pub invariant-loop-reference : goal.invariant-loop-reference
