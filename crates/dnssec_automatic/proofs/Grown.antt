@@ -20,8 +20,8 @@ use Rattle.dnssec_policy.specs.Todo.{Make}
 use Rattle.dnssec_policy.proofs.Growing.{grows}
 use Rattle.dnssec_network.specs.Notes.{NotesParts}
 use Rattle.dnssec_automatic.specs.Calls.{GoesOn, IsAfter}
-use Rattle.dnssec_automatic.specs.Noted.{HasHighest}
-use Rattle.dnssec_automatic.specs.declared.noted.Noted.{Noted}
+use Rattle.dnssec_automatic.specs.ZoneNotes.{HasHighest}
+use Rattle.dnssec_automatic.specs.declared.zone_notes.ZoneNotes.{ZoneNotes}
 use Rattle.dnssec_automatic.specs.Zone.{IsAutomaticAfter, IsInTime, IsMade, Says}
 use Rattle.dnssec_automatic.specs.declared.zone.AutomaticZone.{AutomaticZone}
 
@@ -66,7 +66,7 @@ module _ (name : List ℕ) (calls : List Call) (entries : List Entry) (asked : L
           ∙ sym (length-append entries (on.entry ∷ []));
       automatic = λ network time are in_time.
           let are' = subst
-          (λ (noted : Noted). AreTrue noted.notes.before noted.notes.facts network time) same are in
+          (λ (noted : ZoneNotes). AreTrue noted.notes.before noted.notes.facts network time) same are in
           grows name calls entries network time call on.entry so.after.stands.records.run.count
           (so.automatic network time are' (in_time-front asked moment network in_time))
           (said network time are'

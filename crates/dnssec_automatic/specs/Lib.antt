@@ -1,5 +1,5 @@
 pub mod Calls
-pub mod Noted
+pub mod ZoneNotes
 pub mod Zone
 pub mod Lines
 pub mod Answer

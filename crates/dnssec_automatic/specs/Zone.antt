@@ -19,9 +19,9 @@ use Rattle.dnssec_policy.specs.Next.{next_of}
 use Rattle.dnssec_policy.specs.Todo.{Make, Todo}
 use Rattle.dnssec_policy.specs.View.{View}
 use Rattle.dnssec_automatic.specs.Calls.{GoesOn, IsAfter, Resumes}
-use Rattle.dnssec_automatic.specs.Noted.{HasHighest}
+use Rattle.dnssec_automatic.specs.ZoneNotes.{HasHighest}
 use Rattle.dnssec_automatic.specs.declared.zone.AutomaticZone.{AutomaticZone}
-use Rattle.dnssec_automatic.specs.declared.zone.Made.{Made}
+use Rattle.dnssec_automatic.specs.declared.zone.Advance.{Advance}
 
 -- ---- what holds of it
 
@@ -60,7 +60,7 @@ SaysNone name calls entries policy moment zone = (todo : Todo)
 -- ---- what is made
 
 -- what the call leaves that is said
-abbrev pub Makes : List ℕ → List Call → List Entry → Policy → ℕ → AutomaticZone → Option Made
+abbrev pub Makes : List ℕ → List Call → List Entry → Policy → ℕ → AutomaticZone → Option Advance
     → Type 0
 Makes name calls entries policy moment zone None =
     SaysNone name calls entries policy moment zone

@@ -5,7 +5,7 @@ ghost use Rattle.dnssec_run.specs.declared.call.Call.{Call as AnyCall};
 ghost use Rattle.dnssec_run.specs.declared.record.Entry.{Entry};
 ghost use Rattle.dnssec_automatic.specs.Answer.{AnswersBy, AnswersNext, SaysLine};
 ghost use Rattle.dnssec_automatic.specs.Calls.{IsAfter};
-ghost use Rattle.dnssec_automatic.specs.Noted.{HasHighest};
+ghost use Rattle.dnssec_automatic.specs.ZoneNotes.{HasHighest};
 
 use crate::fault::NextFault;
 use crate::line::next_line;

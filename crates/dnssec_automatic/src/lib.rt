@@ -5,9 +5,9 @@ mod answer;
 mod calls;
 mod fault;
 mod line;
-mod noted;
 mod text;
 mod zone;
+mod zone_notes;
 
 pub use answer::answer_next;
 pub use dnssec_policy::{

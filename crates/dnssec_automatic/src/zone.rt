@@ -6,12 +6,12 @@ ghost use Rattle.dnssec_policy.specs.Automatic.{is_add};
 ghost use Rattle.dnssec_policy.specs.Code.{todo_of};
 ghost use Rattle.dnssec_policy_text.specs.Lint.{highest_of, too_short};
 ghost use Rattle.dnssec_automatic.specs.Calls.{GoesOn, IsAfter};
-ghost use Rattle.dnssec_automatic.specs.Noted.{HasHighest};
+ghost use Rattle.dnssec_automatic.specs.ZoneNotes.{HasHighest};
 ghost use Rattle.dnssec_automatic.specs.Zone.{Adds, Advances, IsAutomaticAfter, Makes};
 ghost use Rattle.dnssec_automatic.specs.Zone.{ReachesResolvers, ResumesZone, Says};
 
 use crate::calls::{Calls, check_memory};
-use crate::noted::Noted;
+use crate::zone_notes::ZoneNotes;
 use dnssec_base::Name;
 use dnssec_keyset::UnixTime;
 use dnssec_network::{Before, News, NoteFault, SetKind};
@@ -38,12 +38,12 @@ use std::alloc::{AllocError, Global};
 #[derive(Drop)]
 pub struct AutomaticZone {
     calls: Calls,
-    noted: Noted,
+    noted: ZoneNotes,
 }
 
-/// What a call has left.
+/// The calls with one more, and the reply to it.
 #[derive(Drop)]
-pub(crate) struct Made {
+pub(crate) struct Advance {
     calls: Calls,
     reply: Reply,
 }
@@ -73,7 +73,7 @@ impl AutomaticZone {
     {
         Ok(AutomaticZone {
             calls: Calls::new(alloc, name)?,
-            noted: Noted::new(alloc, before),
+            noted: ZoneNotes::new(alloc, before),
         })
     }
 
@@ -92,7 +92,7 @@ impl AutomaticZone {
         ensures { IfOk result (ResumesZone script.now notes.now) }
     {
         let calls = Calls::resume(alloc, script)?;
-        let noted = Noted::read(alloc, calls.session.moments(), notes)?;
+        let noted = ZoneNotes::read(alloc, calls.session.moments(), notes)?;
         Ok(AutomaticZone { calls, noted })
     }
 
@@ -154,7 +154,7 @@ impl AutomaticZone {
         alloc: Global,
         policy: &Policy,
         moment: UnixTime,
-    ) -> Result<Option<Made>, AllocError>
+    ) -> Result<Option<Advance>, AllocError>
         ensures { IfOk result (λ made.
             (name : List ℕ) (calls : List AnyCall) (entries : List Entry) →
             IsAfter name calls entries self.now.calls → HasHighest self.now.noted →
@@ -168,7 +168,7 @@ impl AutomaticZone {
     }
 
     /// What a call leaves.
-    fn made(&self, alloc: Global, call: Call<'_>) -> Result<Made, AllocError>
+    fn made(&self, alloc: Global, call: Call<'_>) -> Result<Advance, AllocError>
         ensures { IfOk result (λ made.
             (name : List ℕ) (calls : List AnyCall) (entries : List Entry) →
             IsAfter name calls entries self.now.calls →
@@ -177,7 +177,7 @@ impl AutomaticZone {
         let mut calls = self.calls.try_clone(alloc)?;
         let reply = calls.make(alloc, call)?;
         check_memory(&reply)?;
-        Ok(Made { calls, reply })
+        Ok(Advance { calls, reply })
     }
 
     /// Makes a call that adds a key, also another signer's.

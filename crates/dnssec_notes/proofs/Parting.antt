@@ -20,7 +20,7 @@ use Rattle.dnssec_notes.specs.Scripts.{as_noted, no_script, parts_after, scripts
 use Rattle.dnssec_notes.specs.declared.fault.NotesFault.{NotesFault}
 use Rattle.dnssec_notes.specs.declared.fault.NotesFault.TheVariants.{Malformed, Refused}
 use Rattle.dnssec_notes.specs.declared.fault.NotesFault.TheVariants.{OutOfMemory}
-use Rattle.dnssec_notes.specs.declared.scripts.Noted.{Noted}
+use Rattle.dnssec_notes.specs.declared.scripts.NotedScript as code
 
 -- ---- bytes
 
@@ -145,14 +145,15 @@ module _ (ps : List (List ℕ)) (at : ℕ) (before all : List NotedScript)
 -- ---- answers
 
 -- the script at a place, with its notes
-abbrev pub blank_noted : Noted
+abbrev pub blank_noted : code.NotedScript
 blank_noted = record { script = blank; notes = blank }
 
-pub noted_at : (xs : List Noted) (i : ℕ) → i < length xs
+pub noted_at : (xs : List code.NotedScript) (i : ℕ) → i < length xs
     → get_or (map as_noted xs) i no_script ≡ as_noted (get_or xs i blank_noted)
 noted_at xs i within = get_or-map as_noted xs i blank_noted no_script within
 
-pub noted_within : (xs : List Noted) (i : ℕ) → i < length xs → i < length (map as_noted xs)
+pub noted_within : (xs : List code.NotedScript) (i : ℕ) → i < length xs
+    → i < length (map as_noted xs)
 noted_within xs i within = rw length-map within
 
 -- the answers to one script more

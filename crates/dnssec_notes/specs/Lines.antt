@@ -11,13 +11,13 @@ use Rattle.dnssec_network.specs.declared.fact.News.{News}
 use Rattle.dnssec_network.specs.declared.fact.News.TheVariants as news
 use Rattle.dnssec_script.specs.Script.{Form, Value, Number, Moment, as_number, as_time, as_ttl}
 use Rattle.dnssec_script.specs.Script.{fields_of, first_field, values_of}
-use Rattle.dnssec_notes.specs.declared.line.Word.{Word}
-use Rattle.dnssec_notes.specs.declared.line.Word.TheVariants.{Published, Everywhere}
+use Rattle.dnssec_notes.specs.declared.line.FactWord.{FactWord}
+use Rattle.dnssec_notes.specs.declared.line.FactWord.TheVariants.{Published, Everywhere}
 
 -- ---- words
 
 -- the words of facts
-unfoldable pub word_named : List ℕ → Option Word
+unfoldable pub word_named : List ℕ → Option FactWord
 word_named name =
     if bytes_eq name (codes "published") then Some Published
     else (if bytes_eq name (codes "everywhere") then Some Everywhere else None)
@@ -41,17 +41,17 @@ abbrev pub as_position : Form
 as_position = as_number 18446744073709551615
 
 -- what the fields after a word and a kind have to be
-abbrev pub forms_after : Word → List Form
+abbrev pub forms_after : FactWord → List Form
 forms_after Published = as_position ∷ as_ttl ∷ as_time ∷ []
 forms_after Everywhere = as_time ∷ []
 
 -- what such fields say, with their word
-abbrev pub news_after : Word → List (List ℕ) → Option (Word × List Value)
+abbrev pub news_after : FactWord → List (List ℕ) → Option (FactWord × List Value)
 news_after word fields =
     option_map (λ values. (word, values)) (values_of (forms_after word) fields)
 
 -- the word that stands first, and the fields after it
-abbrev pub word_at : List (List ℕ) → Option (Word × List (List ℕ))
+abbrev pub word_at : List (List ℕ) → Option (FactWord × List (List ℕ))
 word_at [] = None
 word_at (name ∷ fields) = option_map (λ w. (w, fields)) (word_named name)
 
@@ -61,20 +61,20 @@ kind_at [] = None
 kind_at (name ∷ fields) = option_map (λ k. (k, fields)) (kind_named name)
 
 -- what a line says of a fact: its kind, its word, and what the fields after them say
-unfoldable pub as_fact : List ℕ → Option (SetKind × (Word × List Value))
+unfoldable pub as_fact : List ℕ → Option (SetKind × (FactWord × List Value))
 as_fact line =
     option_and_then (λ w.
     option_and_then (λ k. option_map (λ said. (k.0, said)) (news_after w.0 k.1)) (kind_at w.1))
     (word_at (fields_of line))
 
 -- news in the words of notes
-abbrev pub news_says : News → Word × List Value
+abbrev pub news_says : News → FactWord × List Value
 news_says (news.Published position ttl moment) =
     (Published, Number position ∷ Number ttl ∷ Moment moment ∷ [])
 news_says (news.Everywhere moment) = (Everywhere, Moment moment ∷ [])
 
 -- a fact in the words of notes
-abbrev pub fact_says : Fact → SetKind × (Word × List Value)
+abbrev pub fact_says : Fact → SetKind × (FactWord × List Value)
 fact_says fact = (fact.kind, news_says fact.news)
 
 -- ---- the first line

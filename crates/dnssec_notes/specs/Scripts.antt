@@ -12,7 +12,7 @@ use Rattle.dnssec_notes.specs.declared.fault.DueFault.TheVariants as due
 use Rattle.dnssec_notes.specs.declared.fault.NotesFault.{NotesFault}
 use Rattle.dnssec_notes.specs.declared.fault.NotesFault.TheVariants.{Malformed, Refused}
 use Rattle.dnssec_notes.specs.declared.fault.NotesFault.TheVariants.{OutOfMemory}
-use Rattle.dnssec_notes.specs.declared.scripts.Noted.{Noted}
+use Rattle.dnssec_notes.specs.declared.scripts.NotedScript as code
 
 -- ---- the scripts of a text
 
@@ -49,7 +49,7 @@ abbrev pub scripts_of : List ℕ → List NotedScript
 scripts_of text = scripts_among (parts_of text)
 
 -- the same in code
-abbrev pub as_noted : Noted → NotedScript
+abbrev pub as_noted : code.NotedScript → NotedScript
 as_noted noted = record { script = noted.script.now; notes = noted.notes.now }
 
 -- ---- their answers

@@ -11,20 +11,20 @@ use dnssec_record::Fields;
 
 /// The words of facts.
 #[derive(Clone, Copy)]
-pub(crate) enum Word {
+pub(crate) enum FactWord {
     Published,
     Everywhere,
 }
 
 /// The word with this name.
 #[tactic(auto, unfolding(crate::specs::Lines::word_named))]
-fn word_named(name: &[u8]) -> Option<Word>
+fn word_named(name: &[u8]) -> Option<FactWord>
     ensures { result ≡ word_named name.now }
 {
     if name == b"published".as_slice() {
-        Some(Word::Published)
+        Some(FactWord::Published)
     } else if name == b"everywhere".as_slice() {
-        Some(Word::Everywhere)
+        Some(FactWord::Everywhere)
     } else {
         None
     }
@@ -58,7 +58,7 @@ pub(crate) fn kind_name(kind: SetKind) -> &'static str
 }
 
 /// The first field as a word.
-fn first_word<'a>(fields: Fields<'a>) -> Option<(Word, Fields<'a>)>
+fn first_word<'a>(fields: Fields<'a>) -> Option<(FactWord, Fields<'a>)>
     ensures { option_map (λ x. (x.0, x.1)) result ≡ word_at fields.entry }
 {
     let (name, fields) = fields.next()?;
@@ -92,18 +92,18 @@ pub fn read_fact(line: &[u8]) -> Option<Fact>
 }
 
 /// What the fields after a word and a kind say.
-fn read_news(word: Word, fields: Fields<'_>) -> Option<News>
+fn read_news(word: FactWord, fields: Fields<'_>) -> Option<News>
     ensures { option_map news_says result ≡ news_after word fields.entry }
 {
     match word {
-        Word::Published => published(fields),
-        Word::Everywhere => everywhere(fields),
+        FactWord::Published => published(fields),
+        FactWord::Everywhere => everywhere(fields),
     }
 }
 
 /// The fields after `published`.
 fn published(fields: Fields<'_>) -> Option<News>
-    ensures { option_map news_says result ≡ news_after Word.Published fields.entry }
+    ensures { option_map news_says result ≡ news_after FactWord.Published fields.entry }
 {
     let (position, fields) = fields.number(u64::MAX)?;
     let (ttl, fields) = fields.ttl()?;
@@ -118,7 +118,7 @@ fn published(fields: Fields<'_>) -> Option<News>
 
 /// The field after `everywhere`.
 fn everywhere(fields: Fields<'_>) -> Option<News>
-    ensures { option_map news_says result ≡ news_after Word.Everywhere fields.entry }
+    ensures { option_map news_says result ≡ news_after FactWord.Everywhere fields.entry }
 {
     let (moment, fields) = fields.time()?;
     fields.end()?;

@@ -10,8 +10,8 @@ use Rattle.dnssec_policy.specs.declared.policy.KeyRole.TheVariants.{Ksk, Zsk, Cs
 use Rattle.dnssec_policy.specs.declared.policy.{KskMethod.KskMethod, Scheme.Scheme}
 use Rattle.dnssec_policy.specs.declared.policy.Scheme.TheVariants.{Split, SingleType}
 use Rattle.dnssec_policy.specs.declared.policy.ZskMethod.{ZskMethod}
-use Rattle.dnssec_policy_text.specs.declared.wish.{Draft.Draft, Word.Word}
-use Rattle.dnssec_policy_text.specs.declared.wish.Word.TheVariants as word
+use Rattle.dnssec_policy_text.specs.declared.wish.{PolicyDraft.PolicyDraft, WishWord.WishWord}
+use Rattle.dnssec_policy_text.specs.declared.wish.WishWord.TheVariants as word
 use Rattle.dnssec_policy_text.specs.Reading.{line_after, of_draft, of_first, policy_of, read_from}
 use Rattle.dnssec_policy_text.specs.Reading.{wish_said}
 use Rattle.dnssec_policy_text.specs.Wishes.{no_wish}
@@ -51,7 +51,7 @@ further_lines p = renewals_lines p p.scheme ++ bare word.DeleteAfter p.delete_af
 
 -- ---- the text is that of these lines
 
-bare-text : (w : Word) (n : ℕ) → number_line w n ≡ text_of (bare w n ∷ [])
+bare-text : (w : WishWord) (n : ℕ) → number_line w n ≡ text_of (bare w n ∷ [])
 bare-text w n = ap (λ t. t ++ 10 ∷ []) (append_assoc (word_name w) (32 ∷ []) (decimal n))
 
 lifetime-text : (role : KeyRole) (o : Option ℕ)
@@ -101,7 +101,7 @@ both {x = x} {y = y} e f = rw (e, f) refl
 lack-append : (c : ℕ) (xs ys : List ℕ) → lacks c xs → lacks c ys → lacks c (xs ++ ys)
 lack-append c xs ys e f = list_all-append (λ b. not (b == c)) xs ys ∙ both e f
 
-bare-lacks : (w : Word) (n : ℕ) → IsNumber n → lacks 10 (bare w n)
+bare-lacks : (w : WishWord) (n : ℕ) → IsNumber n → lacks 10 (bare w n)
 bare-lacks w n small = lack-append 10 (word_name w) (32 ∷ decimal n) (word-lacks w).1
     (digits-lack 10 n (omega arith) (omega arith))
 
@@ -151,7 +151,7 @@ all-lack p so = both (first-lacks p so.algorithm)
 -- ---- reading the lines
 
 -- what is said so far
-abbrev so_far : Option ℕ → Option ℕ → Option ℕ → Option ℕ → Draft
+abbrev so_far : Option ℕ → Option ℕ → Option ℕ → Option ℕ → PolicyDraft
 so_far l o m q = record {
   ksk = record { lifetime = l; once = o };
   zsk = record { lifetime = m; once = q };
@@ -159,8 +159,8 @@ so_far l o m q = record {
 }
 
 -- a line that stands only if something is said is read as that
-step : (scheme : Scheme) (line : ℕ → List ℕ) (d : Option ℕ → Draft) (P : ℕ → Type 0) (o : Option ℕ)
-    → IfSome o P → ((n : ℕ) → P n → line_after scheme (d None) (line n) ≡ Ok (d (Some n)))
+step : (scheme : Scheme) (line : ℕ → List ℕ) (d : Option ℕ → PolicyDraft) (P : ℕ → Type 0)
+    (o : Option ℕ) → IfSome o P → ((n : ℕ) → P n → line_after scheme (d None) (line n) ≡ Ok (d (Some n)))
     → (n : ℕ) (rest : List (List ℕ))
     → (m : ℕ) × (read_from scheme n (d None) (said_lines line o ++ rest)
     ≡ read_from scheme m (d o) rest)

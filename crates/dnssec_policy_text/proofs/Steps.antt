@@ -1,20 +1,20 @@
 -- Reading on, line by line.
 use Rattle.std.proofs.Common.{◌≡◌, ℕ, suc, ◌∷◌, List, Ok, Err, ap}
 use Rattle.dnssec_policy.specs.declared.policy.Scheme.{Scheme}
-use Rattle.dnssec_policy_text.specs.declared.fault.LineFault.{LineFault}
-use Rattle.dnssec_policy_text.specs.declared.wish.Draft.{Draft}
+use Rattle.dnssec_policy_text.specs.declared.fault.WishFault.{WishFault}
+use Rattle.dnssec_policy_text.specs.declared.wish.PolicyDraft.{PolicyDraft}
 use Rattle.dnssec_policy_text.specs.Reading.{fault_at, line_after, onward, read_from}
 
 -- a line that says something new
-pub one-more : (scheme : Scheme) (n : ℕ) (d more : Draft) (line : List ℕ) (lines : List (List ℕ))
-    → line_after scheme d line ≡ Ok more
+pub one-more : (scheme : Scheme) (n : ℕ) (d more : PolicyDraft) (line : List ℕ)
+    (lines : List (List ℕ)) → line_after scheme d line ≡ Ok more
     → read_from scheme n d (line ∷ lines) ≡ read_from scheme (suc n) more lines
 unfolding read_from
 one-more scheme n d more line lines e =
     ap (onward n (λ more. read_from scheme (suc n) more lines)) e
 
 -- and one with a fault
-pub faulty : (scheme : Scheme) (n : ℕ) (d : Draft) (fault : LineFault) (line : List ℕ)
+pub faulty : (scheme : Scheme) (n : ℕ) (d : PolicyDraft) (fault : WishFault) (line : List ℕ)
     (lines : List (List ℕ)) → line_after scheme d line ≡ Err fault
     → read_from scheme n d (line ∷ lines) ≡ Err (fault_at fault n)
 unfolding read_from

@@ -9,8 +9,8 @@ use Rattle.dnssec_policy.specs.declared.policy.KskMethod.TheVariants as ksks
 use Rattle.dnssec_policy.specs.declared.policy.Scheme.TheVariants.{Split, SingleType}
 use Rattle.dnssec_policy.specs.declared.policy.ZskMethod.TheVariants as zsks
 use Rattle.dnssec_policy_text.specs.declared.wish.Wish.TheVariants as wish
-use Rattle.dnssec_policy_text.specs.declared.wish.{Wish.Wish, Word.Word}
-use Rattle.dnssec_policy_text.specs.declared.wish.Word.TheVariants as word
+use Rattle.dnssec_policy_text.specs.declared.wish.{Wish.Wish, WishWord.WishWord}
+use Rattle.dnssec_policy_text.specs.declared.wish.WishWord.TheVariants as word
 use Rattle.dnssec_policy_text.specs.Wishes.{as_first, as_wish, base_of, ksk_named}
 use Rattle.dnssec_policy_text.specs.Wishes.{scheme_of, wish_after, word_named, zsk_named}
 use Rattle.dnssec_policy_text.specs.Writing.{IsNumber, IsSecond, rolls_text, word_name}
@@ -20,10 +20,10 @@ use Rattle.dnssec_policy_text.proofs.Numbers.{digits-lack, number-back, time-bac
 -- ---- further lines
 
 -- a line of a word and a number, without its line feed
-abbrev pub bare : Word → ℕ → List ℕ
+abbrev pub bare : WishWord → ℕ → List ℕ
 bare w n = word_name w ++ 32 ∷ decimal n
 
-pub word-lacks : (w : Word) → (lacks 32 (word_name w)) × (lacks 10 (word_name w))
+pub word-lacks : (w : WishWord) → (lacks 32 (word_name w)) × (lacks 10 (word_name w))
 word-lacks (word.Lifetime Ksk) = (refl, refl)
 word-lacks (word.Lifetime Zsk) = (refl, refl)
 word-lacks (word.Lifetime Csk) = (refl, refl)
@@ -32,7 +32,7 @@ word-lacks (word.Once Zsk) = (refl, refl)
 word-lacks (word.Once Csk) = (refl, refl)
 word-lacks word.DeleteAfter = (refl, refl)
 
-word-back : (w : Word) → word_named (word_name w) ≡ Some w
+word-back : (w : WishWord) → word_named (word_name w) ≡ Some w
 unfolding word_named
 word-back (word.Lifetime Ksk) = refl
 word-back (word.Lifetime Zsk) = refl
@@ -43,7 +43,7 @@ word-back (word.Once Csk) = refl
 word-back word.DeleteAfter = refl
 
 -- it is read as its word with the field after it
-read-bare : (w : Word) (n : ℕ) → IsNumber n
+read-bare : (w : WishWord) (n : ℕ) → IsNumber n
     → as_wish (bare w n) ≡ wish_after w (decimal n ∷ [])
 unfolding as_wish
 read-bare w n small =

@@ -14,11 +14,11 @@ use Rattle.dnssec_policy.specs.declared.policy.Scheme.{Scheme}
 use Rattle.dnssec_policy.specs.declared.policy.Scheme.TheVariants.{Split, SingleType}
 use Rattle.dnssec_policy.specs.declared.policy.ZskMethod.{ZskMethod}
 use Rattle.dnssec_policy.specs.declared.policy.ZskMethod.TheVariants as zsks
-use Rattle.dnssec_policy_text.specs.declared.wish.Draft.{Draft}
+use Rattle.dnssec_policy_text.specs.declared.wish.PolicyDraft.{PolicyDraft}
 use Rattle.dnssec_policy_text.specs.declared.wish.Wish.{Wish}
 use Rattle.dnssec_policy_text.specs.declared.wish.Wish.TheVariants as wish
-use Rattle.dnssec_policy_text.specs.declared.wish.Word.{Word}
-use Rattle.dnssec_policy_text.specs.declared.wish.Word.TheVariants as word
+use Rattle.dnssec_policy_text.specs.declared.wish.WishWord.{WishWord}
+use Rattle.dnssec_policy_text.specs.declared.wish.WishWord.TheVariants as word
 
 -- ---- the first line
 
@@ -72,7 +72,7 @@ as_first line =
 
 -- ---- further lines
 
-unfoldable pub word_named : List ℕ → Option Word
+unfoldable pub word_named : List ℕ → Option WishWord
 word_named name =
     if bytes_eq name (codes "ksk-lifetime") then Some (word.Lifetime Ksk)
     else (if bytes_eq name (codes "zsk-lifetime") then Some (word.Lifetime Zsk)
@@ -83,7 +83,7 @@ word_named name =
     else (if bytes_eq name (codes "delete-after") then Some word.DeleteAfter else None))))))
 
 -- the word that stands first, and the fields after it
-abbrev pub word_at : List (List ℕ) → Option (Word × List (List ℕ))
+abbrev pub word_at : List (List ℕ) → Option (WishWord × List (List ℕ))
 word_at fields =
     option_and_then (λ x. option_map (λ w. (w, x.1)) (word_named x.0)) (first_field fields)
 
@@ -100,7 +100,7 @@ abbrev pub moment_in : List (List ℕ) → Option ℕ
 moment_in fields = only as_time fields
 
 -- what the fields after a word say
-abbrev pub wish_after : Word → List (List ℕ) → Option Wish
+abbrev pub wish_after : WishWord → List (List ℕ) → Option Wish
 wish_after (word.Lifetime role) fields = option_map (λ n. wish.Lifetime role n) (seconds_in fields)
 wish_after (word.Once role) fields = option_map (λ t. wish.Once role t) (moment_in fields)
 wish_after word.DeleteAfter fields = option_map (λ n. wish.DeleteAfter n) (seconds_in fields)
@@ -125,7 +125,7 @@ is_for scheme (wish.Once role t) = has_role scheme role
 is_for scheme (wish.DeleteAfter n) = true
 
 -- nothing is said yet: keys are never renewed, and stay no longer than they have to
-abbrev pub no_wish : Draft
+abbrev pub no_wish : PolicyDraft
 no_wish = record {
   ksk = record { lifetime = None; once = None };
   zsk = record { lifetime = None; once = None };
@@ -144,20 +144,20 @@ abbrev pub with_once : Term → ℕ → Option Term
 with_once r t = unless_said r.once (record { lifetime = r.lifetime; once = Some t })
 
 -- when keys of a role are renewed
-abbrev pub slot : Draft → KeyRole → Term
+abbrev pub slot : PolicyDraft → KeyRole → Term
 slot d Zsk = d.zsk
 slot d _ = d.ksk
 
-abbrev pub with_slot : Draft → KeyRole → Term → Draft
+abbrev pub with_slot : PolicyDraft → KeyRole → Term → PolicyDraft
 with_slot d Zsk r = record { ksk = d.ksk; zsk = r; delete_after = d.delete_after }
 with_slot d _ r = record { ksk = r; zsk = d.zsk; delete_after = d.delete_after }
 
-abbrev pub with_deletion : Draft → ℕ → Option Draft
+abbrev pub with_deletion : PolicyDraft → ℕ → Option PolicyDraft
 with_deletion d n =
     unless_said d.delete_after (record { ksk = d.ksk; zsk = d.zsk; delete_after = Some n })
 
 -- after one more wish
-abbrev pub after : Draft → Wish → Option Draft
+abbrev pub after : PolicyDraft → Wish → Option PolicyDraft
 after d (wish.Lifetime role n) = option_map (with_slot d role) (with_lifetime (slot d role) n)
 after d (wish.Once role t) = option_map (with_slot d role) (with_once (slot d role) t)
 after d (wish.DeleteAfter n) = with_deletion d n

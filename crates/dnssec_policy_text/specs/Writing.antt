@@ -11,8 +11,8 @@ use Rattle.dnssec_policy.specs.declared.policy.Scheme.{Scheme}
 use Rattle.dnssec_policy.specs.declared.policy.Scheme.TheVariants.{Split, SingleType}
 use Rattle.dnssec_policy.specs.declared.policy.ZskMethod.{ZskMethod}
 use Rattle.dnssec_policy.specs.declared.policy.ZskMethod.TheVariants as zsks
-use Rattle.dnssec_policy_text.specs.declared.wish.Word.{Word}
-use Rattle.dnssec_policy_text.specs.declared.wish.Word.TheVariants as word
+use Rattle.dnssec_policy_text.specs.declared.wish.WishWord.{WishWord}
+use Rattle.dnssec_policy_text.specs.declared.wish.WishWord.TheVariants as word
 
 -- ---- names
 
@@ -29,7 +29,7 @@ abbrev pub rolls_text : Scheme → List ℕ
 rolls_text (Split k z) = ksk_name k ++ codes " " ++ zsk_name z
 rolls_text SingleType = codes "csk-roll"
 
-abbrev pub word_name : Word → List ℕ
+abbrev pub word_name : WishWord → List ℕ
 word_name (word.Lifetime Ksk) = codes "ksk-lifetime"
 word_name (word.Lifetime Zsk) = codes "zsk-lifetime"
 word_name (word.Lifetime Csk) = codes "csk-lifetime"
@@ -44,7 +44,7 @@ abbrev pub first_line : Policy → List ℕ
 first_line p =
     codes "policy " ++ decimal p.algorithm ++ codes " " ++ rolls_text p.scheme ++ codes "\n"
 
-abbrev pub number_line : Word → ℕ → List ℕ
+abbrev pub number_line : WishWord → ℕ → List ℕ
 number_line w n = word_name w ++ codes " " ++ decimal n ++ codes "\n"
 
 abbrev pub lifetime_text : KeyRole → Option ℕ → List ℕ

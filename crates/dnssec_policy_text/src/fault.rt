@@ -23,21 +23,21 @@ pub enum PolicyFault {
 
 /// What is wrong with a line after the first.
 #[derive(Clone, Copy)]
-pub(crate) enum LineFault {
+pub(crate) enum WishFault {
     Malformed,
     SaidTwice,
     NoSuchKeys,
 }
 
-impl LineFault {
+impl WishFault {
     /// The same fault of a policy, on the line of this number.
     pub(crate) fn at(self, number: usize) -> PolicyFault
         ensures { result ≡ fault_at self number }
     {
         match self {
-            LineFault::Malformed => PolicyFault::Malformed(number),
-            LineFault::SaidTwice => PolicyFault::SaidTwice(number),
-            LineFault::NoSuchKeys => PolicyFault::NoSuchKeys(number),
+            WishFault::Malformed => PolicyFault::Malformed(number),
+            WishFault::SaidTwice => PolicyFault::SaidTwice(number),
+            WishFault::NoSuchKeys => PolicyFault::NoSuchKeys(number),
         }
     }
 }

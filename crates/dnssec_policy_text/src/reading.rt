@@ -7,16 +7,16 @@ ghost use Rattle.dnssec_policy_text.specs.Wishes.{no_wish};
 ghost use Rattle.dnssec_policy_text.specs.declared.fault.PolicyFault.TheVariants.{OutOfMemory};
 
 use crate::fault::PolicyFault;
-use crate::wish::{Draft, read_first};
+use crate::wish::{PolicyDraft, read_first};
 use dnssec_policy::{Policy, Scheme};
 use dnssec_script::all_lines;
 use std::alloc::Global;
 
 /// What further lines say, from line 2 on; or the first fault.
-fn read_wishes(scheme: Scheme, lines: &[&[u8]]) -> Result<Draft, PolicyFault>
+fn read_wishes(scheme: Scheme, lines: &[&[u8]]) -> Result<PolicyDraft, PolicyFault>
     ensures { result ≡ read_from scheme 2 no_wish (map now lines.now) }
 {
-    let mut draft = Draft::new();
+    let mut draft = PolicyDraft::new();
     for (index, line) in lines.iter().enumerate() {
         match draft.line_after(scheme, line) {
             Ok(more) => draft = more,

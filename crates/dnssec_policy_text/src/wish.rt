@@ -9,7 +9,7 @@ ghost use Rattle.dnssec_policy_text.specs.Wishes.{with_lifetime, with_once, with
 ghost use Rattle.dnssec_policy_text.specs.Wishes.{word_named, zsk_named};
 ghost use Rattle.dnssec_policy_text.specs.Reading.{line_after, policy_with, said_after};
 
-use crate::fault::LineFault;
+use crate::fault::WishFault;
 use dnssec_keyset::{SecurityAlgorithm, UnixTime};
 use dnssec_policy::{KeyRole, KskMethod, Policy, Scheme, Term, ZskMethod};
 use dnssec_script::Fields;
@@ -101,7 +101,7 @@ pub(crate) fn read_first(line: &[u8]) -> Option<(SecurityAlgorithm, Scheme)>
 
 /// The words of further lines.
 #[derive(Clone, Copy)]
-pub(crate) enum Word {
+pub(crate) enum WishWord {
     Lifetime(KeyRole),
     Once(KeyRole),
     DeleteAfter,
@@ -120,30 +120,30 @@ pub(crate) enum Wish {
 
 /// The word with this name.
 #[tactic(auto, unfolding(crate::specs::Wishes::word_named))]
-fn word_named(name: &[u8]) -> Option<Word>
+fn word_named(name: &[u8]) -> Option<WishWord>
     ensures { result ≡ word_named name.now }
 {
     if name == b"ksk-lifetime".as_slice() {
-        Some(Word::Lifetime(KeyRole::Ksk))
+        Some(WishWord::Lifetime(KeyRole::Ksk))
     } else if name == b"zsk-lifetime".as_slice() {
-        Some(Word::Lifetime(KeyRole::Zsk))
+        Some(WishWord::Lifetime(KeyRole::Zsk))
     } else if name == b"csk-lifetime".as_slice() {
-        Some(Word::Lifetime(KeyRole::Csk))
+        Some(WishWord::Lifetime(KeyRole::Csk))
     } else if name == b"ksk-once".as_slice() {
-        Some(Word::Once(KeyRole::Ksk))
+        Some(WishWord::Once(KeyRole::Ksk))
     } else if name == b"zsk-once".as_slice() {
-        Some(Word::Once(KeyRole::Zsk))
+        Some(WishWord::Once(KeyRole::Zsk))
     } else if name == b"csk-once".as_slice() {
-        Some(Word::Once(KeyRole::Csk))
+        Some(WishWord::Once(KeyRole::Csk))
     } else if name == b"delete-after".as_slice() {
-        Some(Word::DeleteAfter)
+        Some(WishWord::DeleteAfter)
     } else {
         None
     }
 }
 
 /// The first field as a word.
-fn first_word<'a>(fields: Fields<'a>) -> Option<(Word, Fields<'a>)>
+fn first_word<'a>(fields: Fields<'a>) -> Option<(WishWord, Fields<'a>)>
     ensures { option_map (λ x. (x.0, x.1)) result ≡ word_at fields.entry }
 {
     let (name, fields) = fields.next()?;
@@ -169,13 +169,13 @@ fn moment(fields: Fields<'_>) -> Option<UnixTime>
 }
 
 /// What the fields after a word say.
-fn wish_after(word: Word, fields: Fields<'_>) -> Option<Wish>
+fn wish_after(word: WishWord, fields: Fields<'_>) -> Option<Wish>
     ensures { result ≡ wish_after word fields.entry }
 {
     match word {
-        Word::Lifetime(role) => Some(Wish::Lifetime(role, seconds(fields)?)),
-        Word::Once(role) => Some(Wish::Once(role, moment(fields)?)),
-        Word::DeleteAfter => Some(Wish::DeleteAfter(seconds(fields)?)),
+        WishWord::Lifetime(role) => Some(Wish::Lifetime(role, seconds(fields)?)),
+        WishWord::Once(role) => Some(Wish::Once(role, moment(fields)?)),
+        WishWord::DeleteAfter => Some(Wish::DeleteAfter(seconds(fields)?)),
     }
 }
 
@@ -219,7 +219,7 @@ const NEVER: Term = Term {
 
 /// What further lines have said so far.
 #[derive(Clone, Copy)]
-pub(crate) struct Draft {
+pub(crate) struct PolicyDraft {
     /// Of KSKs or CSKs.
     ksk: Term,
     zsk: Term,
@@ -252,12 +252,12 @@ fn with_once(renewal: &Term, moment: UnixTime) -> Option<Term>
     }
 }
 
-impl Draft {
+impl PolicyDraft {
     /// No line so far.
     pub(crate) fn new() -> Self
         ensures { result ≡ no_wish }
     {
-        Draft {
+        PolicyDraft {
             ksk: NEVER,
             zsk: NEVER,
             delete_after: None,
@@ -278,12 +278,12 @@ impl Draft {
         ensures { result ≡ with_slot self.now role renewal.now }
     {
         match role {
-            KeyRole::Zsk => Draft {
+            KeyRole::Zsk => PolicyDraft {
                 ksk: self.ksk,
                 zsk: *renewal,
                 delete_after: self.delete_after,
             },
-            KeyRole::Ksk | KeyRole::Csk => Draft {
+            KeyRole::Ksk | KeyRole::Csk => PolicyDraft {
                 ksk: *renewal,
                 zsk: self.zsk,
                 delete_after: self.delete_after,
@@ -296,7 +296,7 @@ impl Draft {
     {
         match self.delete_after {
             Some(_) => None,
-            None => Some(Draft {
+            None => Some(PolicyDraft {
                 ksk: self.ksk,
                 zsk: self.zsk,
                 delete_after: Some(seconds),
@@ -322,25 +322,25 @@ impl Draft {
     }
 
     /// After one more wish for the keys of a scheme.
-    fn said_after(&self, scheme: Scheme, wish: &Wish) -> Result<Self, LineFault>
+    fn said_after(&self, scheme: Scheme, wish: &Wish) -> Result<Self, WishFault>
         ensures { result ≡ said_after scheme self.now wish.now }
     {
         if !is_for(scheme, wish) {
-            return Err(LineFault::NoSuchKeys);
+            return Err(WishFault::NoSuchKeys);
         }
         match self.after(wish) {
             Some(more) => Ok(more),
-            None => Err(LineFault::SaidTwice),
+            None => Err(WishFault::SaidTwice),
         }
     }
 
     /// After one more line.
-    pub(crate) fn line_after(&self, scheme: Scheme, line: &[u8]) -> Result<Self, LineFault>
+    pub(crate) fn line_after(&self, scheme: Scheme, line: &[u8]) -> Result<Self, WishFault>
         ensures { result ≡ line_after scheme self.now line.now }
     {
         match read_wish(line) {
             Some(wish) => self.said_after(scheme, &wish),
-            None => Err(LineFault::Malformed),
+            None => Err(WishFault::Malformed),
         }
     }
 

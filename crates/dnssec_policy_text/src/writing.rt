@@ -7,7 +7,7 @@ ghost use Rattle.dnssec_policy_text.specs.Writing.{number_line, once_text, polic
 ghost use Rattle.dnssec_policy_text.specs.Writing.{renewal_text, renewals_text, rolls_text};
 ghost use Rattle.dnssec_policy_text.specs.Writing.{word_name, zsk_name};
 
-use crate::wish::Word;
+use crate::wish::WishWord;
 use dnssec_keyset::UnixTime;
 use dnssec_policy::{KeyRole, KskMethod, Policy, Scheme, Term, ZskMethod};
 use std::alloc::{AllocError, Global};
@@ -40,7 +40,7 @@ fn push_policy(text: &mut String, policy: &Policy) -> Result<(), AllocError>
 {
     push_first(text, policy)?;
     push_renewals(text, policy)?;
-    push_line(text, Word::DeleteAfter, u128::from(policy.delete_after))
+    push_line(text, WishWord::DeleteAfter, u128::from(policy.delete_after))
 }
 
 /// Writes the first line.
@@ -98,7 +98,7 @@ fn push_lifetime(text: &mut String, role: KeyRole, lifetime: Option<u64>) -> Res
 {
     match lifetime {
         None => Ok(()),
-        Some(seconds) => push_line(text, Word::Lifetime(role), u128::from(seconds)),
+        Some(seconds) => push_line(text, WishWord::Lifetime(role), u128::from(seconds)),
     }
 }
 
@@ -108,7 +108,7 @@ fn push_once(text: &mut String, role: KeyRole, once: Option<UnixTime>) -> Result
 {
     match once {
         None => Ok(()),
-        Some(moment) => push_line(text, Word::Once(role), whole_seconds(moment)),
+        Some(moment) => push_line(text, WishWord::Once(role), whole_seconds(moment)),
     }
 }
 
@@ -120,7 +120,7 @@ fn whole_seconds(moment: UnixTime) -> u128
 }
 
 /// Writes a line of a word and a number.
-fn push_line(text: &mut String, word: Word, number: u128) -> Result<(), AllocError>
+fn push_line(text: &mut String, word: WishWord, number: u128) -> Result<(), AllocError>
     ensures { OnOk result (string_bytes text.new ≡ string_bytes text.old
         ++ number_line word number) }
 {
@@ -158,16 +158,16 @@ fn zsk_name(method: ZskMethod) -> &'static str
 }
 
 /// The name of a word.
-fn word_name(word: Word) -> &'static str
+fn word_name(word: WishWord) -> &'static str
     ensures { result.now ≡ word_name word }
 {
     match word {
-        Word::Lifetime(KeyRole::Ksk) => "ksk-lifetime",
-        Word::Lifetime(KeyRole::Zsk) => "zsk-lifetime",
-        Word::Lifetime(KeyRole::Csk) => "csk-lifetime",
-        Word::Once(KeyRole::Ksk) => "ksk-once",
-        Word::Once(KeyRole::Zsk) => "zsk-once",
-        Word::Once(KeyRole::Csk) => "csk-once",
-        Word::DeleteAfter => "delete-after",
+        WishWord::Lifetime(KeyRole::Ksk) => "ksk-lifetime",
+        WishWord::Lifetime(KeyRole::Zsk) => "zsk-lifetime",
+        WishWord::Lifetime(KeyRole::Csk) => "csk-lifetime",
+        WishWord::Once(KeyRole::Ksk) => "ksk-once",
+        WishWord::Once(KeyRole::Zsk) => "zsk-once",
+        WishWord::Once(KeyRole::Csk) => "csk-once",
+        WishWord::DeleteAfter => "delete-after",
     }
 }

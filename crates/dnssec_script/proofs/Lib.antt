@@ -4,7 +4,7 @@
 -- |-------------------------|--------------------------------|-------------------|
 -- | `Fields::next`          | `next_field`                   | Cuts              |
 -- | `Fields::roll`          | `no_text`, `roll_read`         | Rolls, Ascii      |
--- | `KeyList::references`   | `each_reference`, `parts_of`   | Lists             |
+-- | `ReferenceList::references`   | `each_reference`, `parts_of`   | Lists             |
 -- | `algorithm`             | `no_algorithm`                 | Ascii             |
 -- | `reference`             | `reference_utf8`               | Ascii             |
 -- | `read_zone`             | `zone_none`, `spelled_utf8`    | Zone              |

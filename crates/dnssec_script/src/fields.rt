@@ -243,21 +243,21 @@ impl<'a> Fields<'a> {
 
     /// The next field as a list of references.
     #[tactic(auto, unfolding(crate::specs::Script::as_list))]
-    pub(crate) fn list(self) -> Option<(KeyList<'a>, Fields<'a>)>
+    pub(crate) fn list(self) -> Option<(ReferenceList<'a>, Fields<'a>)>
         ensures { option_map (λ x. (References x.0, x.1)) result ≡ value_at as_list self.entry }
     {
         let (text, fields) = self.next()?;
-        Some((KeyList::of(text)?, fields))
+        Some((ReferenceList::of(text)?, fields))
     }
 }
 
 /// A list of references that is still a part of its line, and takes no memory.
 #[derive(Drop)]
-pub(crate) struct KeyList<'a> {
+pub(crate) struct ReferenceList<'a> {
     text: &'a [u8],
 }
 
-impl<'a> Model for KeyList<'a> {
+impl<'a> Model for ReferenceList<'a> {
     ghost use Rattle.std.specs.Prelude.{◌≡◌, ℕ, List, true};
     ghost use Rattle.dnssec_script.specs.Script.{is_list, references_of};
 
@@ -268,13 +268,13 @@ impl<'a> Model for KeyList<'a> {
     ghost invariant = { λ list. is_list list.text.now ≡ true };
 }
 
-impl<'a> KeyList<'a> {
+impl<'a> ReferenceList<'a> {
     /// The list that the text is.
     fn of(text: &'a [u8]) -> Option<Self>
         ensures { result ≡ if is_list text.now then Some (references_of text.now) else None }
     {
         if is_list(text) {
-            Some(KeyList { text })
+            Some(ReferenceList { text })
         } else {
             None
         }

@@ -10,7 +10,7 @@ ghost use Rattle.dnssec_script.specs.Script.{stamp_forms, timed_flag_forms, trai
 ghost use Rattle.dnssec_script.specs.Script.{wait_forms};
 ghost use Rattle.dnssec_script.specs.Inner.Statement.{traits_say};
 
-use crate::fields::{Fields, KeyList};
+use crate::fields::{Fields, ReferenceList};
 use dnssec_base::SecurityAlgorithm;
 use dnssec_keyset::{RollType, UnixTime};
 use std::alloc::{AllocError, Global};
@@ -151,7 +151,7 @@ pub(crate) fn key<'a>(fields: Fields<'a>) -> Option<&'a str>
 /// The fields of a start, with lists that are parts of the line.
 pub(crate) fn start<'a>(
     fields: Fields<'a>,
-) -> Option<(RollType, KeyList<'a>, KeyList<'a>, UnixTime)>
+) -> Option<(RollType, ReferenceList<'a>, ReferenceList<'a>, UnixTime)>
     ensures { option_map (λ x. Roll x.0 ∷ References x.1 ∷ References x.2 ∷ Moment x.3 ∷ []) result
         ≡ values_of start_forms fields.entry }
 {

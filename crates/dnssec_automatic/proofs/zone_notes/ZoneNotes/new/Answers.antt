@@ -2,7 +2,7 @@
 use Rattle.std.proofs.Common.{subst, sym}
 use Rattle.dnssec_network.specs.Notes.{NotesParts}
 use Rattle.dnssec_policy_text.specs.Lint.{AreHighest}
-use Rattle.dnssec_automatic.proofs.noted.Noted.new.Goals as goal
+use Rattle.dnssec_automatic.proofs.zone_notes.ZoneNotes.new.Goals as goal
 
 pub returns-clause-highest : goal.returns-clause-highest
 returns-clause-highest c =

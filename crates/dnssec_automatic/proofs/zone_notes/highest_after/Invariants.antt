@@ -4,7 +4,7 @@ use denote.Bor.{now}
 use Rattle.dnssec_network.specs.declared.fact.Fact.{Fact}
 use Rattle.dnssec_notes.specs.Reading.{AreFacts}
 use Rattle.dnssec_policy_text.specs.Lint.{AreHighest}
-use Rattle.dnssec_automatic.proofs.noted.highest_after.Given as goal
+use Rattle.dnssec_automatic.proofs.zone_notes.highest_after.Given as goal
 
 abbrev pub invariant-loop-line : goal.invariant-loop-line
 invariant-loop-line l = (moments : List ℕ) (facts : List Fact) →

@@ -2,7 +2,7 @@
 use Rattle.std.proofs.Common.{List, ap, map, subst, sym, ℕ, ◌∙◌}
 use denote.Bor.{now}
 use Rattle.dnssec_notes.specs.Reading.{AreNotes}
-use Rattle.dnssec_automatic.proofs.noted.Noted.read.Goals as goal
+use Rattle.dnssec_automatic.proofs.zone_notes.ZoneNotes.read.Goals as goal
 
 pub returns-clause-highest : goal.returns-clause-highest
 returns-clause-highest c =

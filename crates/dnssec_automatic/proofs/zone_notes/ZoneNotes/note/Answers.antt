@@ -2,7 +2,7 @@
 use Rattle.std.proofs.Common.{subst, sym}
 use Rattle.dnssec_network.specs.Notes.{NotesParts}
 use Rattle.dnssec_policy_text.specs.Lint.{AreHighest}
-use Rattle.dnssec_automatic.proofs.noted.Noted.note.Goals as goal
+use Rattle.dnssec_automatic.proofs.zone_notes.ZoneNotes.note.Goals as goal
 
 pub returns-clause-ok : goal.returns-clause-ok
 returns-clause-ok c =

@@ -7,7 +7,7 @@ ghost use Rattle.dnssec_notes.specs.Lines.{as_fact, fact_says};
 ghost use Rattle.dnssec_notes.specs.Reading.{AreFacts, AreNotes};
 ghost use Rattle.dnssec_script.specs.Script.{lines_of};
 ghost use Rattle.dnssec_policy_text.specs.Lint.{AreHighest};
-ghost use Rattle.dnssec_automatic.specs.Noted.{HasHighest, TakesFact};
+ghost use Rattle.dnssec_automatic.specs.ZoneNotes.{HasHighest, TakesFact};
 
 use dnssec_network::{Before, Moments, News, NoteFault, Notes, SetKind};
 use dnssec_notes::{NotesFault, read_before, read_fact, read_notes};
@@ -17,18 +17,18 @@ use std::alloc::Global;
 
 /// The notes of a zone, and the highest TTLs that they have.
 #[derive(Drop)]
-pub(crate) struct Noted {
+pub(crate) struct ZoneNotes {
     notes: Notes,
     highest: HighestTtls,
 }
 
-impl Noted {
+impl ZoneNotes {
     /// Only the TTLs from before the first call.
     pub(crate) fn new(alloc: Global, before: Before) -> Self
         ensures notes { result.notes ≡ record { before = before; facts = [] } }
         ensures highest { HasHighest result }
     {
-        Noted {
+        ZoneNotes {
             notes: Notes::new(alloc, before),
             highest: HighestTtls::of_before(&before),
         }
@@ -43,7 +43,7 @@ impl Noted {
         let notes = read_notes(alloc, moments, text)?;
         let lines = all_lines(alloc, text)?;
         let highest = highest_in(&lines);
-        Ok(Noted { notes, highest })
+        Ok(ZoneNotes { notes, highest })
     }
 
     /// Notes one more fact.

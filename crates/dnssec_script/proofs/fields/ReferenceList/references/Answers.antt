@@ -8,7 +8,7 @@ use Rattle.std.specs.{List.list_all, List.slice_split}
 use Rattle.std.specs.Slice.Iter as slice
 use Rattle.dnssec_script.specs.Script.{is_reference}
 use Rattle.dnssec_script.proofs.Lists.{each_reference, parts_of}
-use Rattle.dnssec_script.proofs.fields.KeyList.references.Goals as goal
+use Rattle.dnssec_script.proofs.fields.ReferenceList.references.Goals as goal
 
 pub loop-part-preserved : goal.loop-part-preserved
 loop-part-preserved c =

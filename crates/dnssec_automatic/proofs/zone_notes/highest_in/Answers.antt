@@ -5,7 +5,7 @@ use Rattle.dnssec_network.specs.declared.fact.Before.{Before}
 use Rattle.dnssec_notes.specs.Lines.{before_says}
 use Rattle.dnssec_policy_text.specs.Lint.{AreHighest}
 use Rattle.dnssec_automatic.proofs.Facts.{first-line, no-notes, same-before}
-use Rattle.dnssec_automatic.proofs.noted.highest_in.Goals as goal
+use Rattle.dnssec_automatic.proofs.zone_notes.highest_in.Goals as goal
 
 pub returns-in_default : goal.returns-in_default
 returns-in_default c = λ moments before facts are.

@@ -6,7 +6,7 @@ use Rattle.dnssec_network.specs.declared.fact.Fact.{Fact}
 use Rattle.dnssec_notes.specs.Lines.{as_fact, fact_says}
 use Rattle.dnssec_policy_text.specs.Lint.{AreHighest}
 use Rattle.dnssec_automatic.proofs.Facts.{same-fact}
-use Rattle.dnssec_automatic.proofs.noted.with_line.Goals as goal
+use Rattle.dnssec_automatic.proofs.zone_notes.with_line.Goals as goal
 
 pub returns-in-None : goal.returns-in-None
 returns-in-None c = λ before facts fact says so.

@@ -5,7 +5,7 @@ use Rattle.std.proofs.lemmas.List.{take_all, take_more}
 use Rattle.dnssec_network.specs.declared.fact.Fact.{Fact}
 use Rattle.dnssec_policy_text.specs.Lint.{AreHighest}
 use Rattle.dnssec_automatic.proofs.Facts.{as-many, fact-at}
-use Rattle.dnssec_automatic.proofs.noted.highest_after.Goals as goal
+use Rattle.dnssec_automatic.proofs.zone_notes.highest_after.Goals as goal
 
 pub loop-line-init : goal.loop-line-init
 loop-line-init c = λ moments facts are. c.of_before-highest.ensures
