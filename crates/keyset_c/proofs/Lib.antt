@@ -1,3 +1,3 @@
 -- The library for C: a box that goes out as a pointer and comes back. The five proofs by hand are
--- under parts and place.
+-- under box_parts and pointer.
 pub mod Values

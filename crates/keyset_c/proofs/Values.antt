@@ -1,4 +1,4 @@
--- The machine values of `Parts` of a store, and of a `Place`. Assumes `Logic`.
+-- The machine values of `BoxParts` of a store, and of a `Pointer`. Assumes `Logic`.
 use Rattle.std.proofs.Common.{[], refl, ℕ, ◌≡◌}
 use Rattle.std.proofs.{ResultValues.and_tt, alloc.Calls.Al, alloc.Calls.Fits}
 use Rattle.std.specs.Prelude.{IsSome, None, Option, Some}
@@ -11,8 +11,8 @@ use mir.Val.{Val, WT, has_ty, vcons, vnil, vptr, vstruct}
 use Rattle.std.proofs.alloc.Global.TheLaws as heap_laws
 use Rattle.std.specs.contracts.alloc.Global as heap
 use Rattle.keyset_c.specs.contracts.kept.Kept as store
-use Rattle.keyset_c.specs.contracts.parts.Parts as parts
-use Rattle.keyset_c.specs.contracts.place.Place as place
+use Rattle.keyset_c.specs.contracts.box_parts.BoxParts as parts
+use Rattle.keyset_c.specs.contracts.pointer.Pointer as pointer
 
 abbrev pub R : RattleType
 R = store.the_row
@@ -34,9 +34,9 @@ abbrev pub Open : RattleType
 Open = parts.the_row R Z ghosts
 
 abbrev pub Shut : RattleType
-Shut = place.the_row
+Shut = pointer.the_row
 
--- the word of parts, and that of a place
+-- the word of parts, and that of a pointer
 abbrev pub both : Val → Val → Val
 both v w = vstruct (vcons v (vcons w vnil))
 

@@ -5,7 +5,7 @@ use Rattle.keyset_c.specs.declared.kept.Kept.{Kept}
 
 -- what it keeps, if it is open
 abbrev pub kept_by : Handle → Option Kept
-kept_by h = h.place.value
+kept_by h = h.pointer.value
 
 -- it is open if and only if it keeps something
 abbrev pub IsWhole : Handle → Type 0

@@ -3,8 +3,8 @@ ghost use Rattle.std.specs.Prelude.{◌≡◌, Some, None, IfNone, IfSome, is_so
 ghost use Rattle.keyset_c.specs.Handles.{IsWhole, kept_by};
 
 use crate::kept::Kept;
-use crate::parts::Parts;
-use crate::place::Place;
+use crate::box_parts::BoxParts;
+use crate::pointer::Pointer;
 use std::alloc::Global;
 use std::mem;
 
@@ -12,7 +12,7 @@ use std::mem;
 #[repr(C)]
 #[derive(Drop)]
 pub struct Handle {
-    pub(crate) place: Place,
+    pub(crate) pointer: Pointer,
     is_open: bool,
 }
 
@@ -34,9 +34,9 @@ impl Handle {
         ensures none { kept_by self.new ≡ None }
     {
         if self.is_open {
-            let place = mem::replace(&mut self.place, Place::none());
+            let pointer = mem::replace(&mut self.pointer, Pointer::none());
             self.is_open = false;
-            Some(place.into_parts(alloc).into_box())
+            Some(pointer.into_parts(alloc).into_box())
         } else {
             None
         }
@@ -48,7 +48,7 @@ impl Handle {
         ensures whole { IsWhole self.new }
         ensures kept { kept_by self.new ≡ Some kept.value }
     {
-        self.place = Place::of_parts(Parts::of(kept));
+        self.pointer = Pointer::of_parts(BoxParts::of(kept));
         self.is_open = true;
     }
 }

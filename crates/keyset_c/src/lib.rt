@@ -16,10 +16,10 @@ ghost use Rattle.keyset_c.specs.Sessions.{AcceptsLine, Calls, IfOpen, NotesLine,
 ghost use Rattle.keyset_c.specs.Sessions.{RefusesCall, RefusesNote};
 
 mod answered;
+mod box_parts;
 mod handle;
 mod kept;
-mod parts;
-mod place;
+mod pointer;
 mod policies;
 mod questions;
 mod sessions;

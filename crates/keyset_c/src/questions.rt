@@ -22,7 +22,7 @@ pub extern "C" fn keyset_calls(session: &mut Handle) -> usize
     if !session.is_open() {
         return 0;
     }
-    let kept = session.place.look();
+    let kept = session.pointer.look();
     kept.session.calls()
 }
 
@@ -41,7 +41,7 @@ pub extern "C" fn keyset_told(session: &mut Handle, out: &mut [u8]) -> Answered
     if !session.is_open() {
         return fault(CLOSED);
     }
-    let kept = session.place.look();
+    let kept = session.pointer.look();
     hand_out(kept.answer.as_bytes(), out)
 }
 
@@ -64,7 +64,7 @@ pub extern "C" fn keyset_closing(alloc: Global, session: &mut Handle, out: &mut 
     if !session.is_open() {
         return fault(CLOSED);
     }
-    let kept = session.place.look();
+    let kept = session.pointer.look();
     tell_closing(alloc, &kept.session, out)
 }
 
@@ -86,7 +86,7 @@ pub extern "C" fn keyset_status(alloc: Global, session: &mut Handle, out: &mut [
     if !session.is_open() {
         return fault(CLOSED);
     }
-    let kept = session.place.look();
+    let kept = session.pointer.look();
     tell_status(alloc, &kept.session, out)
 }
 
@@ -116,7 +116,7 @@ pub extern "C" fn keyset_due(
     if !session.is_open() {
         return fault(CLOSED);
     }
-    let kept = session.place.look();
+    let kept = session.pointer.look();
     tell_due(alloc, kept, seconds, out)
 }
 
@@ -141,7 +141,7 @@ pub extern "C" fn keyset_copy(alloc: Global, session: &mut Handle, copy: &mut Ha
     if !session.is_open() {
         return CLOSED;
     }
-    let kept = session.place.look();
+    let kept = session.pointer.look();
     match copy_of(alloc, kept) {
         Ok(made) => {
             copy.put(made);

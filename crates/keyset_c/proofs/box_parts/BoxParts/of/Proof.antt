@@ -3,7 +3,7 @@ use Rattle.std.proofs.BoxSteps.Form.{B, Bx, D, P, R, box_typed, word, τ}
 use Rattle.std.proofs.BoxSteps.Steps.{box_in, box_out}
 use Rattle.std.proofs.alloc.Calls.{Goes-blank, handle_tells, token}
 use Rattle.std.{proofs.raw_atomic.Walks.proved_at, specs.Box.Ownership.box_owns}
-use Rattle.keyset_c.specs.contracts.parts.Parts.of.Key.{name as #self}
+use Rattle.keyset_c.specs.contracts.box_parts.BoxParts.of.Key.{name as #self}
 use base.{Fml.flft, Fml.fsep, Fml.ftrue, Logic.SProp, Logic.fst∗, Logic.id⊢, Logic.never}
 use contract.{BorrowLft.◌⊑◌, Monad.fact, Running.tables, Running.tables_of}
 use denote.{Exit.no, Param.bounded, RattleType.RattleType}
@@ -21,13 +21,13 @@ use types.Kit.{ !, Item, await, done, drop, feq_l, fjoin, fpick, fsplit, join, l
 use types.Kit.{prop, qed, raw, regoal, rewrite, some, split, split3, suffices, use1, ‵, ◌$◌, ◌∵◌}
 use types.{Kit.◌⊛◌, Logic.sem, Part.agg, Part.sub, Part.whole}
 use types.Run.{and_then, enter, fld, no_more, of_opd, returns, stop}
-use Rattle.keyset_c.specs.contracts.parts.Parts as parts
+use Rattle.keyset_c.specs.contracts.box_parts.BoxParts as parts
 use Rattle.std.specs.contracts.boxed.Box.into_raw_with_allocator as Ra
 use Rattle.std.proofs.boxed.Box.into_raw_with_allocator.Symbol as raw_sym
 use Rattle.std.proofs.boxed.Box.into_raw_with_allocator.Met as raw_met
-use Rattle.keyset_c.specs.contracts.parts.Parts.of as F
-use Rattle.keyset_c.proofs.parts.Parts.of.Statement as stated
-use Rattle.keyset_c.proofs.parts.Parts.of.Code as code
+use Rattle.keyset_c.specs.contracts.box_parts.BoxParts.of as F
+use Rattle.keyset_c.proofs.box_parts.BoxParts.of.Statement as stated
+use Rattle.keyset_c.proofs.box_parts.BoxParts.of.Code as code
 
 pub of_spec : {M : Type 1} → stated.statement M
 unfolding tables_of

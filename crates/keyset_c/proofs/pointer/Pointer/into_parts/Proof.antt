@@ -4,9 +4,9 @@ use Rattle.std.proofs.alloc.Calls.{Goes-blank, handle_tells}
 use Rattle.std.proofs.raw_atomic.Walks.{leaves, proved_at}
 use Rattle.std.specs.{Box.Ownership.box_owns, contracts.impls.GlobalAllocator.TheImpl.ghosts}
 use Rattle.keyset_c.proofs.Values.{R, Shut, Z, al, both, both_good, one, some_is}
-use Rattle.keyset_c.proofs.place.Place.into_parts.Statement.{statement}
+use Rattle.keyset_c.proofs.pointer.Pointer.into_parts.Statement.{statement}
 use Rattle.keyset_c.specs.Owned.{chunk, kept_owned}
-use Rattle.keyset_c.specs.contracts.place.Place.into_parts.{Key.name as #self, clauses, ended}
+use Rattle.keyset_c.specs.contracts.pointer.Pointer.into_parts.{Key.name as #self, clauses, ended}
 use base.Logic.{SProp, emp, fst∗, never}
 use contract.{Monad.fact, Monad.fact_i, Running.tables}
 use denote.{Builtin.RawPtr, Exit.yes, Memory.lone, RattleType.Valss, RattleType.owns}
@@ -21,8 +21,8 @@ use types.Kit.{ !, by, drop, feq_i, feq_l, fjoin, fpack, fpick, fsplit, keep, mo
 use types.Kit.{regoal, rewrite, split, use0, ‵, ◌$◌, ◌∵◌, ◌⊛◌}
 use types.{Logic.sem, Part.agg, Part.sub, Part.whole}
 use types.Run.{and_then, enter, fld, no_more, of_opd, returns, stop}
-use Rattle.keyset_c.specs.contracts.parts.Parts as parts
-use Rattle.keyset_c.proofs.place.Place.into_parts.Code as compiled
+use Rattle.keyset_c.specs.contracts.box_parts.BoxParts as parts
+use Rattle.keyset_c.proofs.pointer.Pointer.into_parts.Code as compiled
 
 pub into_parts_spec : {M : Type 1} → statement M
 into_parts_spec 𝓤 𝓛 𝓜 𝓡 wired =

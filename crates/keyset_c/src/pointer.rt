@@ -7,7 +7,7 @@ ghost use Rattle.keyset_c.specs.contracts.kept.Kept.{the_row};
 ghost use Rattle.keyset_c.specs.Owned.{kept_owned};
 
 use crate::kept::Kept;
-use crate::parts::Parts;
+use crate::box_parts::BoxParts;
 use std::alloc::Global;
 use std::marker::Model;
 use std::ptr::null_mut;
@@ -18,31 +18,31 @@ use std::ptr::null_mut;
 /// and the ghost value says what it owns.
 #[repr(C)]
 #[derive(Drop)]
-pub struct Place {
+pub struct Pointer {
     ptr: *mut u8,
     pub ghost value: { Option Value } by { coded_option the_row.coded },
 }
 
-impl Model for Place {
+impl Model for Pointer {
     ghost also_owns = { λ p. kept_owned p.ptr p.value };
 }
 
-impl Place {
+impl Pointer {
     ghost use Rattle.keyset_c.specs.Lent.{lends_kept};
 
     /// Keeps nothing.
-    pub(crate) fn none() -> Place
+    pub(crate) fn none() -> Pointer
         ensures { result.value ≡ None }
     {
-        Place { ptr: null_mut() }
+        Pointer { ptr: null_mut() }
     }
 
     /// Keeps what is in a box.
-    pub(crate) fn of_parts(parts: Parts<Kept, Global>) -> Place
+    pub(crate) fn of_parts(parts: BoxParts<Kept, Global>) -> Pointer
         ensures { result.value ≡ Some parts.value }
     {
-        let Parts { ptr, alloc: _ } = parts;
-        Place {
+        let BoxParts { ptr, alloc: _ } = parts;
+        Pointer {
             ptr: ptr as *mut u8,
         }
     }
@@ -57,12 +57,12 @@ impl Place {
     }
 
     /// The box again, by its parts.
-    pub(crate) fn into_parts(self, alloc: Global) -> Parts<Kept, Global>
+    pub(crate) fn into_parts(self, alloc: Global) -> BoxParts<Kept, Global>
         requires { IsSome self.value }
         ensures { Some result.value ≡ self.value }
     {
-        let Place { ptr } = self;
-        Parts {
+        let Pointer { ptr } = self;
+        BoxParts {
             ptr: ptr as *mut Kept,
             alloc,
         }

@@ -1,16 +1,16 @@
--- `look` reads the pointer, and lends what it points to: the place follows that.
+-- `look` reads the pointer, and lends what it points to: `Pointer` follows that.
 use Rattle.std.proofs.Common.{IsSome, List, Option, Some, [], ap, refl, sym, ◌++◌, ◌∙◌, ◌∷◌, ◌≡◌}
 use Rattle.std.proofs.Common.{ℕ}
 use Rattle.std.proofs.raw_atomic.Walks.{proved}
 use Rattle.std.specs.Box.Ownership.{box_owns}
 use Rattle.keyset_c.proofs.Values.{R, Shut, one, some_is}
-use Rattle.keyset_c.proofs.place.Place.look.Statement.{statement}
+use Rattle.keyset_c.proofs.pointer.Pointer.look.Statement.{statement}
 use Rattle.keyset_c.specs.Lent.{with_kept}
 use Rattle.keyset_c.specs.Owned.{chunk, kept_owned}
-use Rattle.keyset_c.specs.contracts.place.Place as place
-use Rattle.keyset_c.specs.contracts.place.Place.look.{Key.name as #self, clauses, ended}
-use Rattle.keyset_c.proofs.place.Place.look.Code as compiled
-use Rattle.keyset_c.specs.declared.place.Place.{Place}
+use Rattle.keyset_c.specs.contracts.pointer.Pointer as pointer
+use Rattle.keyset_c.specs.contracts.pointer.Pointer.look.{Key.name as #self, clauses, ended}
+use Rattle.keyset_c.proofs.pointer.Pointer.look.Code as compiled
+use Rattle.keyset_c.specs.declared.pointer.Pointer.{Pointer}
 use seplogic.Ra.Ura.{Ura}
 use base.Fml.{Fml, GName, Lft, Share, flft, fsep, ftrue}
 use base.{Fraction.full_share, Logic.SProp, Logic.ent, Logic.fst∗, Logic.never, Logic.sep}
@@ -32,13 +32,13 @@ use types.{Logic.Logic, Logic.sem, Part.look_in, Part.sub, Part.whole}
 use types.Run.{addr, blocks, enter, exec, first, fld, load, of_opd, returns, stop}
 use Rattle.std.proofs.alloc.Shapes.{after}
 
--- all of the place but what it keeps
+-- all of the pointer but what it keeps
 abbrev Rest : (b o rb ro : ℕ) → Fml
 Rest b o rb ro = fsep (chunk (bare (lone R.mir)) (block_ptr b o))
     (cell_at full_share Shut.mir (one (vptr b o) ∷ []) rb ro)
 
--- with it and anything else the place keeps that
-back : {M : Type 1} {𝓤 : Ura M} (𝓛 : Logic 𝓤) (h : Place) (b o rb ro : ℕ) → h.ptr ≡ block_ptr b o
+-- with it and anything else the pointer keeps that
+back : {M : Type 1} {𝓤 : Ura M} (𝓛 : Logic 𝓤) (h : Pointer) (b o rb ro : ℕ) → h.ptr ≡ block_ptr b o
     → (w : R.Denot) → ent 𝓤 (sep 𝓤 (sem 𝓛 ((mem R).own_at w b o)) (sem 𝓛 (Rest b o rb ro)))
     (sem 𝓛 ((mem Shut).own_at (with_kept h w) rb ro))
 unfolding part_of
@@ -50,7 +50,7 @@ back 𝓛 h b o rb ro at_b w =
     nothing ! $ feq_i ! (List Val) (vptr b o ∷ []) (ptr_val h.ptr ∷ [])
     (ap (λ (p : Ptr). ptr_val p ∷ []) (sym at_b)) $ fjoin ! $
     feq_i ! (List Val) (v ∷ []) (v ∷ []) refl $ fjoin ! $
-    fpack ! (Valss (RawPtr ∷ [])) (within (shape place.the_type) (h.ptr, tt) (v ∷ []))
+    fpack ! (Valss (RawPtr ∷ [])) (within (shape pointer.the_type) (h.ptr, tt) (v ∷ []))
     (vptr b o ∷ [], tt) $ fjoin ! $ move ! (1 ∷ 0 ∷ []) $ fjoin ! $
     fpack ! (List Val) (λ us. fsep (cell_at full_share Shut.mir us rb ro)
     (Shut.own_val (with_kept h w) us)) (v ∷ []) $ done !
@@ -65,7 +65,7 @@ look_spec 𝓤 𝓛 𝓜 𝓡 wired =
     (compiled.unfolded 𝓤 H 𝓜 𝓡 wired) (λ κs. (mut_vals, tt))
     (λ κs. (mut_Tells (named 0) κs.0 Shut, tt)) (λ κs qs bounds a gh are.
     let κ : Lft = κs.0 in let q : Share = qs.0 in let rb : ℕ = a.0.ref_ptr.0 in
-    let ro : ℕ = a.0.ref_ptr.1 in let γ : GName = a.0.ghost_name in let h : Place = a.0.now in
+    let ro : ℕ = a.0.ref_ptr.1 in let γ : GName = a.0.ghost_name in let h : Pointer = a.0.now in
     let y : (walk_of 𝓛 En hs c).Ghost = ((κs, qs, bounds, a, (vptr rb ro ∷ [], tt)), gh) in
     let Post : Val → SProp 𝓤 = (walk_of 𝓛 En hs c).post y in
     qed 𝓛 (((‵ (flft κ q) ⊛ ‵ ftrue) ⊛ ‵ (owns (types_at En.signature.params κs) a y.0.4))

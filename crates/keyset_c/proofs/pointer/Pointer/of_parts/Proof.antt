@@ -3,8 +3,8 @@ use Rattle.std.proofs.Common.{List, Some, [], ap, refl, ◌++◌, ◌∙◌, ◌
 use Rattle.std.proofs.{alloc.Calls.Goes-blank, alloc.Calls.handle_tells, raw_atomic.Walks.leaves}
 use Rattle.std.{proofs.raw_atomic.Walks.proved_at, specs.Box.Ownership.box_owns}
 use Rattle.keyset_c.proofs.Values.{Open, R, al, both, both_good, one}
-use Rattle.keyset_c.{proofs.place.Place.of_parts.Statement.statement, specs.Owned.chunk}
-use Rattle.keyset_c.specs.contracts.place.Place.of_parts.{Key.name as #self, clauses, ended}
+use Rattle.keyset_c.{proofs.pointer.Pointer.of_parts.Statement.statement, specs.Owned.chunk}
+use Rattle.keyset_c.specs.contracts.pointer.Pointer.of_parts.{Key.name as #self, clauses, ended}
 use base.{Fml.ftrue, Logic.SProp, Logic.emp, Logic.fst∗, Logic.never}
 use contract.{Monad.fact, Monad.fact_i, Running.tables}
 use denote.{Builtin.RawPtr, Exit.yes, Memory.lone, RattleType.Valss, RattleType.owns, RawPtr.Ptr}
@@ -18,8 +18,8 @@ use types.Kit.{ !, by, drop, feq_i, feq_l, fjoin, fpack, fpick, fsplit, keep, mo
 use types.Kit.{regoal, split, use0, ‵, ◌$◌, ◌∵◌, ◌⊛◌}
 use types.{Logic.sem, Part.agg, Part.sub, Part.whole}
 use types.Run.{and_then, enter, fld, no_more, of_opd, returns, stop}
-use Rattle.keyset_c.specs.contracts.place.Place as place
-use Rattle.keyset_c.proofs.place.Place.of_parts.Code as compiled
+use Rattle.keyset_c.specs.contracts.pointer.Pointer as pointer
+use Rattle.keyset_c.proofs.pointer.Pointer.of_parts.Code as compiled
 
 pub of_parts_spec : {M : Type 1} → statement M
 of_parts_spec 𝓤 𝓛 𝓜 𝓡 wired =
@@ -53,7 +53,7 @@ of_parts_spec 𝓤 𝓛 𝓜 𝓡 wired =
     let v : Val = one (vptr b o) in
     nothing ! $ feq_i ! (List Val) (vptr b o ∷ []) (vptr b o ∷ []) refl $ fjoin ! $
     feq_i ! (List Val) (v ∷ []) (v ∷ []) refl $ fjoin ! $
-    fpack ! (Valss (RawPtr ∷ [])) (within (shape place.the_type) (block_ptr b o, tt) (v ∷ []))
+    fpack ! (Valss (RawPtr ∷ [])) (within (shape pointer.the_type) (block_ptr b o, tt) (v ∷ []))
     (vptr b o ∷ [], tt) $ fjoin ! $ use0 𝓛 (raw (fact 𝓤 (Some x.value ≡ Some x.value)))
     (fact_i 𝓤 (Some x.value ≡ Some x.value) (emp 𝓤) refl) $ nothing ! $ nothing ! $ fjoin ! $
     keep ! (4 ∷ 0 ∷ 2 ∷ 1 ∷ []) $

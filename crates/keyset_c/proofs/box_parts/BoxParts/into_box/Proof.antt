@@ -2,7 +2,7 @@
 use Rattle.std.proofs.BoxSteps.Form.{B, Bx, D, P, R, args, box_ty, box_typed, word}
 use Rattle.std.proofs.BoxSteps.Steps.{box_in, box_out}
 use Rattle.std.proofs.{alloc.Calls.Goes-blank, raw_atomic.Walks.proved_at}
-use Rattle.keyset_c.specs.contracts.parts.Parts.into_box.Key.{name as #self}
+use Rattle.keyset_c.specs.contracts.box_parts.BoxParts.into_box.Key.{name as #self}
 use base.{Fml.flft, Fml.fsep, Fml.ftrue, Logic.SProp, Logic.id⊢}
 use contract.{BorrowLft.◌⊑◌, Monad.fact, Running.tables, Running.tables_of}
 use denote.{Exit.no, RattleType.RattleType, RawPtr.block_ptr, Signature.plain}
@@ -21,13 +21,13 @@ use types.Kit.{ !, Item, at_ret, await, done, drop, feq_i, fjoin, fsplit, join, 
 use types.Kit.{prop, qed, raw, regoal, rewrite, some, split, split3, suffices, use1, ‵, ◌$◌, ◌∵◌}
 use types.{Kit.◌⊛◌, Part.sub, Part.whole}
 use types.Run.{and_then, blocks, enter, exec, first, fld, no_more, of_opd, returns, stop}
-use Rattle.keyset_c.specs.contracts.parts.Parts as parts
+use Rattle.keyset_c.specs.contracts.box_parts.BoxParts as parts
 use Rattle.std.specs.contracts.boxed.Box.from_raw as Fr
 use Rattle.std.proofs.boxed.Box.from_raw.Symbol as raw_sym
 use Rattle.std.proofs.boxed.Box.from_raw.Met as raw_met
-use Rattle.keyset_c.specs.contracts.parts.Parts.into_box as F
-use Rattle.keyset_c.proofs.parts.Parts.into_box.Statement as stated
-use Rattle.keyset_c.proofs.parts.Parts.into_box.Code as code
+use Rattle.keyset_c.specs.contracts.box_parts.BoxParts.into_box as F
+use Rattle.keyset_c.proofs.box_parts.BoxParts.into_box.Statement as stated
+use Rattle.keyset_c.proofs.box_parts.BoxParts.into_box.Code as code
 
 abbrev rest : Body
 rest = seq (assign (place 0 []) (rv_opd (copy (place 4 [])))) return

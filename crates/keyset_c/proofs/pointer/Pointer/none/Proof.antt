@@ -1,8 +1,8 @@
 -- `none` keeps nothing, and its pointer is null.
 use Rattle.std.proofs.Common.{List, None, Option, [], lit<, refl, ◌∷◌, ◌≡◌}
 use Rattle.std.proofs.raw_atomic.Walks.{leaves, proved_at}
-use Rattle.keyset_c.proofs.{Values.R, Values.one, place.Place.none.Statement.statement}
-use Rattle.keyset_c.specs.contracts.place.Place.none.{Key.name as #self, clauses, ended}
+use Rattle.keyset_c.proofs.{Values.R, Values.one, pointer.Pointer.none.Statement.statement}
+use Rattle.keyset_c.specs.contracts.pointer.Pointer.none.{Key.name as #self, clauses, ended}
 use base.{Fml.ftrue, Logic.SProp, Logic.emp}
 use contract.{Monad.fact, Monad.fact_i, Running.tables}
 use denote.{Builtin.RawPtr, RattleType.Valss, RattleType.owns, RawPtr.null_ptr, RawPtr.ptr_val}
@@ -12,8 +12,8 @@ use mir.{Syntax.Fn, Val.Val}
 use types.ByLocal.{alloc_all, free_all, look_at, pass_all, sets}
 use types.Kit.{ !, by, drop, feq_i, fjoin, fpack, keep, move, qed, raw, split, use0, ‵, ◌$◌, ◌∵◌}
 use types.{Kit.◌⊛◌, Part.agg, Run.and_then, Run.enter, Run.lit, Run.no_more, Run.returns}
-use Rattle.keyset_c.specs.contracts.place.Place as place
-use Rattle.keyset_c.proofs.place.Place.none.Code as compiled
+use Rattle.keyset_c.specs.contracts.pointer.Pointer as pointer
+use Rattle.keyset_c.proofs.pointer.Pointer.none.Code as compiled
 
 pub none_spec : {M : Type 1} → statement M
 none_spec 𝓤 𝓛 𝓜 𝓡 wired =
@@ -33,7 +33,7 @@ none_spec 𝓤 𝓛 𝓜 𝓡 wired =
     let v : Val = one (ptr_val null_ptr) in
     nothing ! $ nothing ! $ feq_i ! (List Val) (ptr_val null_ptr ∷ []) (ptr_val null_ptr ∷ [])
     refl $ fjoin ! $ feq_i ! (List Val) (v ∷ []) (v ∷ []) refl $ fjoin ! $
-    fpack ! (Valss (RawPtr ∷ [])) (within (shape place.the_type) (null_ptr, tt) (v ∷ []))
+    fpack ! (Valss (RawPtr ∷ [])) (within (shape pointer.the_type) (null_ptr, tt) (v ∷ []))
     (ptr_val null_ptr ∷ [], tt) $ fjoin ! $
     use0 𝓛 (raw (fact 𝓤 Same)) (fact_i 𝓤 Same (emp 𝓤) refl) $ nothing ! $
     keep ! (3 ∷ 0 ∷ 2 ∷ 1 ∷ []) $
