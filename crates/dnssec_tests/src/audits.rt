@@ -1,5 +1,5 @@
 //! Verdicts on records: of scripts, and of entries made by hand.
-use crate::values::{MAX, Parts, duration};
+use crate::values::{MAX, TimeParts, duration};
 use Further::{NoDnskey, StrangersDs};
 use dnssec_keyset::{RollType, UnixTime};
 use dnssec_record::{
@@ -93,14 +93,14 @@ const UNRETIRED: &[(&[&str], Further, Positions)] = &[
 ];
 
 /// Keys, each with the position of its add.
-type Keys = &'static [(&'static str, usize)];
+type KeyPositions = &'static [(&'static str, usize)];
 
 /// An entry by hand: its mark, its moment, and the DS and DNSKEY sets. The key K signs the DNSKEY
 /// set, and the key Z signs the zone.
-type Row = (Mark, Option<Parts>, Keys, Keys);
+type Row = (Mark, Option<TimeParts>, KeyPositions, KeyPositions);
 
 /// The DNSKEY set of all entries.
-const DNSKEY: Keys = &[("K", 1), ("Z", 2)];
+const DNSKEY: KeyPositions = &[("K", 1), ("Z", 2)];
 
 /// The roll that they record.
 const ROLL: RollType = RollType::AlgorithmRoll;
@@ -176,7 +176,7 @@ fn verdicts_on(alloc: Global, parts: &[&str], further: Further) -> Result<Verdic
     verdicts(alloc, &entries)
 }
 
-fn keys(alloc: Global, listed: Keys) -> Result<Vec<PublishedKey>, AllocError> {
+fn keys(alloc: Global, listed: KeyPositions) -> Result<Vec<PublishedKey>, AllocError> {
     let mut keys = Vec::new(alloc);
     for (reference, added) in listed {
         let reference = String::from_str(alloc, reference)?;

@@ -37,7 +37,7 @@ const ANY: usize = usize::MAX;
 
 /// Bytes to read, until a call fails.
 #[derive(Drop)]
-struct Input<'a> {
+struct ByteSource<'a> {
     left: &'a [u8],
     /// How many bytes a call gives at most. 0 counts as 1.
     most: usize,
@@ -46,7 +46,7 @@ struct Input<'a> {
     faults: u64,
 }
 
-impl<'a> Source for Input<'a> {
+impl<'a> Source for ByteSource<'a> {
     ghost left = { λ _. None };
 
     ghost faults = { λ input. input.faults };
@@ -70,7 +70,7 @@ impl<'a> Source for Input<'a> {
 
 /// Takes bytes, until a call fails.
 #[derive(Drop)]
-struct Output {
+struct ByteSink {
     taken: Vec<u8>,
     /// How many bytes a call takes at most. 0 counts as 1.
     most: usize,
@@ -79,7 +79,7 @@ struct Output {
     faults: u64,
 }
 
-impl Sink for Output {
+impl Sink for ByteSink {
     ghost taken = { λ _. None };
 
     ghost faults = { λ output. output.faults };
@@ -126,13 +126,13 @@ pub const FAULT: Result<(), ScriptFault> = Err(ScriptFault::Device);
 
 /// Runs a script over devices: how it ended, and what was written.
 fn follow(alloc: Global, script: &[u8], devices: Devices) -> (Result<(), ScriptFault>, Vec<u8>) {
-    let mut input = Input {
+    let mut input = ByteSource {
         left: script,
         most: devices.most_read,
         served: devices.reads,
         faults: 0,
     };
-    let mut output = Output {
+    let mut output = ByteSink {
         taken: Vec::new(alloc),
         most: devices.most_written,
         served: devices.writes,

@@ -15,23 +15,23 @@ const KINDS: [ErrorKind; 3] = [
 
 /// The calls of a reader or a writer. One of them fails.
 #[derive(Clone, Copy)]
-struct Calls {
+struct DeviceCalls {
     made: usize,
     /// The number of the call that fails, counted from 1.
     failing: usize,
     kind: ErrorKind,
 }
 
-impl Calls {
+impl DeviceCalls {
     /// Calls that never fail.
-    const SERVED: Calls = Calls {
+    const SERVED: DeviceCalls = DeviceCalls {
         made: 0,
         failing: 0,
         kind: ErrorKind::Other,
     };
 
-    fn failing(call: usize, kind: ErrorKind) -> Calls {
-        Calls {
+    fn failing(call: usize, kind: ErrorKind) -> DeviceCalls {
+        DeviceCalls {
             made: 0,
             failing: call,
             kind,
@@ -53,7 +53,7 @@ impl Calls {
 #[derive(Drop)]
 struct FailingReader<'a> {
     left: &'a [u8],
-    calls: Calls,
+    calls: DeviceCalls,
 }
 
 impl<'a> Read for FailingReader<'a> {
@@ -70,7 +70,7 @@ impl<'a> Read for FailingReader<'a> {
 #[derive(Drop)]
 struct FailingWriter {
     taken: Vec<u8>,
-    calls: Calls,
+    calls: DeviceCalls,
 }
 
 impl Write for FailingWriter {
@@ -90,7 +90,7 @@ impl Write for FailingWriter {
 /// many faults of the two, and with this written.
 fn ends(
     alloc: Global,
-    [reads, writes]: [Calls; 2],
+    [reads, writes]: [DeviceCalls; 2],
     ended: &Result<(), ScriptFault>,
     faults: [u64; 2],
     written: &str,
@@ -116,12 +116,12 @@ fn each_read_fails_once(rt: HostRuntime) -> Result<(), Fail> {
     let mut errors = 0u64;
     for kind in KINDS {
         for failing in 1..=reads {
-            let calls = [Calls::failing(failing, kind), Calls::SERVED];
+            let calls = [DeviceCalls::failing(failing, kind), DeviceCalls::SERVED];
             let is_so = ends(rt.alloc(), calls, &FAULT, [1, 0], "");
             assert!(rt; is_so, "at read {failing}");
             errors = errors.saturating_add(1);
         }
-        let calls = [Calls::failing(reads + 1, kind), Calls::SERVED];
+        let calls = [DeviceCalls::failing(reads + 1, kind), DeviceCalls::SERVED];
         assert!(rt; ends(rt.alloc(), calls, &Ok(()), [0, 0], FIRST_ANSWERS));
     }
     println!(rt; "dnssec_tests: {errors} reader errors")?;
@@ -135,13 +135,13 @@ fn each_write_fails_once(rt: HostRuntime) -> Result<(), Fail> {
     let mut errors = 0u64;
     for kind in KINDS {
         for failing in 1..=writes {
-            let calls = [Calls::SERVED, Calls::failing(failing, kind)];
+            let calls = [DeviceCalls::SERVED, DeviceCalls::failing(failing, kind)];
             let written = FIRST_ANSWERS.get(..failing - 1).unwrap_or("none");
             let is_so = ends(rt.alloc(), calls, &FAULT, [0, 1], written);
             assert!(rt; is_so, "at write {failing}");
             errors = errors.saturating_add(1);
         }
-        let calls = [Calls::SERVED, Calls::failing(writes + 1, kind)];
+        let calls = [DeviceCalls::SERVED, DeviceCalls::failing(writes + 1, kind)];
         assert!(rt; ends(rt.alloc(), calls, &Ok(()), [0, 0], FIRST_ANSWERS));
     }
     println!(rt; "dnssec_tests: {errors} writer errors")?;
@@ -153,7 +153,7 @@ fn each_write_fails_once(rt: HostRuntime) -> Result<(), Fail> {
 fn a_reader_goes_on_after_its_fault(rt: HostRuntime) {
     let mut input = Std::new(FailingReader {
         left: b"ab",
-        calls: Calls::failing(2, ErrorKind::Other),
+        calls: DeviceCalls::failing(2, ErrorKind::Other),
     });
     let mut piece = [0; 8];
     for (answer, faults) in [
@@ -173,7 +173,7 @@ fn a_reader_goes_on_after_its_fault(rt: HostRuntime) {
 fn a_writer_goes_on_after_its_fault(rt: HostRuntime) {
     let mut output = Std::new(FailingWriter {
         taken: Vec::new(rt.alloc()),
-        calls: Calls::failing(2, ErrorKind::Other),
+        calls: DeviceCalls::failing(2, ErrorKind::Other),
     });
     for (answer, faults) in [(Ok(1), 0), (Err(DeviceFault), 1), (Ok(1), 1)] {
         assert!(rt; output.faults() <= 1);

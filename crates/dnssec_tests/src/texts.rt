@@ -1,5 +1,5 @@
 //! What an operator reads of refusals and faults.
-use crate::values::{MAX, Parts, duration};
+use crate::values::{MAX, TimeParts, duration};
 use dnssec_base::NameError;
 use dnssec_keyset::Error;
 use dnssec_network::NoteFault;
@@ -41,7 +41,7 @@ const REFUSALS: &[(Error, &str)] = &[
 
 /// How long a wait still lasts, and what its refusal prints. A duration is printed in its largest
 /// unit, with the decimals that are left. The micro sign is that of Latin-1.
-const WAITS: &[(Parts, &str)] = &[
+const WAITS: &[(TimeParts, &str)] = &[
     ((1, 0), "wait for duration 1s"),
     ((60, 0), "wait for duration 60s"),
     ((1, 500_000_000), "wait for duration 1.5s"),

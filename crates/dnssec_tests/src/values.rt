@@ -4,13 +4,13 @@ use std::alloc::Global;
 use std::time::Duration;
 
 /// A duration, or a moment by the time since 1970, in seconds and nanoseconds.
-pub type Parts = (u64, u64);
+pub type TimeParts = (u64, u64);
 
 /// The longest duration, and the greatest moment.
-pub const MAX: Parts = (u64::MAX, 999_999_999);
+pub const MAX: TimeParts = (u64::MAX, 999_999_999);
 
 /// A moment and a duration, and the moment that is so much later, if there is one.
-const SUMS: &[(Parts, Parts, Option<Parts>)] = &[
+const SUMS: &[(TimeParts, TimeParts, Option<TimeParts>)] = &[
     ((10, 999_999_999), (0, 2), Some((11, 1))),
     ((10, 999_999_999), (0, 0), Some((10, 999_999_999))),
     (MAX, (0, 0), Some(MAX)),
@@ -19,7 +19,7 @@ const SUMS: &[(Parts, Parts, Option<Parts>)] = &[
 ];
 
 /// Two moments, and how long before the second the first one is.
-const ELAPSED: &[(Parts, Parts, Parts)] = &[
+const ELAPSED: &[(TimeParts, TimeParts, TimeParts)] = &[
     ((5, 0), (9, 0), (4, 0)),
     ((10, 0), (10, 999_999_999), (0, 999_999_999)),
     ((10, 999_999_999), (11, 0), (0, 1)),
@@ -51,12 +51,12 @@ const ROLLS: &[(&str, Result<RollType, Error>)] = &[
     ("KskRoll", NO_ROLL),
 ];
 
-pub fn duration((seconds, nanos): Parts) -> Duration {
+pub fn duration((seconds, nanos): TimeParts) -> Duration {
     Duration::from_secs(seconds).saturating_add(Duration::from_nanos(nanos))
 }
 
 /// The moment that is so much later, if there is one.
-fn sum(moment: Parts, later: Parts) -> Option<Duration> {
+fn sum(moment: TimeParts, later: TimeParts) -> Option<Duration> {
     let (moment, later) = (UnixTime::from(duration(moment)), duration(later));
     if moment.fits(later) {
         Some(Duration::from(moment + later))
@@ -66,7 +66,7 @@ fn sum(moment: Parts, later: Parts) -> Option<Duration> {
 }
 
 /// How long before the second moment the first is; none if their order says otherwise.
-fn elapsed(moment: Parts, now: Parts) -> Option<Duration> {
+fn elapsed(moment: TimeParts, now: TimeParts) -> Option<Duration> {
     let (moment, now) = (
         UnixTime::from(duration(moment)),
         UnixTime::from(duration(now)),
