@@ -26,7 +26,8 @@ What is compared:
   script of this name in `replay/scripts.txt`: so the gate compares them with the program;
 - each link with the file and the heading that it leads to;
 - each name in docs/PROOF.md with the crates: some code or definition has it;
-- the pictures of `tests/pictures.py`, and the index of `tests/contracts.py`.
+- the pictures of `tests/pictures.py`, and the index of `tests/contracts.py`;
+- the types of the crates: each has a name of its own (`tests/type_names.py`).
 """
 
 import json
@@ -43,6 +44,7 @@ from tables import answers  # noqa: E402
 
 import contracts  # noqa: E402
 import pictures  # noqa: E402
+import type_names  # noqa: E402
 from game.page import command_lines, steps  # noqa: E402
 
 STORED = TOP / "replay" / "scripts.txt"
@@ -280,6 +282,7 @@ def main():
         blocks, quoted = blocks + document.blocks, quoted + document.quoted
         links += check_links(path, wrong)
     wrong += [*pictures.differing(), *contracts.differing(), *unknown_names(TOP / "docs" / "PROOF.md")]
+    wrong += type_names.repeated()
     if wrong:
         print(*wrong, f"docs: {len(wrong)} differences", sep="\n")
         return 1
