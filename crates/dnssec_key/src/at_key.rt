@@ -14,10 +14,11 @@ ghost use Rattle.dnssec_key.specs.Inner.Columns.{test_of, keys_of, move_of, chan
 use crate::column::KeyMove::{AtEachRole, AtEachState, AtRoles};
 use crate::column::RoleMove::{SetAtParent, SetPresent, SetSigner, SetStale, Stays, TurnsOld};
 use crate::column::{KeyMove, KeyTest, RoleMove, RoleTest};
-use crate::key::{Key, KeyState};
+use crate::key::Key;
 use crate::kind::KeyType;
 use crate::roll::{Half, RollType};
 use crate::setting::Setting;
+use crate::state::KeyState;
 use dnssec_base::{KeyTimestamps, Stamp, UnixTime, write_stamp};
 
 impl RoleTest {

@@ -5,7 +5,7 @@ use Rattle.std.proofs.Common.{List, [], ◌∷◌, map, length, take, None, Some
 use Rattle.std.proofs.Common.{refl, arith, Global, String}
 use Rattle.std.proofs.Common.{Bor}
 use Rattle.dnssec_key.specs.declared.kind.KeyType.TheVariants.{Ksk, Zsk}
-use Rattle.dnssec_key.specs.declared.key.Available.TheVariants.{Available}
+use Rattle.dnssec_key.specs.declared.state.Available.TheVariants.{Available}
 use Rattle.dnssec_key.specs.declared.roll.Action.TheVariants.{CreateCdsRrset, RemoveCdsRrset}
 use Rattle.dnssec_key.specs.declared.roll.Action.TheVariants.{ReportDnskeyPropagated}
 use Rattle.dnssec_key.specs.declared.roll.Action.TheVariants.{ReportDsPropagated}
