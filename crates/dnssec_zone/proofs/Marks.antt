@@ -10,7 +10,7 @@ use Rattle.std.specs.{Prelude.◌||◌, Prelude.Option, Prelude.if◌then◌else
 use Rattle.std.specs.{Prelude.◌&&◌, Prelude.not, FinMap.get, List.list_any, Option.option_or}
 use Rattle.std.specs.{Option.option_map, Option.option_map_or, Str.bytes_eq}
 use Rattle.std.specs.{Cmp.Lexicographic.nat_list_eq_equiv, Cmp.Lexicographic.bytes_decides}
-use Rattle.dnssec_zone.specs.{declared.keys.KeyMark.KeyMark, Inner.KeyMark.marked}
+use Rattle.dnssec_zone.specs.{declared.mark.KeyMark.KeyMark, Inner.KeyMark.marked}
 use Rattle.dnssec_zone.specs.{Keys.Keys, Keys.TagsApart}
 use Rattle.dnssec_zone.specs.{Inner.NewKeys.freshness_fault, Inner.Tags.HasListed}
 use Rattle.dnssec_zone.proofs.Quantified.{list_any-map}

@@ -18,7 +18,7 @@ ghost use Rattle.dnssec_zone.specs.Inner.Tags.{TagsAgree};
 ghost use Rattle.dnssec_zone.specs.Keys.{has_tag, keys_in_map};
 ghost use Rattle.dnssec_zone.specs.Refusals.{Answers, reference_refusal};
 
-use crate::keys::KeyMark;
+use crate::mark::KeyMark;
 use crate::wait_end::{ReportedWait, over_from, seen};
 use dnssec_key::{
     Error, Half, Key, KeyType, RollType, Setting, TagIndex, Want, apply_setting, is_kept_at_parent,

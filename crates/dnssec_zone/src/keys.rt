@@ -16,6 +16,7 @@ ghost use Rattle.dnssec_zone.specs.Refusals.{deletion_refusal, reference_refusal
 ghost use Rattle.dnssec_zone.specs.Wait.{IsOverFrom, LacksStamp};
 
 use crate::derived::Derived;
+use crate::mark::KeyMark;
 use crate::wait_end::over_from;
 use dnssec_key::{
     Error, Half, Key, RollType, Setting, TagSet, UnixTime, Want, is_set, move_on, stamp_report,
@@ -45,13 +46,6 @@ impl Model for Keys {
     ghost view = { λ s. keys_in_map s.map };
 
     ghost invariant = { λ s. IsDerived s.derived (keys_in_map s.map) };
-}
-
-/// What a start marks the keys as that it lists: as old, or as new by a roll from a moment on.
-#[derive(Clone, Copy)]
-pub enum KeyMark {
-    AsOld,
-    AsNew(RollType, UnixTime),
 }
 
 /// Whether some key has the tag, by a walk over the keys.

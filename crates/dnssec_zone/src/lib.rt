@@ -9,10 +9,12 @@ mod check;
 mod derived;
 mod keys;
 mod lists;
+mod mark;
 mod rolls;
 mod wait_end;
 
 pub use check::{NewKeys, may_go_over};
-pub use keys::{Keys, KeyMark};
+pub use keys::Keys;
 pub use lists::{Lists, Part, same_part};
+pub use mark::KeyMark;
 pub use rolls::{Rolls, all_rolls, go_together};
