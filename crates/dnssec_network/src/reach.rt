@@ -8,7 +8,7 @@ ghost use Rattle.dnssec_network.specs.Spread.{known};
 ghost use Rattle.dnssec_network.specs.declared.reach.Reach.TheVariants.{Everywhere};
 
 use crate::notes::Notes;
-use crate::spread::{Spread, is_none};
+use crate::spread::Spread;
 use dnssec_keyset::UnixTime;
 use dnssec_run::SetKind;
 
@@ -30,7 +30,7 @@ impl Spread {
     {
         if self.position < base {
             Reach::Unpublished
-        } else if is_none(self.older) && self.seen <= now {
+        } else if self.older.is_none() && self.seen <= now {
             Reach::Everywhere
         } else {
             Reach::Spreading
