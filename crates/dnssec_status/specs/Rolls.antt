@@ -16,7 +16,7 @@ use Rattle.dnssec_keyset.specs.declared.wait.WaitEnd.{WaitEnd}
 use Rattle.dnssec_keyset.specs.declared.wait.WaitEnd.TheVariants.{At, PastTime}
 use Rattle.dnssec_status.specs.Json.{array_json}
 use Rattle.dnssec_status.specs.Names.{action_json, roll_json}
-use Rattle.dnssec_status.specs.declared.rolls.Going.{Going}
+use Rattle.dnssec_status.specs.declared.rolls.RollInProgress.{RollInProgress}
 
 -- ---- which rolls are in progress
 
@@ -30,13 +30,13 @@ abbrev pub rolls_in_progress : KeySetParts → List (RollType × RollState)
 rolls_in_progress set = flat_map (λ roll. with_its_phase roll (phase_of set.rolls roll)) all_rolls
 
 -- a roll of a status, and its phase
-abbrev pub phase_pair : Going → RollType × RollState
+abbrev pub phase_pair : RollInProgress → RollType × RollState
 phase_pair g = (g.roll, g.phase)
 
 -- these are all the rolls in progress, each with the end of its wait
-pub record AreGoing (set : KeySetParts) (rolls : List Going) : Type 0 where
+pub record AreGoing (set : KeySetParts) (rolls : List RollInProgress) : Type 0 where
   pub all : map phase_pair rolls ≡ rolls_in_progress set
-  pub ends : All (λ (g : Going). TellsEnd g.roll set g.end) rolls
+  pub ends : All (λ (g : RollInProgress). TellsEnd g.roll set g.end) rolls
 
 -- ---- what is said of each
 
@@ -86,7 +86,7 @@ parts_json roll phase end due =
     ++ codes ",\"due\":" ++ array_json action_json due ++ codes "}"
 
 -- a roll in progress
-unfoldable pub going_json : Going → List ℕ
+unfoldable pub going_json : RollInProgress → List ℕ
 going_json g = parts_json g.roll g.phase g.end (actions_of g.roll g.phase)
 
 -- a roll that was ended early, with what its end asked for

@@ -18,7 +18,7 @@ use Rattle.dnssec_status.specs.Json.{array_json, text_json}
 use Rattle.dnssec_status.specs.Keys.{key_json}
 use Rattle.dnssec_status.specs.Rolls.{AreGoing, ended_json, going_json}
 use Rattle.dnssec_status.specs.Sets.{chain_json, sets_json}
-use Rattle.dnssec_status.specs.declared.rolls.Going.{Going}
+use Rattle.dnssec_status.specs.declared.rolls.RollInProgress.{RollInProgress}
 
 -- the zone, the verdict, and what is published
 unfoldable pub zone_json : List ℕ → Option Broken → Published → List ℕ
@@ -27,15 +27,15 @@ zone_json name verdict sets =
     ++ codes ",\"published\":" ++ sets_json sets
 
 -- the keys, in the order of their references' bytes, and the rolls
-unfoldable pub state_json : List Listed → Keys → List Going → List RollType → List ℕ
+unfoldable pub state_json : List Listed → Keys → List RollInProgress → List RollType → List ℕ
 state_json listed keys rolls ended =
     codes ",\"keys\":" ++ array_json (key_json listed) (map.entries keys)
     ++ codes ",\"rolls\":" ++ array_json going_json rolls
     ++ codes ",\"ended\":" ++ array_json ended_json ended ++ codes "}\n"
 
 -- the whole
-unfoldable pub status_text : KeySetParts → Option Broken → Published → List Listed → List Going
-    → List RollType → List ℕ
+unfoldable pub status_text : KeySetParts → Option Broken → Published → List Listed
+    → List RollInProgress → List RollType → List ℕ
 status_text set verdict sets listed rolls ended =
     zone_json set.name verdict sets ++ state_json listed set.keys rolls ended
 
@@ -48,7 +48,7 @@ pub record IsStatus (name : List ℕ) (calls : List Call) (entries : List Entry)
   pub is_verdict : IsVerdict entries verdict
   pub sets : Published
   pub are_published : IsPublished sets world
-  pub rolls : List Going
+  pub rolls : List RollInProgress
   pub are_rolls : AreGoing world.set rolls
   pub is_text : text ≡ status_text world.set verdict sets (listed_by calls entries) rolls
       (ended_by calls entries)

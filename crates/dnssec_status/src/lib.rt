@@ -21,7 +21,7 @@ mod sets;
 use crate::json::{push_bytes, push_text};
 use crate::keys::{in_order, push_keys};
 use crate::listed::Listings;
-use crate::rolls::{Going, in_progress, push_ended, push_rolls};
+use crate::rolls::{RollInProgress, in_progress, push_ended, push_rolls};
 use crate::sets::{push_chain, push_sets};
 use dnssec_keyset::{Key, RollType};
 use dnssec_record::{Broken, Published, Session};
@@ -105,7 +105,7 @@ fn push_rest(
     out: &mut Vec<u8>,
     listings: &Listings<'_>,
     keys: &[(&String, &Key)],
-    rolls: &[Going],
+    rolls: &[RollInProgress],
     ended: &[RollType],
 ) -> Result<(), AllocError>
     ensures { OnOk result (out.new.items ≡ out.old.items

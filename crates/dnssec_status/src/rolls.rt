@@ -7,7 +7,7 @@ ghost use Rattle.dnssec_status.specs.Rolls.{end_json, ended_json, going_json};
 ghost use Rattle.dnssec_status.specs.Rolls.{is_for_parent, parts_json, phase_json};
 ghost use Rattle.dnssec_status.specs.Rolls.{phase_pair, rolls_in_progress, waits_for};
 ghost use Rattle.dnssec_status.specs.Rolls.{second_json, with_its_phase};
-ghost use Rattle.dnssec_status.specs.declared.rolls.Going.{Going as GoingRoll};
+ghost use Rattle.dnssec_status.specs.declared.rolls.RollInProgress.{RollInProgress as AnyRoll};
 ghost use Rattle.dnssec_zone.specs.Rolls.{phase_of};
 
 use crate::json::{push_bytes, push_null, push_number};
@@ -19,18 +19,18 @@ use std::time::Duration;
 
 /// A roll in progress, and when its wait ends.
 #[derive(Clone, Copy)]
-pub(crate) struct Going {
+pub(crate) struct RollInProgress {
     pub(crate) roll: RollType,
     pub(crate) phase: RollState,
     pub(crate) end: Option<WaitEnd>,
 }
 
 /// The rolls in progress, in the order of their kinds.
-pub(crate) fn in_progress(alloc: Global, keyset: &KeySet) -> Result<Vec<Going>, AllocError>
+pub(crate) fn in_progress(alloc: Global, keyset: &KeySet) -> Result<Vec<RollInProgress>, AllocError>
     ensures all { IfOk result (λ rolls.
         map phase_pair rolls.items ≡ rolls_in_progress keyset.now) }
     ensures ends { IfOk result (λ rolls.
-        All (λ (g : GoingRoll). TellsEnd g.roll keyset.now g.end) rolls.items) }
+        All (λ (g : AnyRoll). TellsEnd g.roll keyset.now g.end) rolls.items) }
 {
     let mut rolls = Vec::new(alloc);
     for roll in all_rolls() {
@@ -41,18 +41,18 @@ pub(crate) fn in_progress(alloc: Global, keyset: &KeySet) -> Result<Vec<Going>, 
 
 /// Notes a roll, if it is in progress.
 #[tactic(auto, unfolding(crate::specs::Rolls::with_its_phase))]
-fn note(rolls: &mut Vec<Going>, keyset: &KeySet, roll: RollType) -> Result<(), AllocError>
+fn note(rolls: &mut Vec<RollInProgress>, keyset: &KeySet, roll: RollType) -> Result<(), AllocError>
     ensures all { OnOk result (map phase_pair rolls.new.items ≡ map phase_pair rolls.old.items
         ++ with_its_phase roll (phase_of keyset.now.rolls roll)) }
     ensures ends { OnOk result (
-        All (λ (g : GoingRoll). TellsEnd g.roll keyset.now g.end) rolls.old.items →
-        All (λ (g : GoingRoll). TellsEnd g.roll keyset.now g.end) rolls.new.items) }
+        All (λ (g : AnyRoll). TellsEnd g.roll keyset.now g.end) rolls.old.items →
+        All (λ (g : AnyRoll). TellsEnd g.roll keyset.now g.end) rolls.new.items) }
 {
     match keyset.rollstates().get(&roll) {
         None => Ok(()),
         Some(phase) => {
             let end = keyset.wait_end(roll);
-            rolls.push(Going {
+            rolls.push(RollInProgress {
                 roll,
                 phase: *phase,
                 end,
@@ -67,7 +67,7 @@ fn note(rolls: &mut Vec<Going>, keyset: &KeySet, roll: RollType) -> Result<(), A
 pub(crate) fn push_rolls(
     alloc: Global,
     out: &mut Vec<u8>,
-    rolls: &[Going],
+    rolls: &[RollInProgress],
 ) -> Result<(), AllocError>
     ensures { OnOk result (out.new.items ≡ out.old.items ++ array_json going_json rolls.now) }
 {
@@ -84,7 +84,11 @@ pub(crate) fn push_rolls(
 
 /// Writes further rolls, each after a comma.
 #[tactic(auto, unfolding(crate::specs::Json::further_json))]
-fn push_further(alloc: Global, out: &mut Vec<u8>, rolls: &[Going]) -> Result<(), AllocError>
+fn push_further(
+    alloc: Global,
+    out: &mut Vec<u8>,
+    rolls: &[RollInProgress],
+) -> Result<(), AllocError>
     ensures { OnOk result (out.new.items ≡ out.old.items ++ further_json going_json rolls.now) }
 {
     for roll in rolls {
@@ -96,7 +100,7 @@ fn push_further(alloc: Global, out: &mut Vec<u8>, rolls: &[Going]) -> Result<(),
 
 /// Writes a roll in progress, with what is due.
 #[tactic(auto, unfolding(crate::specs::Rolls::going_json))]
-fn push_roll(alloc: Global, out: &mut Vec<u8>, going: &Going) -> Result<(), AllocError>
+fn push_roll(alloc: Global, out: &mut Vec<u8>, going: &RollInProgress) -> Result<(), AllocError>
     ensures { OnOk result (out.new.items ≡ out.old.items ++ going_json going.now) }
 {
     let due = going.roll.actions_in(going.phase);
@@ -239,12 +243,7 @@ fn push_waits_for(out: &mut Vec<u8>, phase: RollState, due: &[Action]) -> Result
 fn has_parent_action(due: &[Action]) -> bool
     ensures { result ≡ list_any is_for_parent due.now }
 {
-    for action in due {
-        if is_for_parent(*action) {
-            return true;
-        }
-    }
-    false
+    due.iter().any(|action| is_for_parent(*action))
 }
 
 /// Whether the parent has to act.

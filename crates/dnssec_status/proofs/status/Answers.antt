@@ -7,7 +7,8 @@ use Rattle.std.specs.Prelude.{IsPermutation}
 use Rattle.dnssec_record.specs.Courses.{Listed, listed_by}
 use Rattle.dnssec_status.specs.Status.{state_json, status_text, zone_json}
 use Rattle.dnssec_status.specs.{Inner.Entries.entry_json, Inner.Entries.entry_of, Json.array_json}
-use Rattle.dnssec_status.specs.{Keys.key_json, Rolls.AreGoing, declared.rolls.Going.Going}
+use Rattle.dnssec_status.specs.{Keys.key_json, Rolls.AreGoing}
+use Rattle.dnssec_status.specs.declared.rolls.RollInProgress.{RollInProgress}
 use Rattle.dnssec_status.proofs.{Chains.array_read, Listing.same_entries}
 use Rattle.std.specs.FinMap as fin
 use Rattle.dnssec_status.proofs.status.Goals as goal
@@ -40,7 +41,7 @@ returns c name calls entries stands =
       sets = s.recorder.published;
       are_published = stands.records.published;
       rolls = c.deref-2.result.now;
-      are_rolls = subst (λ (rolls : List Going).
+      are_rolls = subst (λ (rolls : List RollInProgress).
           AreGoing (world_at name calls entries (length calls)).set rolls)
           (sym c.deref-2.ensures.value)
           (subst (λ (k : KeySetParts). AreGoing k c.in_ok-rolls.rolls.items) (set ∙ same)
