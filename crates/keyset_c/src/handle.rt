@@ -2,8 +2,8 @@
 ghost use Rattle.std.specs.Prelude.{◌≡◌, Some, None, IfNone, IfSome, is_some};
 ghost use Rattle.keyset_c.specs.Handles.{IsWhole, kept_by};
 
-use crate::kept::Kept;
 use crate::box_parts::BoxParts;
+use crate::kept::Kept;
 use crate::pointer::Pointer;
 use std::alloc::Global;
 use std::mem;

@@ -6,8 +6,8 @@ ghost use Rattle.keyset_c.specs.declared.kept.Kept.{Kept as Value};
 ghost use Rattle.keyset_c.specs.contracts.kept.Kept.{the_row};
 ghost use Rattle.keyset_c.specs.Owned.{kept_owned};
 
-use crate::kept::Kept;
 use crate::box_parts::BoxParts;
+use crate::kept::Kept;
 use std::alloc::Global;
 use std::marker::Model;
 use std::ptr::null_mut;
