@@ -6,7 +6,7 @@ from __future__ import annotations
 from collections.abc import Iterator
 from dataclasses import dataclass, field, replace
 
-from game.what_next import AT_REST, said
+from game.what_next import said
 
 POLICY = ("policy 13 ksk-roll zsk-roll", "ksk-lifetime 100000", "zsk-lifetime 10000")
 TTL, BEGIN, RENEWED = 60, 1000, 11000
@@ -67,6 +67,11 @@ def in_a_roll(last: str) -> Day:
     return at_rest().at(RENEWED).follows(last)
 
 
+def by_hand(day: Day, call: str) -> str:
+    """What is said after this call, the first by hand."""
+    return f"nothing: call {day.script.index(call)} was made by hand"
+
+
 def with_another_signer() -> Day:
     return at_rest().calls("add-public P1 13 90 1200 yes", "set-present P1 yes 1200").at(1200)
 
@@ -75,19 +80,26 @@ def days() -> Iterator[tuple[str, Day, str]]:
     """What has happened, and what is said then."""
     on_demand = POLICY[0]
     early = in_a_roll("publish").calls("abort zsk-roll")
-    yield "a roll ended early, and is due", early, "start zsk-roll Z2 Z9 11000"
-    yield "a roll ended early", early.but(on_demand), AT_REST
-    yield "a DS that a person took out", at_rest().calls("set-at-parent K1 no"), "key ksk 13"
-    yield "a key set stale by hand", at_rest().calls("set-stale Z2"), "delete Z2"
-    by_hand = ("set-stale Z9", "add-zsk Z50 - 13 50 11001 yes", "set-present Z50 yes 11001")
-    yield "a new key set by hand", in_a_roll("until").calls(*by_hand).but(on_demand), (
-        "nothing: a key lacks the stamp for the wait of zsk-roll")
+    yield "a roll ended early, and is due", early, by_hand(early, "abort zsk-roll")
+    yield "a roll ended early", early.but(on_demand), by_hand(early, "abort zsk-roll")
+    for call in ("set-at-parent K1 no", "set-stale Z2", "set-signer Z2 no", "set-visible Z2 1",
+                 "set-ds-visible K1 1", "set-rrsig-visible Z2 1", "set-present Z2 no 1200"):
+        day = at_rest().calls(call)
+        yield f"{call}, by hand", day, by_hand(day, call)
+    yield "a key apart from the storage", at_rest().calls("set-decoupled Z2 yes"), (
+        f"until {RENEWED}")
+    yield "a refused call by hand", at_rest().calls("set-stale none", "abort ksk-roll"), (
+        f"until {RENEWED}")
+    calls = ("set-stale Z9", "add-zsk Z50 - 13 50 11001 yes", "set-present Z50 yes 11001")
+    day = in_a_roll("until").calls(*calls)
+    yield "a new key set by hand", day, by_hand(day, calls[0])
     other = with_another_signer()
     yield "another signer's key", other, f"until {RENEWED}"
     yield "another signer's key beside a roll", other.but(*POLICY).at(RENEWED), "key zsk 13"
     yield "another signer's key that left", other.calls("set-present P1 no 1300"), (
         f"until {RENEWED}")
-    yield "another signer's key set stale", other.calls("set-stale P1"), "delete P1"
+    stale = other.calls("set-stale P1")
+    yield "another signer's key set stale", stale, by_hand(stale, "set-stale P1")
     lost = at_rest().but(on_demand, "zsk-once 2000").at(2000)
     yield "a lost ZSK", lost, "key zsk 13"
     yield "a lost ZSK, with another", lost.calls("add-zsk Z9 - 13 9 2000 yes"), (
@@ -100,3 +112,6 @@ def days() -> Iterator[tuple[str, Day, str]]:
     yield "a clock set back before the end", in_a_roll("done").at(500), "watch dnskey"
     endless = Day([on_demand], notes=[f"before {TTL} {2**32 - 1} {TTL}"]).follows("until")
     yield "a TTL past 32 bits", endless, f"until {BEGIN + 1}"
+    late = Day([on_demand, "ksk-lifetime 995", "zsk-lifetime 930"], now=2**64 - 1000)
+    yield "a wait without end, beside a lifetime", late.follows("nothing"), (
+        "nothing: the wait of zsk-roll ends after all time")

@@ -72,22 +72,25 @@ def soonest(todos: Iterable[Todo]) -> Todo:
 @dataclass
 class View:
     """What is known of a zone at a moment: its key set, the positions of the last second waits of
-    its rolls, and the facts of its notes."""
+    its rolls, that of the first call by hand, and the facts of its notes."""
 
     set: KeySet
     last: Mapping[str, int]
+    by_hand: Optional[int]
     facts: Facts
     now: int
 
     @classmethod
     def after(cls, lines: Sequence[str], notes: Sequence[str], now: int) -> View:
         """After the calls of a script, by its notes."""
-        keyset, last = KeySet(), {}
+        keyset, last, by_hand = KeySet(), {}, []
         for number, line in enumerate(lines[1:], start=1):
-            word, roll, *_ = line.split(" ")
-            if keyset.call(line).startswith("ok") and word == "wait2":
-                last[roll] = number
-        return cls(keyset, last, Facts(notes), now)
+            word, name, *_ = line.split(" ")
+            is_by_hand = makes_by_hand(keyset, word, name)
+            if keyset.call(line).startswith("ok"):
+                by_hand += [number] if is_by_hand else []
+                last |= {name: number} if word == "wait2" else {}
+        return cls(keyset, last, min(by_hand, default=None), Facts(notes), now)
 
     def reach(self, kind: str, base: int) -> Optional[type]:
         """What brings the sets of a position to all servers; None if they are there."""
@@ -111,6 +114,16 @@ class View:
         if end > LAST_SECOND:
             return Stuck(f"the wait of {roll} ends after all time")
         return end
+
+
+# ---- calls by hand: ByHand.antt
+
+
+def makes_by_hand(keyset: KeySet, word: str, name: str) -> bool:
+    """A call ends a roll early, or sets a flag or a time. Other signers' keys may come and go."""
+    if word == "set-present" and name in keyset.keys:
+        return keyset.keys[name].kind != "include"
+    return word == "abort" or word.startswith("set-") and word != "set-decoupled"
 
 
 # ---- rolls in progress: InProgress.antt
@@ -300,6 +313,19 @@ def next_of(policy: Policy, view: View) -> Todo:
                     *renewals, Rest() if stuck is None else Stuck(stuck)])
 
 
+def answer_of(policy: Policy, view: View) -> Todo:
+    """Nothing after a call by hand. A cause that lasts is said in place of a moment."""
+    if view.by_hand is not None:
+        return Stuck(f"call {view.by_hand} was made by hand")
+    todo, stuck = next_of(policy, view), next(whys(policy, view), None)
+    return Stuck(stuck) if isinstance(todo, NotBefore) and stuck and lasts(stuck) else todo
+
+
+def lasts(why: str) -> bool:
+    """It doesn't go away by itself."""
+    return "32 bits" not in why and "beside" not in why
+
+
 # ---- what is wanted and isn't done: Stuck.antt
 
 
@@ -366,4 +392,4 @@ def said(policy: Sequence[str], lines: Sequence[str], notes: Sequence[str], now:
     read, view = Policy.read(policy), View.after(lines, notes, now)
     if fault := read.too_short(view.facts):
         raise NotSaid(f"policy: {fault.text}")
-    return shown(read, next_of(read, view))
+    return shown(read, answer_of(read, view))

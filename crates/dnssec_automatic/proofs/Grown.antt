@@ -16,7 +16,9 @@ use Rattle.dnssec_network.specs.declared.fact.{Before.Before, Fact.Fact, News.Ne
 use Rattle.dnssec_network.specs.declared.fact.News.TheVariants.{Published, Everywhere}
 use Rattle.dnssec_policy.specs.declared.policy.Policy.{Policy}
 use Rattle.dnssec_policy.specs.Automatic.{IsAutomatic, IsSaid, is_add}
+use Rattle.dnssec_policy.specs.ByHand.{first_by_hand}
 use Rattle.dnssec_policy.specs.Todo.{Make}
+use Rattle.dnssec_policy.proofs.ByHand.{answered}
 use Rattle.dnssec_policy.proofs.Growing.{grows}
 use Rattle.dnssec_network.specs.Notes.{NotesParts}
 use Rattle.dnssec_automatic.specs.Calls.{GoesOn, IsAfter}
@@ -89,7 +91,8 @@ module _ (name : List ℕ) (calls : List Call) (entries : List Entry) (asked : L
         view = says.view;
         at = says.sees network time are;
         clock = subst (λ m. m ≤ network.made (suc (length entries))) (sym says.now) clock;
-        said = says.said;
+        said = answered policy (first_by_hand name calls entries (length entries)) says.view
+            (call_of call) says.said;
       })))
 
 -- ---- one more fact

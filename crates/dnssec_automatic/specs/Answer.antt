@@ -12,7 +12,8 @@ use Rattle.dnssec_record.specs.Session.{HadMemory}
 use Rattle.dnssec_notes.specs.Reading.{AreNotes}
 use Rattle.dnssec_policy.specs.declared.policy.Policy.{Policy}
 use Rattle.dnssec_policy.specs.Automatic.{IsViewAt}
-use Rattle.dnssec_policy.specs.Next.{next_of}
+use Rattle.dnssec_policy.specs.ByHand.{first_by_hand}
+use Rattle.dnssec_policy.specs.Next.{answer_of}
 use Rattle.dnssec_policy.specs.Todo.{Todo}
 use Rattle.dnssec_policy.specs.View.{View}
 use Rattle.dnssec_policy_text.specs.Lint.{highest_of, too_short}
@@ -46,7 +47,8 @@ pub record AnswersBy (policy : Policy) (script notes : List ℕ) (seconds : ℕ)
   pub sees : (network : Network) (time : ℕ) → AreTrue before facts network time →
       IsViewAt name calls entries network time (length entries) view
   pub now : view.now ≡ seconds * 1_000_000_000
-  pub is_line : line ≡ todo_line policy.algorithm (next_of policy view) seconds
+  pub is_line : line ≡ todo_line policy.algorithm
+      (answer_of policy (first_by_hand name calls entries (length entries)) view) seconds
 
 -- so does the policy of a text
 pub record AnswersNext (text script notes : List ℕ) (seconds : ℕ) (line : List ℕ) : Type 0 where

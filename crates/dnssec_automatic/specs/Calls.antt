@@ -6,15 +6,17 @@ use Rattle.dnssec_run.specs.declared.record.Reply.{Reply}
 use Rattle.dnssec_script.specs.Inner.Statement.{statement_says}
 use Rattle.dnssec_script.specs.Script.{IsScript, call_says}
 use Rattle.dnssec_script.specs.declared.statement.Statement.{Statement}
-use Rattle.dnssec_policy.specs.Laws.{AreLastsOf}
+use Rattle.dnssec_policy.specs.Laws.{AreLastsOf, IsFirstOf}
 use Rattle.dnssec_record.specs.Session.{HadMemory, StandsAfter}
 use Rattle.dnssec_automatic.specs.declared.calls.Calls.{Calls}
 
--- the session stands after these calls, whose record is this, and their last second waits are kept
+-- the session stands after these calls, whose record is this; their last second waits are kept, and
+-- the first call by hand
 pub record IsAfter (name : List ℕ) (calls : List Call) (entries : List Entry) (kept : Calls)
     : Type 0 where
   pub stands : StandsAfter name calls entries kept.session
   pub lasts : AreLastsOf calls entries kept.last_waits
+  pub first : IsFirstOf name calls entries kept.by_hand
 
 -- one more call is made, and gets this reply
 pub record GoesOn (name : List ℕ) (calls : List Call) (entries : List Entry) (call : Call)

@@ -15,7 +15,8 @@ use Rattle.dnssec_script.specs.Script.{lines_of}
 use Rattle.dnssec_notes.specs.Reading.{AreNotes}
 use Rattle.dnssec_policy.specs.declared.policy.Policy.{Policy}
 use Rattle.dnssec_policy.specs.Automatic.{IsAutomatic, IsViewAt}
-use Rattle.dnssec_policy.specs.Next.{next_of}
+use Rattle.dnssec_policy.specs.ByHand.{first_by_hand}
+use Rattle.dnssec_policy.specs.Next.{answer_of}
 use Rattle.dnssec_policy.specs.Todo.{Make, Todo}
 use Rattle.dnssec_policy.specs.View.{View}
 use Rattle.dnssec_automatic.specs.Calls.{GoesOn, IsAfter, Resumes}
@@ -50,7 +51,7 @@ pub record Says (name : List ℕ) (calls : List Call) (entries : List Entry) (po
       AreTrue zone.noted.notes.before zone.noted.notes.facts network time →
       IsViewAt name calls entries network time (length entries) view
   pub now : view.now ≡ moment
-  pub said : next_of policy view ≡ todo
+  pub said : answer_of policy (first_by_hand name calls entries (length entries)) view ≡ todo
 
 -- it says no call
 abbrev pub SaysNone : List ℕ → List Call → List Entry → Policy → ℕ → AutomaticZone → Type 0

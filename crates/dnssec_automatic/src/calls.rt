@@ -11,16 +11,17 @@ ghost use Rattle.dnssec_automatic.specs.Calls.{GoesOn, IsAfter, Resumes, Takes};
 
 use dnssec_base::Name;
 use dnssec_keyset::Error;
-use dnssec_policy::LastWaits;
+use dnssec_policy::{FirstByHand, LastWaits};
 use dnssec_record::{Call, Reply, ScriptFault, Session};
 use dnssec_script::{Reading, Statement, read_script};
 use std::alloc::{AllocError, Global};
 
-/// A session, and the last second waits of its calls.
+/// A session, the last second waits of its calls, and the first one by hand.
 #[derive(Drop)]
 pub(crate) struct Calls {
     pub(crate) session: Session,
     pub(crate) last_waits: LastWaits,
+    pub(crate) by_hand: FirstByHand,
 }
 
 impl Calls {
@@ -31,6 +32,7 @@ impl Calls {
         Ok(Calls {
             session: Session::new(alloc, name)?,
             last_waits: LastWaits::new(),
+            by_hand: FirstByHand::new(),
         })
     }
 
@@ -43,6 +45,7 @@ impl Calls {
         Ok(Calls {
             session: self.session.try_clone(alloc)?,
             last_waits: self.last_waits,
+            by_hand: self.by_hand,
         })
     }
 
@@ -53,9 +56,11 @@ impl Calls {
             GoesOn name calls entries call.entry self.new reply) }
     {
         let wait = LastWaits::second_wait(&call);
+        let is_by_hand = FirstByHand::is_by_hand(self.session.keyset(), &call);
         let reply = self.session.make(alloc, call)?;
         let at = self.session.calls();
         self.last_waits = self.last_waits.after(wait, &reply, at);
+        self.by_hand = self.by_hand.after(is_by_hand, &reply, at);
         Ok(reply)
     }
 

@@ -96,7 +96,7 @@ impl AutomaticZone {
         Ok(AutomaticZone { calls, noted })
     }
 
-    /// What the policy says to do next.
+    /// What the policy says to do next. Nothing, if a call of the script was made by hand.
     ///
     /// # Errors
     ///
@@ -116,6 +116,7 @@ impl AutomaticZone {
             keyset: self.calls.session.keyset(),
             steps: self.calls.session.steps(),
             last_waits: self.calls.last_waits,
+            by_hand: self.calls.by_hand,
             notes: self.noted.notes(),
             highest: *self.noted.highest(),
             moment,

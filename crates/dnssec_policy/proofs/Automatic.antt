@@ -158,7 +158,7 @@ kept old new c o blank m h = record {
 
 -- ---- the run
 
-only : (others : List ℕ → Bool) (c : Call)
+pub only : (others : List ℕ → Bool) (c : Call)
     → (is_add c ≡ true) ⊎ ((policy : Policy) × (v : View) × May policy v (call_of c))
     → sets_only_others others c ≡ true
 only others (call.SetPresent a b c) (inl h) = absurd (true≢false (sym h))

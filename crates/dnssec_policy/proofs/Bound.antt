@@ -1,22 +1,20 @@
 -- How long a report counts, and that it is said once all servers have its sets.
-use Rattle.std.proofs.Common.{◌≡◌, ℕ, ◌+◌, ◌*◌, ◌<◌, ◌≤◌, Bool, true, false, List, [], ◌∷◌, Option}
+use Rattle.std.proofs.Common.{◌≡◌, ℕ, ◌+◌, ◌≤◌, Bool, true, false, List, [], ◌∷◌, Option}
 use Rattle.std.proofs.Common.{None, Some, Result, Ok, Err, max, refl, sym, ap, subst, ◌∙◌, arith, fold}
 use Rattle.std.proofs.Common.{if◌then◌else◌}
 use Rattle.std.proofs.lemmas.Bool.{and_parts, le-leb}
-use Rattle.std.specs.Prelude.{◌&&◌, ◌/◌, ◌-◌, nat_le, nat_lt, unwrap_or}
+use Rattle.std.specs.Prelude.{◌&&◌, ◌-◌, nat_le, nat_lt, unwrap_or}
 use Rattle.std.specs.List.{list_all}
-use Rattle.dnssec_key.specs.declared.roll.RollState.TheVariants.{Done}
 use Rattle.dnssec_key.specs.declared.roll.RollType.{RollType}
 use Rattle.dnssec_key.specs.RollTable.{Half, First, Second}
 use Rattle.dnssec_zone.specs.Rolls.{phase_of}
 use Rattle.dnssec_keyset.specs.Step as keyset
 use Rattle.dnssec_run.specs.declared.caches.SetKind.{SetKind as Kind}
 use Rattle.dnssec_run.specs.declared.caches.SetKind.TheVariants as code
-use Rattle.dnssec_run.specs.declared.steps.LastStep.{LastStep}
 use Rattle.dnssec_run.specs.Safe.{SetKind, Ds, Dnskey, ZoneSigners, kind_of, retires}
 use Rattle.dnssec_run.specs.Steps.{origin_in}
 use Rattle.dnssec_run.specs.WholeRolls.{is_second, propagation}
-use Rattle.dnssec_network.specs.declared.{fact.Before.Before, fact.Fact.Fact, fact.News.News}
+use Rattle.dnssec_network.specs.declared.{fact.News.News}
 use Rattle.dnssec_network.specs.declared.fact.News.TheVariants.{Published, Everywhere}
 use Rattle.dnssec_network.specs.declared.reach.Reach.{Reach}
 use Rattle.dnssec_network.specs.declared.reach.Reach.TheVariants as reach
@@ -26,8 +24,8 @@ use Rattle.dnssec_network.specs.Reports.{due, due_of, due_or, higher}
 use Rattle.dnssec_network.specs.Spread.{after, due_for, end_of, expired_after, first_spread}
 use Rattle.dnssec_network.specs.Spread.{is_none_older, known}
 use Rattle.dnssec_network.specs.Spread.{seconds_left, seconds_until}
-use Rattle.dnssec_policy.specs.InProgress.{end_next, once_settled, once_there, later, report_next}
-use Rattle.dnssec_policy.specs.InProgress.{ends_with, once, report_or, report_with}
+use Rattle.dnssec_policy.specs.InProgress.{end_next, once_there, later, report_next}
+use Rattle.dnssec_policy.specs.InProgress.{ends_with, once, report_or}
 use Rattle.dnssec_policy.specs.Laws.{EndsAreInTime, NoneLiesAheadOf, ReportsAreInTime}
 use Rattle.dnssec_policy.specs.Laws.{ReportsCountNoLonger}
 use Rattle.dnssec_policy.specs.Next.{next_of, phase_next}

@@ -1,5 +1,5 @@
 -- The highest TTLs noted, with one fact more.
-use Rattle.std.proofs.Common.{◌≡◌, ℕ, ◌∙◌, ◌++◌, ◌∷◌, List, [], ap, fold, max, refl, sym}
+use Rattle.std.proofs.Common.{◌≡◌, ℕ, ◌∙◌, ◌++◌, ◌∷◌, List, [], ap, max, sym}
 use Rattle.std.proofs.Common.{if◌then◌else◌}
 use Rattle.std.proofs.lemmas.List.Sums.{fold_push}
 use Rattle.dnssec_run.specs.declared.caches.SetKind.{SetKind as Kind}
@@ -7,7 +7,7 @@ use Rattle.dnssec_run.specs.declared.caches.SetKind.TheVariants as code
 use Rattle.dnssec_run.specs.Safe.{SetKind, Ds, Dnskey, ZoneSigners, kind_of}
 use Rattle.dnssec_network.specs.declared.fact.{Before.Before, Fact.Fact, News.News}
 use Rattle.dnssec_network.specs.declared.fact.News.TheVariants.{Published, Everywhere}
-use Rattle.dnssec_network.specs.Facts.{news_of, same_kind, ttl_before}
+use Rattle.dnssec_network.specs.Facts.{same_kind, ttl_before}
 use Rattle.dnssec_network.proofs.Passed.{after_fact, passed}
 use Rattle.dnssec_policy.specs.declared.ttls.HighestTtls.{HighestTtls}
 use Rattle.dnssec_policy.specs.Ttls.{AreHighest, after_news, higher_with, highest_of, ttl_in}

@@ -1,8 +1,7 @@
 -- Validators that keep algorithms find keys of each in what they hold.
-use Rattle.std.proofs.Common.{◌≡◌, ℕ, suc, ◌+◌, ◌*◌, ◌<◌, ◌≤◌, ◌⊎◌, inl, inr, Bool, true, false, List}
-use Rattle.std.proofs.Common.{None, Some, map, max, length, refl, sym, ap, subst, ◌∙◌, arith}
-use Rattle.std.proofs.lemmas.Option.{none-some}
-use Rattle.std.specs.Prelude.{if◌then◌else◌, slice_get}
+use Rattle.std.proofs.Common.{◌≡◌, ℕ, ◌+◌, ◌<◌, ◌≤◌, inl, inr, Bool, true, false, List}
+use Rattle.std.proofs.Common.{Some, map, max, refl, sym, ap, ◌∙◌, arith}
+use Rattle.std.specs.Prelude.{if◌then◌else◌}
 use Rattle.dnssec_key.specs.declared.roll.RollType.{RollType}
 use Rattle.dnssec_key.specs.RollTable.{First, Second}
 use Rattle.dnssec_keyset.specs.Step as keyset
@@ -10,20 +9,19 @@ use Rattle.dnssec_run.specs.declared.call.Call.{Call}
 use Rattle.dnssec_run.specs.declared.record.Entry.{Entry}
 use Rattle.dnssec_run.specs.declared.record.Mark.TheVariants.{Report}
 use Rattle.dnssec_run.specs.declared.steps.LastStep.{LastStep}
-use Rattle.dnssec_run.specs.{ByAlgorithm.algorithm_of, Origins.origin, Steps.origin_in}
-use Rattle.dnssec_run.specs.Record.{IsRun, call_of}
-use Rattle.dnssec_run.specs.Safe.{SetKind, Ds, Dnskey, ZoneSigners, position_at, retires}
+use Rattle.dnssec_run.specs.{Steps.origin_in}
+use Rattle.dnssec_run.specs.Record.{call_of}
+use Rattle.dnssec_run.specs.Safe.{SetKind, Ds, Dnskey, ZoneSigners, retires}
 use Rattle.dnssec_run.specs.WholeRolls.{is_second}
 use Rattle.dnssec_run.proofs.Chain.Trust.{each-holds, mark, moment}
-use Rattle.dnssec_network.specs.ByAlgorithm.{FindChainByEach}
 use Rattle.dnssec_network.specs.Facts.{AreTrue}
-use Rattle.dnssec_network.specs.Network.{IsNetworkOf, MayBeHeld, Network, NeverGoesBack}
-use Rattle.dnssec_network.specs.Network.{NoneLiesAhead, ReportsAreTrue}
+use Rattle.dnssec_network.specs.Network.{MayBeHeld, Network}
+use Rattle.dnssec_network.specs.Network.{ReportsAreTrue}
 use Rattle.dnssec_network.specs.Reports.{IsByNotes, NoneGoesBack}
 use Rattle.dnssec_network.proofs.Held.{held-cached, held-each}
 use Rattle.dnssec_network.proofs.Noted.{notes_make_reports_true}
 use Rattle.dnssec_policy.specs.declared.policy.Policy.{Policy}
-use Rattle.dnssec_policy.specs.Automatic.{IsAutomatic, IsSaid, is_add}
+use Rattle.dnssec_policy.specs.Automatic.{IsAutomatic}
 use Rattle.dnssec_policy.specs.Kept.{AutomaticRunsServeKeepers, IsAutomaticKeeping, IsHeldBy}
 use Rattle.dnssec_policy.specs.Kept.{KeptAlgorithmsSign, keeping}
 use Rattle.dnssec_policy.specs.Ttls.{keeps, lasting}

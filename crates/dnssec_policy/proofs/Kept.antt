@@ -1,20 +1,20 @@
 -- Reports are by notes also of the network in which caches hold DS sets for so many seconds more as
 -- validators keep their algorithms.
-use Rattle.std.proofs.Common.{◌≡◌, ℕ, zero, suc, ◌+◌, ◌*◌, ◌<◌, ◌≤◌, ◌⊎◌, inl, inr, Bool, true, false}
-use Rattle.std.proofs.Common.{List, [], ◌∷◌, Option, None, Some, Result, Ok, Err, map, length, max}
+use Rattle.std.proofs.Common.{◌≡◌, ℕ, suc, ◌+◌, ◌*◌, ◌≤◌, Bool, true, false}
+use Rattle.std.proofs.Common.{List, [], ◌∷◌, Option, None, Some, Result, Ok, Err, map, max}
 use Rattle.std.proofs.Common.{refl, sym, ap, subst, ◌∙◌, arith, fold, if◌then◌else◌}
-use Rattle.std.proofs.lemmas.Bool.{cases_Bool, le-leb}
-use Rattle.std.specs.Prelude.{◌&&◌, ◌/◌, ◌-◌, filter, nat_le, nat_lt, unwrap_or}
+use Rattle.std.proofs.lemmas.Bool.{le-leb}
+use Rattle.std.specs.Prelude.{◌&&◌, nat_le, nat_lt, unwrap_or}
 use Rattle.dnssec_key.specs.declared.roll.RollType.{RollType}
 use Rattle.dnssec_run.specs.declared.caches.SetKind.{SetKind as Kind}
 use Rattle.dnssec_run.specs.declared.caches.SetKind.TheVariants as code
-use Rattle.dnssec_run.specs.Safe.{SetKind, Ds, Dnskey, ZoneSigners, kind_of, retires}
+use Rattle.dnssec_run.specs.Safe.{SetKind, Ds, Dnskey, ZoneSigners, retires}
 use Rattle.dnssec_network.specs.declared.fact.{Before.Before, Fact.Fact, News.News}
 use Rattle.dnssec_network.specs.declared.fact.News.TheVariants.{Published, Everywhere}
-use Rattle.dnssec_network.specs.Facts.{AreTrue, AreTrueFrom, news_of, ttl_before}
+use Rattle.dnssec_network.specs.Facts.{AreTrue, AreTrueFrom, news_of}
 use Rattle.dnssec_network.specs.Network.{Network}
 use Rattle.dnssec_network.specs.Reports.{due, due_of, due_or, higher}
-use Rattle.dnssec_network.specs.Spread.{after, due_for, end_of, expired_after, first_spread}
+use Rattle.dnssec_network.specs.Spread.{after, due_for, expired_after, first_spread}
 use Rattle.dnssec_network.specs.Spread.{is_none_older, known, seconds_left, seconds_until}
 use Rattle.dnssec_policy.specs.Kept.{keeping}
 use Rattle.dnssec_policy.proofs.Spreads.{Spread}

@@ -5,6 +5,7 @@
 -- | all of them                       | `may`                                 | Said      |
 -- | `automatic_runs_are_plain`        | `automatic-plain`                     | Automatic |
 -- | the same, clause `whole`          | `automatic-whole`                     | Whole     |
+-- | `automatic_runs_are_untouched`    | `untouched`                           | ByHand    |
 -- | `automatic_reports_are_by_notes`  | `by-notes`, `none-ahead`              | Notes     |
 -- | `automatic_runs_reach_resolvers`  | those, and the network's              | Notes     |
 -- | `automatic_runs_serve_keepers`    | `serves-keepers`, `kept-sign`         | Keepers   |
@@ -24,6 +25,7 @@ pub mod Said
 pub mod Accepted
 pub mod Clear
 pub mod Automatic
+pub mod ByHand
 pub mod Whole
 pub mod Notes
 pub mod Ends

@@ -1,8 +1,8 @@
 -- What is stuck is said.
-use Rattle.std.proofs.Common.{◌≡◌, ℕ, ◌≤◌, ◌⊎◌, inl, inr, Bool, true, false, List, [], ◌∷◌, Option}
+use Rattle.std.proofs.Common.{◌≡◌, ℕ, ◌≤◌, inl, inr, Bool, true, false, List, [], ◌∷◌, Option}
 use Rattle.std.proofs.Common.{None, Some, refl, sym, ap, subst, ◌∙◌, arith}
 use Rattle.std.proofs.lemmas.Bool.{cases_Bool, or_parts, true≢false}
-use Rattle.std.specs.Prelude.{◌&&◌, ◌||◌, not, nat_le, Result, Ok, Err, if◌then◌else◌}
+use Rattle.std.specs.Prelude.{◌&&◌, ◌||◌, not, Result, Ok, Err, if◌then◌else◌}
 use Rattle.std.specs.List.{fold, list_any}
 use Rattle.std.specs.Option.{option_or}
 use Rattle.std.specs.FinMap.{get, values}
@@ -26,7 +26,7 @@ use Rattle.dnssec_policy.specs.Keys.{renewal_of, role_of, roles_of, rolls_of, wa
 use Rattle.dnssec_policy.specs.Laws.{IsStuck, IsUnderWay, NothingIsSilent}
 use Rattle.dnssec_policy.specs.Next.{at_moment, change, next_of, renewal, start_with}
 use Rattle.dnssec_policy.specs.Stuck.{barred_if, is_over, is_reached, keys_why, may_begin, phase_why}
-use Rattle.dnssec_policy.specs.Stuck.{renewal_why, renewals_why, rolls_why, starts_why, stuck_of}
+use Rattle.dnssec_policy.specs.Stuck.{renewal_why, renewals_why, rolls_why, starts_why}
 use Rattle.dnssec_policy.specs.Stuck.{why_of}
 use Rattle.dnssec_policy.specs.Todo.{NotBefore, Rest, Todo, rank}
 use Rattle.dnssec_policy.specs.View.{View}

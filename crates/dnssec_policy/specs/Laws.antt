@@ -1,5 +1,6 @@
 -- What holds of calls that a zone makes by itself.
-use Rattle.std.specs.Prelude.{◌≡◌, ◌⊎◌, ◌++◌, ◌∷◌, ℕ, suc, ◌+◌, ◌<◌, ◌≤◌, true, false, List, []}
+use Rattle.std.specs.Prelude.{◌≡◌, ◌⊎◌, ◌++◌, ◌∷◌, ℕ, suc, ◌+◌, ◌<◌, ◌≤◌, Bool, true, false, List}
+use Rattle.std.specs.Prelude.{[]}
 use Rattle.std.specs.Prelude.{length, slice_get, Option, None, Some, Ok}
 use Rattle.std.specs.Prelude.{nat_le}
 use Rattle.std.specs.{FinMap.get, FinMap.values, List.list_all, List.list_any}
@@ -37,10 +38,12 @@ use Rattle.dnssec_network.specs.Network.{NoneLiesAhead}
 use Rattle.dnssec_network.specs.Reach.{AllGive}
 use Rattle.dnssec_network.specs.declared.reach.Reach.TheVariants.{Everywhere}
 use Rattle.dnssec_network.specs.Reports.{NoneGoesBack, ReportsAreByNotes}
+use Rattle.dnssec_policy.specs.declared.by_hand.FirstByHand.{FirstByHand}
 use Rattle.dnssec_policy.specs.declared.last_waits.LastWaits.{LastWaits}
 use Rattle.dnssec_policy.specs.declared.policy.Policy.{Policy}
 use Rattle.dnssec_policy.specs.declared.state.State.{State}
 use Rattle.dnssec_policy.specs.Automatic.{IsAutomatic, IsSaid, IsViewAt, is_add, last_below}
+use Rattle.dnssec_policy.specs.ByHand.{first_by_hand, is_by_hand}
 use Rattle.dnssec_policy.specs.Code.{last_of, second_wait_of, view_of}
 use Rattle.dnssec_policy.specs.InProgress.{ends_with}
 use Rattle.dnssec_policy.specs.InProgress.{roll_next}
@@ -49,7 +52,7 @@ use Rattle.dnssec_policy.specs.Keys.{renewal_of}
 use Rattle.dnssec_policy.specs.Stuck.{is_over, why_of}
 use Rattle.dnssec_policy.specs.declared.why.Why.{Why}
 use Rattle.dnssec_policy.specs.Keys.{role_of, roles_of, rolls_of, wants_others}
-use Rattle.dnssec_policy.specs.Next.{may_begin, next_of, stuck_of}
+use Rattle.dnssec_policy.specs.Next.{answer_of, may_begin, next_of, stuck_of}
 use Rattle.dnssec_policy.specs.Todo.{Todo, Make, NotBefore, Rest, rank}
 use Rattle.dnssec_policy.specs.Ttls.{AreHighest, highest_of, report_takes}
 use Rattle.dnssec_policy.specs.View.{View, reach_in}
@@ -69,6 +72,12 @@ AutomaticRunsKeepWhole =
     (name : List ℕ) (calls : List Call) (entries : List Entry) (network : Network) (time : ℕ) →
     IsRun name calls entries → IsAutomatic name calls entries network time →
     KeepsWhole name calls entries
+
+-- none of them is by hand
+abbrev pub AutomaticRunsAreUntouched : Type 0
+AutomaticRunsAreUntouched =
+    (name : List ℕ) (calls : List Call) (entries : List Entry) (network : Network) (time n : ℕ) →
+    IsAutomatic name calls entries network time → first_by_hand name calls entries n ≡ None
 
 -- its reports are by notes, and no moment lay ahead of the clock
 abbrev pub AutomaticReportsAreByNotes : Type 0
@@ -290,6 +299,21 @@ LastsFollow old wait reply at new =
     at ≡ suc (length entries) →
     AreLastsOf (calls ++ call ∷ []) (entries ++ entry ∷ []) new
 
+-- this is the first call by hand
+abbrev pub IsFirstOf : List ℕ → List Call → List Entry → FirstByHand → Type 0
+IsFirstOf name calls entries first = first.at ≡ first_by_hand name calls entries (length entries)
+
+-- after one more call, at this position, which got this reply
+abbrev pub FirstFollows : FirstByHand → Bool → Reply → ℕ → FirstByHand → Type 0
+FirstFollows old by_hand reply at new =
+    (name : List ℕ) (calls : List Call) (entries : List Entry) (call : Call) (entry : Entry) →
+    length entries ≡ length calls →
+    IsFirstOf name calls entries old →
+    is_by_hand (world_at name calls entries (length entries)).set call ≡ by_hand →
+    entry.reply ≡ reply →
+    at ≡ suc (length entries) →
+    IsFirstOf name (calls ++ call ∷ []) (entries ++ entry ∷ []) new
+
 -- a state that is handed to `next` is that after these calls, and its notes are true up to a time
 pub record Knows (name : List ℕ) (calls : List Call) (entries : List Entry) (network : Network)
     (time : ℕ) (s : State) : Type 0 where
@@ -306,6 +330,6 @@ AnswersAreSaid =
     (s : State) (end : RollType → Option WaitEnd) (policy : Policy) (call : Call) →
     Knows name calls entries network time s →
     ((roll : RollType) → TellsEnd roll s.keyset.now (end roll)) →
-    next_of policy (view_of s end) ≡ Make (call_of call) →
+    answer_of policy s.by_hand.at (view_of s end) ≡ Make (call_of call) →
     s.moment ≤ network.made (suc (length entries)) →
     IsSaid name calls entries network time (length entries) call

@@ -3,6 +3,7 @@ pub mod Ttls
 pub mod View
 pub mod InProgress
 pub mod Keys
+pub mod ByHand
 pub mod Stuck
 pub mod Texts
 pub mod Next

@@ -1,7 +1,7 @@
 -- What a policy says to do next: rolls in progress go on, keys that have left are deleted, and
 -- rolls start that the policy wants. The most urgent of all that is said; and if nothing can be done,
 -- why.
-use Rattle.std.specs.Prelude.{ℕ, ◌&&◌, not, Bool, List, ◌∷◌, [], nat_le, Option, None, Some}
+use Rattle.std.specs.Prelude.{ℕ, ◌&&◌, not, List, ◌∷◌, [], nat_le, Option, None, Some}
 use Rattle.std.specs.Prelude.{if◌then◌else◌, Result, Ok, Err}
 use Rattle.std.specs.List.{fold}
 use Rattle.std.specs.FinMap.{entries, values}
@@ -16,12 +16,14 @@ use Rattle.dnssec_policy.specs.declared.policy.KeyRole.{KeyRole}
 use Rattle.dnssec_policy.specs.declared.policy.Policy.{Policy}
 use Rattle.dnssec_policy.specs.declared.policy.Scheme.{Scheme}
 use Rattle.dnssec_policy.specs.declared.policy.Scheme.TheVariants.{Split, SingleType}
+use Rattle.dnssec_policy.specs.declared.why.Why.{Why}
+use Rattle.dnssec_policy.specs.declared.why.Why.TheVariants.{ByHand}
 use Rattle.dnssec_policy.specs.InProgress.{once_settled, roll_next}
 use Rattle.dnssec_policy.specs.Keys.{first_over, goes, has_left, is_unwanted, ksk_roll, leaves_from}
 use Rattle.dnssec_policy.specs.Keys.{new_keys, references_where, renewal_of, role_of, roles_of}
 use Rattle.dnssec_policy.specs.Keys.{wants_others, zsk_roll}
-pub use Rattle.dnssec_policy.specs.Stuck.{may_begin, stuck, stuck_of}
-use Rattle.dnssec_policy.specs.Todo.{Todo, Make, NeedKey, NotBefore, Rest, sooner}
+pub use Rattle.dnssec_policy.specs.Stuck.{lasts, may_begin, stuck, stuck_of}
+use Rattle.dnssec_policy.specs.Todo.{Todo, Make, NeedKey, NotBefore, Rest, Stuck, sooner}
 use Rattle.dnssec_policy.specs.View.{View}
 
 -- once the moment is reached, if there is one
@@ -95,3 +97,19 @@ abbrev pub next_of : Policy → View → Todo
 next_of policy v =
     sooner (sooner (sooner (sooner (rolls_next v) (deletions policy v)) (change policy v))
     (renewals policy v policy.scheme)) (stuck (stuck_of policy v))
+
+-- ---- what is answered
+
+-- a cause that lasts is said in place of a moment to wait for
+abbrev pub unless_lasting : Option Why → Todo → Todo
+unless_lasting (Some why) (NotBefore moment) = if lasts why then Stuck why else NotBefore moment
+unless_lasting why todo = todo
+
+-- nothing is said after a call by hand, at this position
+abbrev pub unless_by_hand : Option ℕ → Todo → Todo
+unless_by_hand None todo = todo
+unless_by_hand (Some at) todo = Stuck (ByHand at)
+
+abbrev pub answer_of : Policy → Option ℕ → View → Todo
+answer_of policy by_hand v =
+    unless_by_hand by_hand (unless_lasting (stuck_of policy v) (next_of policy v))

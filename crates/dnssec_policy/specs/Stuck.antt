@@ -1,5 +1,5 @@
 -- What a policy wants and doesn't get, and why.
-use Rattle.std.specs.Prelude.{ℕ, ◌&&◌, not, Bool, false, List, ◌∷◌, [], nat_le, Option, None, Some}
+use Rattle.std.specs.Prelude.{ℕ, ◌&&◌, not, Bool, true, false, nat_le, Option, None, Some}
 use Rattle.std.specs.Prelude.{if◌then◌else◌, is_none}
 use Rattle.std.specs.Option.{option_or}
 use Rattle.std.specs.List.{fold}
@@ -8,7 +8,6 @@ use Rattle.dnssec_key.specs.declared.roll.RollState.{RollState}
 use Rattle.dnssec_key.specs.declared.roll.RollState.TheVariants.{Propagation1, Propagation2}
 use Rattle.dnssec_key.specs.declared.roll.RollType.{RollType}
 use Rattle.dnssec_key.specs.declared.roll.RollType.TheVariants.{AlgorithmRoll, CskRoll}
-use Rattle.dnssec_key.specs.Key.{KeyParts}
 use Rattle.dnssec_zone.specs.Keys.{some_key}
 use Rattle.dnssec_zone.specs.Rolls.{all_rolls, phase_of}
 use Rattle.dnssec_zone.specs.Start.{conflict}
@@ -85,6 +84,12 @@ keys_why v =
 -- the first cause for which something isn't done that the policy wants
 abbrev pub stuck_of : Policy → View → Option Why
 stuck_of policy v = option_or (rolls_why v) (option_or (starts_why policy v) (keys_why v))
+
+-- it doesn't go away by itself
+abbrev pub lasts : Why → Bool
+lasts (TtlTooLong roll) = false
+lasts (Barred roll) = false
+lasts _ = true
 
 -- nothing is done for it
 abbrev pub stuck : Option Why → Todo

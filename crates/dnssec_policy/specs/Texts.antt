@@ -1,5 +1,5 @@
 -- The texts of causes.
-use Rattle.std.specs.Prelude.{ℕ, ◌++◌, List, codes}
+use Rattle.std.specs.Prelude.{ℕ, ◌++◌, List, codes, decimal}
 use Rattle.dnssec_key.specs.Texts.{roll_name}
 use Rattle.dnssec_policy.specs.declared.why.Why.{Why}
 use Rattle.dnssec_policy.specs.declared.why.Why.TheVariants as why
@@ -15,3 +15,4 @@ why_text (why.NoLastWait roll) =
     codes "the second wait of " ++ (roll_name roll ++ codes " isn't known")
 why_text (why.Barred roll) = roll_name roll ++ codes " may not begin beside the rolls in progress"
 why_text why.OldKeyInUse = codes "a key is on its way out, and no roll takes it out"
+why_text (why.ByHand at) = codes "call " ++ (decimal at ++ codes " was made by hand")

@@ -4,7 +4,7 @@ ghost use Rattle.dnssec_key.specs.declared.roll.RollType.{RollType as AnyRoll};
 ghost use Rattle.dnssec_keyset.specs.WaitEnd.{TellsEnd};
 ghost use Rattle.dnssec_keyset.specs.declared.wait.WaitEnd.{WaitEnd as AnyEnd};
 ghost use Rattle.dnssec_policy.specs.Code.{AreKeysOf, end_of, todo_of, view_of};
-ghost use Rattle.dnssec_policy.specs.Next.{next_of};
+ghost use Rattle.dnssec_policy.specs.Next.{answer_of};
 
 use crate::deletions::deletions;
 use crate::in_progress::rolls_next;
@@ -17,7 +17,7 @@ use crate::unmet::stuck_of;
 use dnssec_keyset::Key;
 use std::alloc::{AllocError, Global};
 
-/// What the policy says to do next, in this state of the zone.
+/// What the policy says to do next, in this state of the zone. Nothing, if a call was made by hand.
 ///
 /// # Errors
 ///
@@ -25,7 +25,8 @@ use std::alloc::{AllocError, Global};
 pub fn next<'a>(alloc: Global, policy: &Policy, state: &State<'a>) -> Result<Next<'a>, AllocError>
     ensures { IfOk result (λ next. (end : AnyRoll → Option AnyEnd)
         × ((roll : AnyRoll) → TellsEnd roll state.now.keyset.now (end roll))
-        × (todo_of state.now.moment next ≡ next_of policy.now (view_of state.now end))) }
+        × (todo_of state.now.moment next
+        ≡ answer_of policy.now state.now.by_hand.at (view_of state.now end))) }
 {
     let ends = Ends::of_keyset(state.keyset);
     let keys = in_order(alloc, state.keyset.keys())?;
@@ -43,7 +44,7 @@ fn of_keys<'a>(
 ) -> Result<Next<'a>, AllocError>
     ensures { IfOk result (λ next. AreKeysOf state.now.keyset.now keys.now
         → todo_of state.now.moment next
-        ≡ next_of policy.now (view_of state.now (end_of ends.now))) }
+        ≡ answer_of policy.now state.now.by_hand.at (view_of state.now (end_of ends.now))) }
 {
     let change = change(alloc, policy, state, keys)?;
     let renewals = renewals(alloc, policy, state, keys)?;
@@ -51,5 +52,6 @@ fn of_keys<'a>(
     let two = one.or(change);
     let three = two.or(renewals);
     let why = stuck_of(policy, state, ends, keys);
-    Ok(three.or(Next::without(why)))
+    let next = three.or(Next::without(why));
+    Ok(next.unless_lasting(why).unless_by_hand(state.by_hand))
 }

@@ -3,6 +3,7 @@
 ghost use Rattle.dnssec_policy.specs.Laws.{AnswersAreSaid, AutomaticDeletionsFollow};
 ghost use Rattle.dnssec_policy.specs.Laws.{AutomaticEndsFollow, AutomaticReportsAreByNotes};
 ghost use Rattle.dnssec_policy.specs.Laws.{AutomaticRunsArePlain, AutomaticRunsGrow};
+ghost use Rattle.dnssec_policy.specs.Laws.{AutomaticRunsAreUntouched};
 ghost use Rattle.dnssec_policy.specs.Laws.{AutomaticRunsKeepWhole, AutomaticRunsReachResolvers};
 ghost use Rattle.dnssec_policy.specs.Laws.{ChangesStartInTime, NextGoesOn, NextIsAccepted};
 ghost use Rattle.dnssec_policy.specs.Laws.{NothingIsSilent};
@@ -16,6 +17,11 @@ ghost use Rattle.dnssec_policy.specs.Kept.{AutomaticRunsServeKeepers, KeptAlgori
 pub fn automatic_runs_are_plain()
     ensures plain { AutomaticRunsArePlain }
     ensures whole { AutomaticRunsKeepWhole }
+{}
+
+/// None of these calls was made by hand. So `next` goes on.
+pub fn automatic_runs_are_untouched()
+    ensures { AutomaticRunsAreUntouched }
 {}
 
 /// If the facts that `next` went by are true, the reports that it said are by notes, and no moment

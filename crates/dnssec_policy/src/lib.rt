@@ -3,6 +3,7 @@
 //! notes: so resolvers find a chain of trust at all times.
 #![tactic(auto)]
 
+mod by_hand;
 mod choose;
 mod deletions;
 mod in_progress;
@@ -17,14 +18,15 @@ mod ttls;
 mod unmet;
 mod why;
 
+pub use by_hand::FirstByHand;
 pub use choose::next;
 pub use last_waits::LastWaits;
 pub use laws::{
     answers_are_said, automatic_deletions_follow, automatic_ends_follow,
-    automatic_reports_are_by_notes, automatic_runs_are_plain, automatic_runs_grow,
-    automatic_runs_reach_resolvers, automatic_runs_serve_keepers, keys_leave, next_goes_on,
-    next_is_accepted, nothing_is_silent, rest_is_as_wanted, rolls_are_in_time, rolls_end,
-    starts_are_in_time,
+    automatic_reports_are_by_notes, automatic_runs_are_plain, automatic_runs_are_untouched,
+    automatic_runs_grow, automatic_runs_reach_resolvers, automatic_runs_serve_keepers, keys_leave,
+    next_goes_on, next_is_accepted, nothing_is_silent, rest_is_as_wanted, rolls_are_in_time,
+    rolls_end, starts_are_in_time,
 };
 pub use policy::{KeyRole, KskMethod, Policy, Scheme, Term, ZskMethod};
 pub use state::State;

@@ -4,6 +4,7 @@ ghost use Rattle.dnssec_key.specs.declared.roll.RollType.{RollType as AnyRoll};
 ghost use Rattle.dnssec_keyset.specs.WaitEnd.{TellsEnd};
 ghost use Rattle.dnssec_policy.specs.Code.{end_of};
 
+use crate::by_hand::FirstByHand;
 use crate::last_waits::LastWaits;
 use crate::ttls::HighestTtls;
 use dnssec_keyset::{KeySet, RollType, UnixTime, WaitEnd};
@@ -17,6 +18,8 @@ pub struct State<'a> {
     pub steps: Steps,
     /// The last second waits of that record.
     pub last_waits: LastWaits,
+    /// The first call of that record that was made by hand.
+    pub by_hand: FirstByHand,
     pub notes: &'a Notes,
     /// The highest TTLs of these notes.
     pub highest: HighestTtls,

@@ -3,9 +3,11 @@ ghost use Rattle.std.specs.Prelude.{◌≡◌, ◌≢◌, ℕ, IfNone, IfSome};
 ghost use Rattle.dnssec_keyset.specs.Step.{Call as AnyCall};
 ghost use Rattle.dnssec_run.specs.Record.{call_of};
 ghost use Rattle.dnssec_policy.specs.Code.{todo_of};
+ghost use Rattle.dnssec_policy.specs.Next.{unless_by_hand, unless_lasting};
 ghost use Rattle.dnssec_policy.specs.Stuck.{stuck};
 ghost use Rattle.dnssec_policy.specs.Todo.{Make, cds_with, is_sooner, moment_of, rank, sooner};
 
+use crate::by_hand::FirstByHand;
 use crate::policy::KeyRole;
 use crate::why::Why;
 use dnssec_key::Half;
@@ -145,6 +147,29 @@ impl<'a> Next<'a> {
         match why {
             None => Next::Rest,
             Some(why) => Next::Stuck { why },
+        }
+    }
+
+    /// A cause that lasts in place of a moment to wait for.
+    pub(crate) fn unless_lasting(self, why: Option<Why>) -> Next<'a>
+        ensures { (now : ℕ) → todo_of now result ≡ unless_lasting why (todo_of now self.entry) }
+    {
+        match (why, self) {
+            (Some(why), Next::NotBefore { .. }) if why.lasts() => Next::Stuck { why },
+            (_, next) => next,
+        }
+    }
+
+    /// Nothing, if a call was made by hand.
+    pub(crate) fn unless_by_hand(self, by_hand: FirstByHand) -> Next<'a>
+        ensures { (now : ℕ) → todo_of now result ≡ unless_by_hand by_hand.at
+            (todo_of now self.entry) }
+    {
+        match by_hand.position() {
+            None => self,
+            Some(at) => Next::Stuck {
+                why: Why::ByHand { at },
+            },
         }
     }
 

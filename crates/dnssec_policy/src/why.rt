@@ -1,5 +1,6 @@
 //! Why something isn't done that a policy wants.
-ghost use Rattle.std.specs.Prelude.{Some};
+ghost use Rattle.std.specs.Prelude.{◌≡◌, Some};
+ghost use Rattle.dnssec_policy.specs.Stuck.{lasts};
 ghost use Rattle.dnssec_policy.specs.Texts.{why_text};
 
 use dnssec_key::roll_name;
@@ -23,6 +24,18 @@ pub enum Why {
     Barred { roll: RollType },
     /// A key is on its way out and in use, and no roll takes it out: it was set by hand.
     OldKeyInUse,
+    /// The call at this position, counted from 1, was made by hand: a roll was ended early, or a flag
+    /// or a time of a key set.
+    ByHand { at: usize },
+}
+
+impl Why {
+    /// Whether it doesn't go away by itself.
+    pub(crate) fn lasts(self) -> bool
+        ensures { result ≡ lasts self }
+    {
+        !matches!(self, Why::TtlTooLong { .. } | Why::Barred { .. })
+    }
 }
 
 impl fmt::Display for Why {
@@ -57,6 +70,7 @@ impl fmt::Display for Why {
                 write!(f, "{name} may not begin beside the rolls in progress")
             }
             Why::OldKeyInUse => f.write_str("a key is on its way out, and no roll takes it out"),
+            Why::ByHand { at } => write!(f, "call {at} was made by hand"),
         }
     }
 }

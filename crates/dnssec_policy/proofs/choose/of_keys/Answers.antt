@@ -2,6 +2,7 @@
 use Rattle.std.proofs.Common.{◌∙◌, ap, Option}
 use Rattle.dnssec_policy.specs.declared.why.Why.{Why}
 use Rattle.dnssec_policy.specs.Code.{end_of}
+use Rattle.dnssec_policy.specs.Next.{unless_by_hand, unless_lasting}
 use Rattle.dnssec_policy.specs.Stuck.{stuck}
 use Rattle.dnssec_policy.specs.Todo.{sooner}
 use Rattle.dnssec_policy.proofs.choose.of_keys.Goals as goal
@@ -18,4 +19,7 @@ returns c same =
     ∙ (λ i. sooner (two i) (c.in_ok-renewals.ensures end same i)) in
     let cause = c.without.ensures now
     ∙ ap (λ (o : Option Why). stuck o) (c.stuck_of-why.ensures same) in
-    c.or.ensures now ∙ (λ i. sooner (three i) (cause i))
+    let four = c.or-next.ensures now ∙ (λ i. sooner (three i) (cause i)) in
+    let lasting = c.unless_lasting.ensures now
+    ∙ (λ i. unless_lasting (c.stuck_of-why.ensures same i) (four i)) in
+    c.unless_by_hand.ensures now ∙ ap (unless_by_hand c.args.state.now.by_hand.at) lasting

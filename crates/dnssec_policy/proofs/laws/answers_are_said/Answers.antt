@@ -1,5 +1,7 @@
 -- The state is what is known.
+use Rattle.dnssec_run.specs.Record.{call_of}
 use Rattle.dnssec_policy.specs.Code.{view_of}
+use Rattle.dnssec_policy.proofs.ByHand.{answered}
 use Rattle.dnssec_policy.proofs.laws.answers_are_said.Goals as goal
 
 pub returns : goal.returns
@@ -15,5 +17,5 @@ returns c = λ name calls entries network time s end policy call knows tells is 
     are_true = knows.are_true;
   };
   clock = clock;
-  said = is;
+  said = answered policy s.by_hand.at (view_of s end) (call_of call) is;
 }

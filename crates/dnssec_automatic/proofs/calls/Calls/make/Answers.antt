@@ -1,5 +1,8 @@
 -- The session goes on, and so do the last second waits.
-use Rattle.std.proofs.Common.{◌+◌, ◌++◌, ◌∷◌, ◌≡◌, [], arith, length, length-append, sym}
+use Rattle.std.proofs.Common.{◌+◌, ◌++◌, ◌∷◌, ◌≡◌, ◌∙◌, [], ap, arith, length, length-append, sym}
+use Rattle.dnssec_keyset.specs.KeySet.{KeySetParts}
+use Rattle.dnssec_run.specs.Record.{world_at}
+use Rattle.dnssec_policy.specs.ByHand.{is_by_hand}
 use Rattle.dnssec_automatic.proofs.calls.Calls.make.Goals as goal
 
 pub returns : goal.returns
@@ -9,6 +12,11 @@ returns c name calls entries after =
     length-append entries (next.entry ∷ []) in
     let at = c.calls-at.ensures name (calls ++ c.args.call ∷ []) (entries ++ next.entry ∷ [])
     next.stands in
+    let set : c.keyset.result.now ≡ (world_at name calls entries (length entries)).set =
+    c.keyset.ensures ∙ after.stands.records.agrees.same
+    ∙ ap (λ k. (world_at name calls entries k).set) (sym after.stands.records.run.count) in
+    let is_by_hand = ap (λ (set : KeySetParts). is_by_hand set c.args.call) (sym set)
+    ∙ sym c.is_by_hand-is_by_hand.ensures in
     record {
       entry = next.entry;
       after = record {
@@ -16,6 +24,8 @@ returns c name calls entries after =
         lasts = c.after-self.ensures.follows calls entries c.args.call next.entry
             after.stands.records.run.count after.lasts (sym c.second_wait-wait.ensures)
             next.is_reply (omega arith);
+        first = c.after-self-2.ensures name calls entries c.args.call next.entry
+            after.stands.records.run.count after.first is_by_hand next.is_reply (omega arith);
       };
       is_reply = next.is_reply;
     }

@@ -1,9 +1,10 @@
 -- The state is what is known.
-use Rattle.std.proofs.Common.{◌∙◌, ap, refl, subst, sym}
+use Rattle.std.proofs.Common.{◌∙◌, ℕ, Option, ap, refl, subst, sym}
 use Rattle.std.proofs.lemmas.Result.{IfOk-weaker}
 use Rattle.dnssec_run.specs.Record.{world_at}
 use Rattle.dnssec_network.specs.{Facts.AreTrue, Notes.NotesParts}
 use Rattle.dnssec_policy.specs.Code.{view_of}
+use Rattle.dnssec_policy.specs.Next.{answer_of}
 use Rattle.dnssec_policy.specs.declared.state.State.{State}
 use Rattle.dnssec_policy.specs.declared.ttls.HighestTtls.{HighestTtls}
 use Rattle.dnssec_policy.specs.Ttls.{highest_of, ttl_in}
@@ -15,6 +16,7 @@ returns c =
       keyset = c.keyset.result;
       steps = c.steps.result;
       last_waits = c.args.self.now.calls.last_waits;
+      by_hand = c.args.self.now.calls.by_hand;
       notes = c.notes.result;
       highest = c.highest.result.now;
       moment = c.args.moment;
@@ -35,5 +37,6 @@ returns c =
             (sym c.notes.ensures) are;
       };
       now = refl;
-      said = sym said.2;
+      said = ap (λ (at : Option ℕ). answer_of c.args.policy.now at (view_of state said.0)) (sym so.first)
+          ∙ sym said.2;
     }) c.next.ensures

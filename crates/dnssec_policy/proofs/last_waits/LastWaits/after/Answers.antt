@@ -1,5 +1,5 @@
 -- The waits so far, and that of the call.
-use Rattle.std.proofs.Common.{◌∙◌, sym, suc, length}
+use Rattle.std.proofs.Common.{◌∙◌, sym}
 use Rattle.std.specs.Prelude.{if◌then◌else◌, Some}
 use Rattle.dnssec_policy.specs.Code.{accepted_wait, is_wait_of, last_of}
 use Rattle.dnssec_policy.proofs.Growing.{lasts-follow}
