@@ -35,7 +35,6 @@ pub mod Prompt
 pub mod InTime
 pub mod Rests
 pub mod Growing
-pub mod InOrder
 pub mod Highest
 pub mod Silence
 pub mod Spreads

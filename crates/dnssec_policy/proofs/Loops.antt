@@ -17,7 +17,8 @@ use Rattle.dnssec_key.specs.declared.roll.RollType.{RollType}
 use Rattle.dnssec_key.specs.Key.{KeyParts}
 use Rattle.dnssec_zone.specs.Keys.{Keys, some_key}
 use Rattle.dnssec_zone.proofs.Quantified.{list_any-map}
-use Rattle.dnssec_policy.specs.Code.{entry_of, passing}
+use Rattle.dnssec_run.specs.InOrder.{entry_of}
+use Rattle.dnssec_policy.specs.Code.{passing}
 use Rattle.dnssec_policy.specs.Keys.{earlier, first_over, over_from, serves, with_key}
 use Rattle.dnssec_policy.specs.declared.policy.Term.{Term}
 use Rattle.dnssec_policy.specs.Next.{deletion, deletions, once_ended}

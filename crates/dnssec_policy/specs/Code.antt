@@ -19,6 +19,7 @@ use Rattle.dnssec_keyset.specs.declared.wait.WaitEnd.{WaitEnd}
 use Rattle.dnssec_run.specs.declared.call.Call.{Call}
 use Rattle.dnssec_run.specs.declared.call.Call.TheVariants.{CacheExpired2}
 use Rattle.dnssec_run.specs.declared.record.Reply.{Reply}
+use Rattle.dnssec_run.specs.InOrder.{entry_of}
 use Rattle.dnssec_run.specs.Record.{is_accepted}
 use Rattle.dnssec_run.specs.Steps.{step_of}
 use Rattle.dnssec_policy.specs.declared.last_waits.LastWaits.{LastWaits}
@@ -69,9 +70,6 @@ view_of s end = record {
 }
 
 -- ---- keys
-
-abbrev pub entry_of : {Y : Type 0} → Bor (String Y) × Bor KeyParts → List ℕ × KeyParts
-entry_of e = (string_bytes e.0.now, e.1.now)
 
 -- these are the keys of the set, in their order
 abbrev pub AreKeysOf : {Y : Type 0} → KeySetParts → List (Bor (String Y) × Bor KeyParts) → Type 0

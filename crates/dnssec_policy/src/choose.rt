@@ -8,13 +8,13 @@ ghost use Rattle.dnssec_policy.specs.Next.{answer_of};
 
 use crate::deletions::deletions;
 use crate::in_progress::rolls_next;
-use crate::keys::in_order;
 use crate::policy::Policy;
 use crate::starts::{change, renewals};
 use crate::state::{Ends, State};
 use crate::todo::Next;
 use crate::unmet::stuck_of;
 use dnssec_keyset::Key;
+use dnssec_run::keys_in_order;
 use std::alloc::{AllocError, Global};
 
 /// What the policy says to do next, in this state of the zone. Nothing, if a call was made by hand.
@@ -29,7 +29,7 @@ pub fn next<'a>(alloc: Global, policy: &Policy, state: &State<'a>) -> Result<Nex
         ≡ answer_of policy.now state.now.by_hand.at (view_of state.now end))) }
 {
     let ends = Ends::of_keyset(state.keyset);
-    let keys = in_order(alloc, state.keyset.keys())?;
+    let keys = keys_in_order(alloc, state.keyset.keys())?;
     let next = of_keys(alloc, policy, state, &ends, &keys)?;
     Ok(next)
 }

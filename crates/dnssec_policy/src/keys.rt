@@ -4,9 +4,9 @@ ghost use Rattle.std.specs.FinMap as fin;
 ghost use Rattle.std.specs.List.{list_any};
 ghost use Rattle.std.specs.Option.{option_map_or};
 ghost use Rattle.dnssec_key.specs.State.{is_active_ksk, is_active_zsk};
-ghost use Rattle.dnssec_zone.specs.Keys.{keys_in_map};
 ghost use Rattle.dnssec_zone.specs.Start.{lists_kind, texts};
-ghost use Rattle.dnssec_policy.specs.Code.{entry_of, passes, passing};
+ghost use Rattle.dnssec_run.specs.InOrder.{entry_of};
+ghost use Rattle.dnssec_policy.specs.Code.{passes, passing};
 ghost use Rattle.dnssec_policy.specs.Keys.{goes, has_role, is_in_use, is_unwanted, is_wanted};
 ghost use Rattle.dnssec_policy.specs.Keys.{kept_in_use, roles_of, serves};
 
@@ -14,20 +14,6 @@ use crate::policy::{KeyRole, Policy, Scheme};
 use dnssec_key::{Side, side_of};
 use dnssec_keyset::{Key, KeyState, KeyType, RollType};
 use std::alloc::{AllocError, Global};
-use std::collections::HashMap;
-
-/// The keys with their references, in the order of the references.
-pub(crate) fn in_order(
-    alloc: Global,
-    keys: &HashMap<String, Key>,
-) -> Result<Vec<(&String, &Key)>, AllocError>
-    ensures { IfOk result (λ entries.
-        map entry_of entries.items ≡ fin.entries (keys_in_map keys.now)) }
-{
-    let mut entries = keys.iter().collect::<Vec<_>>(alloc)?;
-    entries.sort_unstable_by(|one, other| one.0.cmp(other.0));
-    Ok(entries)
-}
 
 // ---- roles
 

@@ -7,7 +7,8 @@ ghost use Rattle.dnssec_key.specs.declared.roll.RollType.TheVariants.{AlgorithmR
 ghost use Rattle.dnssec_zone.specs.Keys.{Keys, some_key};
 ghost use Rattle.dnssec_zone.specs.Start.{conflict, has_conflict, texts};
 ghost use Rattle.dnssec_keyset.specs.declared.wait.WaitEnd.{WaitEnd as AnyEnd};
-ghost use Rattle.dnssec_policy.specs.Code.{AreKeysOf, entry_of, news_of, todo_of, view_of};
+ghost use Rattle.dnssec_run.specs.InOrder.{entry_of};
+ghost use Rattle.dnssec_policy.specs.Code.{AreKeysOf, news_of, todo_of, view_of};
 ghost use Rattle.dnssec_policy.specs.Keys.{earlier, first_over, is_unwanted, new_keys};
 ghost use Rattle.dnssec_policy.specs.Keys.{over_by_age, over_from, over_on_demand, renewal_of};
 ghost use Rattle.dnssec_policy.specs.Keys.{role_of, roles_of, serves, wants_others};

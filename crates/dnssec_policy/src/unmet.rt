@@ -14,13 +14,13 @@ ghost use Rattle.dnssec_policy.specs.Stuck.{renewals_why, rolls_why, starts_why,
 
 use crate::deletions::is_rolled;
 use crate::in_progress::{nanos, phase_next};
-use crate::keys::in_order;
 use crate::policy::{Policy, Scheme};
 use crate::starts::{first_due, may_begin, wants_others};
 use crate::state::{Ends, State};
 use crate::todo::Next;
 use crate::why::Why;
 use dnssec_keyset::{Key, KeyState, RollState, RollType};
+use dnssec_run::keys_in_order;
 use dnssec_zone::all_rolls;
 use std::alloc::{AllocError, Global};
 
@@ -189,6 +189,6 @@ pub fn stuck(alloc: Global, policy: &Policy, state: &State<'_>) -> Result<Option
         × (why ≡ stuck_of policy.now (view_of state.now end))) }
 {
     let ends = Ends::of_keyset(state.keyset);
-    let keys = in_order(alloc, state.keyset.keys())?;
+    let keys = keys_in_order(alloc, state.keyset.keys())?;
     Ok(stuck_of(policy, state, &ends, &keys))
 }

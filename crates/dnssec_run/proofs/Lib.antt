@@ -18,6 +18,7 @@
 -- | all laws of runs          | `came`, `goes`, `by-phase`    | Effects                      |
 -- | for callers of `Recorder` | `last-ds` and the like        | Recorded                     |
 -- | `Moments`                 | `moments-more`, `latest-is`   | Latest                       |
+-- | `keys_in_order`           | `put_in_order`                | InOrder                      |
 pub mod Since
 pub mod Positions
 pub mod OneKey
@@ -33,3 +34,4 @@ pub mod Premise
 pub mod Starts
 pub mod Recorded
 pub mod Latest
+pub mod InOrder

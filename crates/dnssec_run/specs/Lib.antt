@@ -10,3 +10,4 @@ pub mod Recorder
 pub mod Safe
 pub mod Steps
 pub mod WholeRolls
+pub mod InOrder

@@ -6,6 +6,7 @@
 
 mod caches;
 mod call;
+mod in_order;
 mod moments;
 mod places;
 mod plain;
@@ -16,6 +17,7 @@ mod steps;
 
 pub use caches::{SetKind, retires};
 pub use call::Call;
+pub use in_order::keys_in_order;
 pub use moments::Moments;
 pub use plain::{each_chain_is_one, starts_suffice, whole_runs_stay_safe};
 pub use record::{Entry, Mark, Outcome, Published, PublishedKey, Reply, Run};

@@ -218,11 +218,6 @@ written rest filled before word i lt same =
 abbrev pub with_bit : List ℕ → ℕ → ℕ
 with_bit words number = bit_or (word_at words (number / 64)) (1 * 2 ^ (number % 64) % 2 ^ 64)
 
--- and with its bit turned
-abbrev pub with_other_bit : List ℕ → ℕ → ℕ
-with_other_bit words number =
-    bit_xor (word_at words (number / 64)) (1 * 2 ^ (number % 64) % 2 ^ 64)
-
 -- the words differ in the word of a number, which is this one
 abbrev pub IsWritten : List ℕ → List ℕ → ℕ → ℕ → Type 0
 IsWritten old new number word = (i : ℕ) →
@@ -236,29 +231,6 @@ put-bit old new number is n =
     let others = bit_at_set_other w64 (word_at old (number / 64)) (number % 64) low (n % 64) in
     let here = is (n / 64) in
     grind (arith, nat_tests, same, others, here)
-
--- the other value of a bit
-turned : (b : ℕ) → b < 2 → nat_eq ((b + 1) % 2) 1 ≡ not (nat_eq b 1)
-turned zero lt = refl
-turned (suc zero) lt = refl
-turned (suc (suc b)) lt = absurd (omega arith)
-
-pub flip-bit : (old new : List ℕ) (number : ℕ)
-    → IsWritten old new number (with_other_bit old number)
-    → (n : ℕ) → has_bit new n ≡ (if nat_eq number n then not (has_bit old n) else has_bit old n)
-flip-bit old new number is n =
-    let k = number % 64 in
-    let low : k < 64 = omega arith in
-    let word = word_at old (number / 64) in
-    let mask = 1 * 2 ^ k % 2 ^ 64 in
-    let lt = bit_at-lt word (n % 64) in
-    let x = bit_at_xor word mask (n % 64) in
-    let same : bit_at mask k ≡ 1 = bit_at_set_same w64 0 k low in
-    let others : (n % 64 ≡ k → ⊥) → bit_at mask (n % 64) ≡ 0 =
-    (λ ne. bit_at_set_other w64 0 k low (n % 64) ne ∙ bit_at-zero (n % 64)) in
-    let turn = turned (bit_at word (n % 64)) lt in
-    let here = is (n / 64) in
-    grind (arith, nat_tests, same, others, here, x, turn)
 
 -- both bits are set, or one isn't
 both : (a b : ℕ) → a < 2 → b < 2 → nat_eq (min a b) 1 ≡ (nat_eq a 1 && nat_eq b 1)

@@ -112,38 +112,6 @@ impl Bits {
         Ok(())
     }
 
-    /// Puts a number in that isn't in the set, or takes it out.
-    pub fn flip(&mut self, number: usize) -> Result<(), Error>
-        ensures ok { OnOk result ((n : ℕ) → has self.new n
-            ≡ (if nat_eq number n then not (has self.old n) else has self.old n)) }
-        ensures err { IfErr result (λ e. e ≡ OutOfMemory) }
-    {
-        let index = number / WORD;
-        self.write(index, self.word(index) ^ 1u64 << (number % WORD))?;
-        self.drop_noughts();
-        Ok(())
-    }
-
-    /// Drops the last words that are 0, so that equal sets have equal words.
-    fn drop_noughts(&mut self)
-        ensures { (i : ℕ) → word_at (words_of self.new) i ≡ word_at (words_of self.old) i }
-    {
-        while self.ends_with_nought() {
-            self.rest.pop();
-        }
-    }
-
-    /// Whether its last word is a 0 that may go.
-    fn ends_with_nought(&self) -> bool
-        ensures { result ≡ true →
-            slice_get self.now.rest.items (vec_len self.now.rest - 1) ≡ Some 0 }
-    {
-        match self.rest.last() {
-            Some(word) => *word == 0,
-            None => false,
-        }
-    }
-
     /// Keeps only the numbers that are in another set too.
     pub fn keep(&mut self, other: &Bits)
         ensures { (n : ℕ) → has self.new n ≡ (has self.old n && has other.now n) }

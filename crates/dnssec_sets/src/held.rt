@@ -63,52 +63,6 @@ impl OpenSet {
         })
     }
 
-    /// The set of another position, which is this one until `flip` has changed it.
-    pub fn next(&self, at: usize) -> Result<Self, Error>
-        ensures ok { IfOk result (λ h. parts_of h ≡ (set_of self.now, at, at)) }
-        ensures err { IfErr result (λ e. e ≡ OutOfMemory) }
-    {
-        Ok(OpenSet {
-            since: at,
-            last: at,
-            keys: self.keys.try_clone()?,
-            signers: self.signers.try_clone()?,
-            digest: 0,
-        })
-    }
-
-    /// Has a key come into the set or leave it.
-    pub fn flip_key(&mut self, number: usize) -> Result<(), Error>
-        ensures ok { OnOk result ((n : ℕ) → has self.new.keys n
-            ≡ (if nat_eq number n then not (has self.old.keys n) else has self.old.keys n)) }
-        ensures kept { OnOk result (self.new ≡ record (self.old) {
-          keys = self.new.keys;
-        }) }
-        ensures err { IfErr result (λ e. e ≡ OutOfMemory) }
-    {
-        self.keys.flip(number)
-    }
-
-    /// Has a key come to its signers or leave them.
-    pub fn flip_signer(&mut self, number: usize) -> Result<(), Error>
-        ensures ok { OnOk result ((n : ℕ) → has self.new.signers n
-            ≡ (if nat_eq number n then not (has self.old.signers n)
-            else has self.old.signers n)) }
-        ensures kept { OnOk result (self.new ≡ record (self.old) {
-          signers = self.new.signers;
-        }) }
-        ensures err { IfErr result (λ e. e ≡ OutOfMemory) }
-    {
-        self.signers.flip(number)
-    }
-
-    /// Renews its digest, after `flip_key` or `flip_signer`.
-    pub fn renew_digest(&mut self)
-        ensures { parts_of self.new ≡ parts_of self.old }
-    {
-        self.digest = self.signers.digest(self.keys.digest(0));
-    }
-
     /// Sets with other digests are other sets.
     pub fn digest(&self) -> u64 {
         self.digest

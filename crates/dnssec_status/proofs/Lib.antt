@@ -1,4 +1,3 @@
--- The status of a zone: its texts, and the order of its keys.
+-- The status of a zone: its texts.
 pub mod Chains
-pub mod Order
 pub mod Listing

@@ -20,7 +20,8 @@ use Rattle.dnssec_key.specs.declared.{kind.KeyType.KeyType, roll.RollType.RollTy
 use Rattle.dnssec_record.specs.Courses.{Listed}
 use Rattle.dnssec_zone.specs.declared.lists.Part.{Part, TheVariants.New, TheVariants.Old}
 use Rattle.dnssec_status.specs.{Json.array_json, Json.flag_json, Names.roll_json}
-use Rattle.dnssec_status.specs.Inner.Entries.{entry_json, entry_of}
+use Rattle.dnssec_run.specs.InOrder.{entry_of}
+use Rattle.dnssec_status.specs.Inner.Entries.{entry_json}
 use Rattle.dnssec_status.specs.Keys.{end_json, front_json, has_listed, rolls_of}
 use Rattle.dnssec_zone.specs.Rolls.{all_rolls}
 

@@ -1,18 +1,16 @@
 //! The keys of a status.
 ghost use Rattle.std.specs.Prelude.{◌≡◌, ◌++◌, OnOk, IfOk, codes, map, string_bytes};
-ghost use Rattle.std.specs.FinMap as fin;
 ghost use Rattle.std.specs.Option.{option_map};
 ghost use denote.Bor.{now};
 ghost use Rattle.dnssec_key.specs.declared.kind.KeyType.TheVariants as KeyType;
 ghost use Rattle.dnssec_key.specs.State.{is_active_ksk, is_active_zsk, is_future, is_leaving};
 ghost use Rattle.dnssec_key.specs.State.{is_used};
-ghost use Rattle.dnssec_status.specs.Inner.Entries.{entry_json, entry_of};
+ghost use Rattle.dnssec_status.specs.Inner.Entries.{entry_json};
 ghost use Rattle.dnssec_status.specs.Json.{array_json, further_json, option_json, text_json};
 ghost use Rattle.dnssec_status.specs.Keys.{end_json, flags_json, front_json, key_json};
 ghost use Rattle.dnssec_status.specs.Keys.{is_listed_by_some, kind_json, may_come_in, role_json};
 ghost use Rattle.dnssec_status.specs.Keys.{rolls_of, seconds, stamps_json, state_word, traits_json};
 ghost use Rattle.dnssec_status.specs.Names.{roll_json};
-ghost use Rattle.dnssec_zone.specs.Keys.{keys_in_map};
 
 use crate::json::{push_bytes, push_flag, push_null, push_number, push_text};
 use crate::listed::{Listings, rolls_of};
@@ -20,21 +18,7 @@ use crate::names::push_roll_names;
 use dnssec_keyset::{Key, KeyState, KeyTimestamps, KeyType, UnixTime};
 use dnssec_record::Part;
 use std::alloc::{AllocError, Global};
-use std::collections::HashMap;
 use std::time::Duration;
-
-/// The keys with their references, in the order of the references.
-pub(crate) fn in_order(
-    alloc: Global,
-    keys: &HashMap<String, Key>,
-) -> Result<Vec<(&String, &Key)>, AllocError>
-    ensures { IfOk result (λ entries.
-        map entry_of entries.items ≡ fin.entries (keys_in_map keys.now)) }
-{
-    let mut entries = keys.iter().collect::<Vec<_>>(alloc)?;
-    entries.sort_unstable_by(|one, other| one.0.cmp(other.0));
-    Ok(entries)
-}
 
 /// Writes the keys.
 #[tactic(auto, unfolding(crate::specs::Json::array_json))]

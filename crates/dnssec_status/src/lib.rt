@@ -19,12 +19,13 @@ mod rolls;
 mod sets;
 
 use crate::json::{push_bytes, push_text};
-use crate::keys::{in_order, push_keys};
+use crate::keys::push_keys;
 use crate::listed::Listings;
 use crate::rolls::{RollInProgress, in_progress, push_ended, push_rolls};
 use crate::sets::{push_chain, push_sets};
 use dnssec_keyset::{Key, RollType};
 use dnssec_record::{Broken, Published, Session};
+use dnssec_run::keys_in_order;
 use std::alloc::{AllocError, Global};
 
 /// The status of a zone after the calls of a session, as one line of JSON with its line feed.
@@ -65,7 +66,7 @@ pub fn status(alloc: Global, session: &Session) -> Result<Vec<u8>, AllocError>
         session.published(),
     )?;
     let listings = Listings::of(alloc, session.listed())?;
-    let keys = in_order(alloc, keyset.keys())?;
+    let keys = keys_in_order(alloc, keyset.keys())?;
     let rolls = in_progress(alloc, keyset)?;
     push_rest(
         alloc,

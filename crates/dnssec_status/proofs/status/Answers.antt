@@ -6,7 +6,8 @@ use Rattle.dnssec_run.specs.Record.{world_at}
 use Rattle.std.specs.Prelude.{IsPermutation}
 use Rattle.dnssec_record.specs.Courses.{Listed, listed_by}
 use Rattle.dnssec_status.specs.Status.{state_json, status_text, zone_json}
-use Rattle.dnssec_status.specs.{Inner.Entries.entry_json, Inner.Entries.entry_of, Json.array_json}
+use Rattle.dnssec_run.specs.InOrder.{entry_of}
+use Rattle.dnssec_status.specs.{Inner.Entries.entry_json, Json.array_json}
 use Rattle.dnssec_status.specs.{Keys.key_json, Rolls.AreGoing}
 use Rattle.dnssec_status.specs.declared.rolls.RollInProgress.{RollInProgress}
 use Rattle.dnssec_status.proofs.{Chains.array_read, Listing.same_entries}

@@ -1,20 +1,17 @@
--- An entry of a map of keys, as a walk lends it, and a listing as code has it.
+-- A key at its reference, as both are lent, and a listing as code has it.
 use denote.Ref.{Bor}
-use Rattle.std.specs.Prelude.{ℕ, Bool, List, [], ◌∷◌, if◌then◌else◌, string_bytes}
+use Rattle.std.specs.Prelude.{ℕ, Bool, List, [], ◌∷◌, if◌then◌else◌}
 use Rattle.std.specs.List.{list_any}
 use Rattle.std.specs.declared.string.String.{String}
 use Rattle.dnssec_key.specs.Key.{KeyParts}
 use Rattle.dnssec_key.specs.declared.roll.RollType.{RollType}
+use Rattle.dnssec_run.specs.InOrder.{entry_of}
 use Rattle.dnssec_record.specs.Courses.{Listed, as_listed}
 use Rattle.dnssec_record.specs.declared.courses.Listed as code
 use Rattle.dnssec_zone.specs.declared.lists.Part.{Part}
 use Rattle.dnssec_status.specs.Keys.{has_listed, key_json}
 
--- the bytes of its reference, with its key
-abbrev pub entry_of : {Y : Type 0} → Bor (String Y) × Bor KeyParts → List ℕ × KeyParts
-entry_of e = (string_bytes e.0.now, e.1.now)
-
--- its text
+-- the text of an entry
 abbrev pub entry_json : {Y : Type 0} → List Listed → Bor (String Y) × Bor KeyParts → List ℕ
 entry_json listed e = key_json listed (entry_of e)
 

@@ -3,7 +3,7 @@ use Rattle.std.proofs.Common.{◌≡◌, map, drop}
 use Rattle.std.specs.FinMap as fin
 use Rattle.dnssec_zone.specs.Keys.{Keys}
 use Rattle.dnssec_zone.specs.Start.{texts}
-use Rattle.dnssec_policy.specs.Code.{entry_of}
+use Rattle.dnssec_run.specs.InOrder.{entry_of}
 use Rattle.dnssec_policy.specs.Keys.{new_keys}
 use Rattle.dnssec_policy.proofs.Loops.{Lent, onto}
 use Rattle.dnssec_policy.proofs.starts.new_keys.Given as goal

@@ -10,10 +10,10 @@ use Rattle.dnssec_key.specs.Key.{KeyParts}
 use Rattle.dnssec_zone.proofs.Walks.{apart_by_bytes, entries_permute}
 use Rattle.dnssec_zone.specs.Keys.{entries_by_bytes, keys_in_map}
 use Rattle.dnssec_run.specs.Recorder.{entry_lent}
-use Rattle.dnssec_status.{proofs.Order.put_in_order, specs.Inner.Entries.entry_of}
+use Rattle.dnssec_run.{proofs.InOrder.put_in_order, specs.InOrder.entry_of}
 use mathlib.Core.List.{map-map}
 use Rattle.std.specs.FinMap as fin
-use Rattle.dnssec_status.proofs.keys.in_order.Goals as goal
+use Rattle.dnssec_run.proofs.in_order.keys_in_order.Goals as goal
 
 -- an entry as it is lent
 abbrev Lent : Type 0
