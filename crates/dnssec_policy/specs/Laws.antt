@@ -311,7 +311,7 @@ FirstFollows old by_hand reply at new =
     IsFirstOf name calls entries old →
     is_by_hand (world_at name calls entries (length entries)).set call ≡ by_hand →
     entry.reply ≡ reply →
-    at ≡ suc (length entries) →
+    suc (length entries) ≡ at →
     IsFirstOf name (calls ++ call ∷ []) (entries ++ entry ∷ []) new
 
 -- a state that is handed to `next` is that after these calls, and its notes are true up to a time
