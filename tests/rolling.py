@@ -562,8 +562,8 @@ def not_begun(world: World) -> Iterator[str]:
 
 
 def early_ends() -> Iterator[str]:
-    """After an early end by hand ticks bring what it asks for to all servers, and only then begin
-    anew."""
+    """After an early end by hand ticks bring what it asks for to all servers, and then need a
+    person. By a new script of the zone as it is they go on."""
     double_ds = "policy 13 ksk-double-ds-roll zsk-roll\nzsk-lifetime 6d\nksk-lifetime 7d\n"
     for policy in (SPLIT, double_ds):
         world = World()
@@ -575,12 +575,31 @@ def early_ends() -> Iterator[str]:
                     roll = last[1]
                     break
             typed(["call", f"{ZONE}.script", f"abort {roll}"], world.now)
+            calls = len(lines()) - 1
             said = tick(world)[1]
-            for _ in played(world, world.now + DAY):
-                pass
-            ends = [line for line in lines() if line.endswith((f"abort {roll}", f"done {roll}"))]
-            if "published" not in said or ends != [f"abort {roll}", f"done {roll}"]:
-                yield f"after an early end of {roll}: {said}, {ends}"
+            *_, (_, status, last) = played(world, world.now + DAY)
+            wanted = (2, calls, True, True)
+            if (status, len(lines()) - 1, "published" in said,
+                    f"call {calls} was made by hand" in last) != wanted:
+                yield f"after an early end of {roll}: {said}, then {status}: {last}"
+            yield from goes_on_anew(world, roll)
+
+
+def goes_on_anew(world: World, roll: str) -> Iterator[str]:
+    """A new script of the zone as it is has no call by hand, and the roll comes to its end by it."""
+    keys = [name.partition(".")[0] for name in sorted(os.listdir()) if name.endswith(".private")]
+    for old in Path().glob(f"{ZONE}.*"):
+        if old.suffix in (".script", ".notes", ".tick", ".rest"):
+            old.rename(f"ended{old.suffix}")
+    said, status = typed(["init", ZONE, *keys, "--signed", "--before", "3600", "3600", "3600"],
+                         world.now)
+    if status:
+        yield f"init --signed after an early end of {roll} ends with {status}: {said}"
+        return
+    for _ in played(world, world.now + 9 * DAY):
+        pass
+    if f"done {roll}" not in lines():
+        yield f"by a new script after an early end of {roll}: {lines()[-1]}"
 
 
 def many() -> Iterator[str]:
