@@ -16,6 +16,8 @@ The contracts of public functions: the file of the function, then for each claus
 that it cites, each with its file in specs/. Below stands where the proof is, if it has lines of its
 own. Written by tests/docs.py --write.
 """
+# A crate in crates.txt, and those that it stands on.
+LISTED = re.compile(r"^(\w+)[^:#]*:(.*)$", re.MULTILINE)
 # A public function with the clauses of its contract, up to its body.
 FUNCTION = re.compile(r"^ *pub fn (?P<name>\w+)\b(?P<head>.*?)^ *\{", re.MULTILINE | re.DOTALL)
 CLAUSE = re.compile(r"^ *ensures (?P<name>\w*) ?(?P<says>\{.*?)(?=^ *ensures |\Z)",
@@ -28,10 +30,17 @@ def crates():
     return sorted(it for it in CRATES.iterdir() if it.name not in OF_THE_GATE and it.is_dir())
 
 
-def definitions():
-    """The file of each definition, by the definition's name."""
+def stands_on(name, listed):
+    """The names of a crate and of all that it stands on."""
+    return {name}.union(*(stands_on(other, listed) for other in listed.get(name, ())))
+
+
+def definitions(names):
+    """The file of each definition in these crates, by the definition's name."""
     found = {}
     for crate in crates():
+        if crate.name not in names:
+            continue
         for path in sorted(crate.glob("specs/**/*.antt")):
             if "Inner" in path.parts:
                 continue
@@ -58,9 +67,11 @@ def proof_of(crate, path, name):
 
 def made():
     """The index as it should be."""
-    defined = definitions()
+    crates_txt = (TOP / "crates.txt").read_text()
+    listed = {name: below.split() for name, below in LISTED.findall(crates_txt)}
     lines = [HEAD]
     for crate in crates():
+        defined = definitions(stands_on(crate.name, listed))
         for path in sorted(crate.glob("src/**/*.rt")):
             for match in FUNCTION.finditer(path.read_text()):
                 told = [*clauses(match["head"], defined)]
