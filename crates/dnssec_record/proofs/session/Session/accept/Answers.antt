@@ -1,8 +1,8 @@
 -- A copy makes the call, and takes the place of the session if the call is accepted.
-use Rattle.std.proofs.Common.{[], ap, false, length-append, refl, rules, sym, true}
+use Rattle.std.proofs.Common.{[], IfErr, Result, Err, Ok, ap, false, length-append, refl, rules, sym, true}
 use Rattle.std.proofs.Common.{◌++◌, ◌∙◌, ◌∷◌, ◌≡◌}
 use Rattle.dnssec_run.specs.Record.{is_accepted}
-use Rattle.dnssec_record.proofs.Sessions.{answered, copied}
+use Rattle.dnssec_record.proofs.Sessions.{answered, copied, speaks}
 use Rattle.dnssec_record.proofs.session.Session.accept.Goals as goal
 
 pub returns-then-not-is_accepted-clause-ok : goal.returns-then-not-is_accepted-clause-ok
@@ -34,3 +34,13 @@ returns-clause-ok c = λ lines entries so.
       number ∙ length-append entries (entry ∷ []),
       record { goes_on = told.goes_on; accepted = ap is_accepted told.is_reply ∙ accepted },
     )
+
+-- whatever the fault is
+if-err : {A E : Type 0} (r : Result A E) {P : Type 0} → P → IfErr r (λ e. P)
+if-err (Ok a) so = tt
+if-err (Err e) so = so
+
+pub returns-in_err-answer-clause-memory : goal.returns-in_err-answer-clause-memory
+returns-in_err-answer-clause-memory c =
+    if-err c.from_residual-in_err-answer.result
+    (speaks c.args.line.now _ c.in-Some.statement c.in_ok-statement.ensures.read c.in-Some.is)

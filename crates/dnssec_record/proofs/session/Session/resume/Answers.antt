@@ -1,6 +1,7 @@
 -- Each turn of the loop makes the call of one statement.
 use Rattle.std.proofs.Common.{◌≢◌, rules, subst, sym}
 use Rattle.std.proofs.lemmas.List.Elements.{All-nil, All-push}
+use Rattle.std.proofs.lemmas.Result.{err_from_is_err_and}
 use Rattle.dnssec_base.specs.declared.error.Error.TheVariants.{OutOfMemory}
 use Rattle.dnssec_run.specs.declared.record.Reply.TheVariants.{Refused}
 use Rattle.dnssec_record.proofs.Made.{all_made, none_made, one_made}
@@ -35,3 +36,15 @@ returns-clause-ok c =
       };
       had_memory = h.so.1;
     }
+
+pub returns-in_err-reply-clause-err : goal.returns-in_err-reply-clause-err
+returns-in_err-reply-clause-err c =
+    let r = c.from_residual-in_err-reply.result in
+    let p = err_from_is_err_and r c.from_residual-in_err-reply.ensures.1 in
+    rw (p.1, p.2) c.in_ok-name.ensures.zone
+
+pub returns-in_err-check_memory-clause-err : goal.returns-in_err-check_memory-clause-err
+returns-in_err-check_memory-clause-err c =
+    let r = c.from_residual-in_err-check_memory.result in
+    let p = err_from_is_err_and r c.from_residual-in_err-check_memory.ensures.1 in
+    rw (p.1, p.2) c.in_ok-name.ensures.zone
