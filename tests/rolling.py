@@ -587,11 +587,15 @@ def early_ends() -> Iterator[str]:
 
 def goes_on_anew(world: World, roll: str) -> Iterator[str]:
     """A new script of the zone as it is has no call by hand, and the roll comes to its end by it."""
-    keys = [name.partition(".")[0] for name in sorted(os.listdir()) if name.endswith(".private")]
+    new = next(line.split(" ")[3] for line in reversed(lines()) if line.startswith(f"start {roll} "))
+    (tag,) = (line.split(" ")[4] for line in lines() if re.match(rf"add-\w+ {re.escape(new)} ", line))
+    keys = [path.stem for path in sorted(Path().glob("K*.private"))
+            if not path.stem.endswith(f"+{int(tag):05}")]
     for old in Path().glob(f"{ZONE}.*"):
         if old.suffix in (".script", ".notes", ".tick", ".rest"):
             old.rename(f"ended{old.suffix}")
-    said, status = typed(["init", ZONE, *keys, "--signed", "--before", "3600", "3600", "3600"],
+    # (There are no servers that it could ask.)
+    said, status = typed(["init", ZONE, *keys, "--signed", "--although", "--before", 60, 60, 60],
                          world.now)
     if status:
         yield f"init --signed after an early end of {roll} ends with {status}: {said}"
