@@ -22,12 +22,12 @@ from pathlib import Path
 
 sys.dont_write_bytecode = True
 TOP = Path(__file__).resolve().parent.parent
-sys.path.insert(0, str(TOP / "tests"))
+sys.path.append(str(TOP))
 
-import answering  # noqa: E402
-from rolled import ZONE, World, living  # noqa: E402
-from rolling import played  # noqa: E402
-from typed import folder, typed  # noqa: E402
+from tests import answering  # noqa: E402
+from tests.rolled import ZONE, World, living  # noqa: E402
+from tests.rolling import played  # noqa: E402
+from tests.typed import folder, typed  # noqa: E402
 from vaqsider import resting as kept  # noqa: E402
 
 DAY, NOW, DUE, FIRST = 86400, 1_800_000_000, 10, 100

@@ -16,9 +16,8 @@ from argparse import Namespace
 from pathlib import Path
 from unittest import mock
 
-import stores
-import testkeys
-from typed import TOP, folder, typed
+from tests import stores, testkeys
+from tests.typed import TOP, folder, typed
 from vaqsider import keyfiles
 from vaqsider.errors import Failure
 from vaqsider.signers import DELETION, Key, Sets, daemon, inline, pdns_api

@@ -17,8 +17,7 @@ import dns.rdatatype
 import dns.resolver
 import dns.rrset
 
-import testkeys
-from typed import STORED  # noqa: F401 (it has the command on the path)
+from tests import testkeys
 from vaqsider import asking
 
 # In seconds: the machine may be busy with proofs.

@@ -1,8 +1,7 @@
-#!/usr/bin/env python3
 """Builds the library for C in FOLDER, on the crates below it that a running `rt ci` has proved or
 has kept.
 
-    tests/archive.py FOLDER [aarch64]
+    python3 -m tests.archive FOLDER [aarch64]
 
 The second word names another architecture than this machine's. This proves `keyset_c` once more:
 `rt ci` keeps nothing of its proof that a build could take.
@@ -14,7 +13,7 @@ import tempfile
 import time
 from pathlib import Path
 
-from tools import CRATES, TOP, Wrong, kit, run
+from tests.tools import CRATES, TOP, Wrong, kit, run
 
 HERE = "x86_64"
 

@@ -1,7 +1,6 @@
-#!/usr/bin/env python3
 """Tests the library for ARM on this machine, under qemu.
 
-    tests/arm.py FOLDER    takes the library that `make arm` has left there
+    python3 -m tests.arm FOLDER    takes the library that `make arm` has left there
 
 The tests and callers in C and in Go are built for ARM here. Those in Python run in Debian's Python
 for ARM, which is unpacked into a folder, and not installed. There `sys.executable` names a script
@@ -16,7 +15,7 @@ import tempfile
 import time
 from pathlib import Path
 
-from tools import TOP, Wrong, run
+from tests.tools import TOP, Wrong, run
 
 CC = "aarch64-linux-gnu-gcc"
 QEMU = "qemu-aarch64"
@@ -85,13 +84,12 @@ def main():
             print(f"arm: {wrong}")
             return 1
         slow = {**os.environ, "EVERY": EVERY}
-        tests = TOP / "tests"
         for env, *words in (
-            (os.environ, sys.executable, tests / "library.py", folder, "elsewhere"),
-            (os.environ, sys.executable, tests / "go.py", folder, "elsewhere"),
-            (slow, python, "-B", tests / "library.py", folder, "python"),
+            (os.environ, sys.executable, "-m", "tests.library", folder, "elsewhere"),
+            (os.environ, sys.executable, "-m", "tests.go", folder, "elsewhere"),
+            (slow, python, "-m", "tests.library", folder, "python"),
         ):
-            if subprocess.run(list(map(str, words)), env=env).returncode:
+            if subprocess.run(list(map(str, words)), cwd=TOP, env=env).returncode:
                 return 1
             print(f"arm: after {time.monotonic() - began:.0f} s", flush=True)
     return 0

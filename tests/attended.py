@@ -11,8 +11,8 @@ from collections.abc import Iterator
 from pathlib import Path
 from unittest import mock
 
-from rolled import ZONE, Servers, World, lines, living, tick
-from typed import TOP, folder, typed
+from tests.rolled import ZONE, Servers, World, lines, living, tick
+from tests.typed import TOP, folder, typed
 
 DAY = 86400
 # The moment of a world whose keys have names with a month: 2027-01-15.

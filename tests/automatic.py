@@ -1,11 +1,10 @@
-#!/usr/bin/env python3
 """Plays zones that roll by themselves: an operator does what `keyset next` says, and nothing else.
 Whatever caches may hold is looked at as in tests/runbooks.py, and each call is made by the key set
 of `replay/tables.py`. What is said is compared with the definition, as tests/game/what_next.py has
 it, and at its end each script is answered by the program: all its calls are accepted.
 
-    tests/automatic.py [ROLLS [ZONE [JOBS]]]
-                    how many rolls are played at least, from which zone on, and how many at once
+    python3 -m tests.automatic [ROLLS [ZONE [JOBS]]]
+            how many rolls are played at least, from which zone on, and how many at once
 
 The policies are random, and change on the way: lifetimes and demands, the rolls by which keys are
 renewed, the algorithm, CSKs in place of KSKs and ZSKs and back. A lifetime that is too short has to
@@ -21,23 +20,17 @@ import time
 from collections import Counter
 from dataclasses import dataclass
 from multiprocessing import Pool
-from pathlib import Path
 from typing import Iterator, Optional, Sequence
 
-sys.dont_write_bytecode = True
-TOP = Path(__file__).resolve().parent.parent
-sys.path += [str(TOP / "replay"), str(TOP / "library" / "python")]
-
-from judge import chain_line, has_chain, time as judged_time  # noqa: E402
-from keyset import programs  # noqa: E402
-from tables import ROLLS  # noqa: E402
-
-from game.facts import Facts  # noqa: E402
-from game.notes import Notes, Version, due  # noqa: E402
-from game.policy import CSK, KSK_ROLLS, ZSK_ROLLS, Policy  # noqa: E402
-from game.signer import Operator, Stuck  # noqa: E402
-from game.what_next import AT_REST, View, next_of, shown  # noqa: E402
-from game.zone import SECOND, SLOWEST, Broken, World  # noqa: E402
+from judge import chain_line, has_chain, time as judged_time
+from keyset import programs
+from tables import ROLLS
+from tests.game.facts import Facts
+from tests.game.notes import Notes, Version, due
+from tests.game.policy import CSK, KSK_ROLLS, ZSK_ROLLS, Policy
+from tests.game.signer import Operator, Stuck
+from tests.game.what_next import AT_REST, View, next_of, shown
+from tests.game.zone import SECOND, SLOWEST, Broken, World
 
 ROLLS_OF_A_ZONE, ROLLS_IN_THE_GATE = 12, 240
 ALGORITHMS = (8, 13, 14, 15)

@@ -1,13 +1,13 @@
-#!/usr/bin/env python3
 """Runs the command of an operator on stored transcripts, without a server.
 
-    tests/command.py            compares what each line prints, asks facts.py, acts.py, adaptors.py,
-                                imports.py, ceremonies.py and liars.py, lets the command crash after
-                                each change of its files, and counts the lines of its code that ran
-    tests/command.py --write    writes the transcripts again
-    tests/command.py --left     shows which lines of its code did not run
-    tests/command.py --only NAME..
-                                only these: NAME.txt, crash.NAME, or a check as facts.plans
+    python3 -m tests.command                  compares what each line prints, asks facts.py,
+                                              acts.py, adaptors.py, imports.py, ceremonies.py and
+                                              liars.py, lets the command crash after each change of
+                                              its files, and counts the lines of its code that ran
+    python3 -m tests.command --write          writes the transcripts again
+    python3 -m tests.command --left           shows which lines of its code did not run
+    python3 -m tests.command --only NAME..    only these: NAME.txt, crash.NAME, or a check as
+                                              facts.plans
 
 A transcript, `tests/command/NAME.txt`, has lines that begin with `$ `. Below each is what it
 prints, then `? N` if it ends with a status that isn't 0. `NOW=N` in front of a line is the clock.
@@ -28,22 +28,8 @@ from concurrent.futures import ProcessPoolExecutor
 from pathlib import Path
 from unittest import mock
 
-sys.dont_write_bytecode = True
-TOP = Path(__file__).resolve().parent.parent
-sys.path.insert(0, str(TOP / "replay"))
-
-import acts  # noqa: E402
-import adaptors  # noqa: E402
-import answering  # noqa: E402
-import ceremonies  # noqa: E402
-import drawn  # noqa: E402, F401
-import facts  # noqa: E402
-import imports  # noqa: E402
-import liars  # noqa: E402
-import pieces  # noqa: E402, F401
-import printed  # noqa: E402, F401
-import testkeys  # noqa: E402
-from typed import STORED, folder, private_halves, typed  # noqa: E402
+from tests import TOP, acts, adaptors, answering, ceremonies, facts, imports, liars, testkeys
+from tests.typed import STORED, folder, private_halves, typed
 
 PACKAGE = TOP / "command" / "vaqsider"
 # The files with the code that decides what is on disk, and when.
@@ -318,7 +304,7 @@ def only(names):
             yield from next(crash_everywhere(*it)[0] for it in CRASHES if it[0] == check)
         else:
             with folder():
-                yield from getattr(sys.modules[module], check)()
+                yield from getattr(sys.modules[f"tests.{module}"], check)()
 
 
 def main():

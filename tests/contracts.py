@@ -3,9 +3,9 @@ definitions that it cites and their files, and where its proof stands.
 `tests/docs.py --write` writes it, and without `--write` it compares."""
 
 import re
-from pathlib import Path
 
-TOP = Path(__file__).resolve().parent.parent
+from tests import TOP
+
 CRATES = TOP / "crates"
 INDEX = TOP / "docs" / "contracts.txt"
 # The crates of the gate promise nothing.

@@ -1,8 +1,7 @@
-#!/usr/bin/env python3
 """Compares what the documents print with its sources, without a build.
 
-    tests/docs.py            compares, and fails with the place of each difference
-    tests/docs.py --write    writes the answers, the stored examples and the blocks again
+    python3 -m tests.docs            compares, and fails with the place of each difference
+    python3 -m tests.docs --write    writes the answers, the stored examples and the blocks again
 
 A fenced block that shows a script, answers or a source names its file after the language:
 
@@ -33,19 +32,11 @@ What is compared:
 import json
 import re
 import sys
-from pathlib import Path
 
-sys.dont_write_bytecode = True
-TOP = Path(__file__).resolve().parent.parent
-sys.path.insert(0, str(TOP / "replay"))
-
-from make_sample import examples  # noqa: E402
-from tables import answers  # noqa: E402
-
-import contracts  # noqa: E402
-import pictures  # noqa: E402
-import type_names  # noqa: E402
-from game.page import command_lines, steps  # noqa: E402
+from make_sample import examples
+from tables import answers
+from tests import TOP, contracts, pictures, type_names
+from tests.game.page import command_lines, steps
 
 STORED = TOP / "replay" / "scripts.txt"
 

@@ -1,7 +1,6 @@
-#!/usr/bin/env python3
 """Compiles the example of each docstring in crates/*/src, without a proof.
 
-    tests/examples.py [-v]    with -v it shows the program if that doesn't compile
+    python3 -m tests.examples [-v]    with -v it shows the program if that doesn't compile
 
 Each example becomes a function of a program that is made in a folder of its own. What an example
 takes for granted, as `alloc` or the key set `set`, is a parameter of that function. The program is
@@ -16,7 +15,7 @@ import tempfile
 import time
 from pathlib import Path
 
-from tools import CRATES, TOP
+from tests.tools import CRATES, TOP
 
 START = re.compile(r"\s*//[/!] ```(rust)?$")
 END = re.compile(r"\s*//[/!] ```$")

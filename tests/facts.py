@@ -11,13 +11,10 @@ import time
 from pathlib import Path
 from unittest import mock
 
-import drawn
-import pieces
-import printed
-import testkeys
-from drawn import answers, examples
-from lengths import lengths
-from typed import TOP, folder, private_halves, typed
+from tests import drawn, pieces, printed, testkeys
+from tests.drawn import answers, examples
+from tests.lengths import lengths
+from tests.typed import TOP, folder, private_halves, typed
 
 # The calls of a roll, by the kinds of sets that its start and its two waits ask to watch.
 ROLLS = {
@@ -213,7 +210,7 @@ class Operator:
 
 def runbooks():
     """The commands of each roll and of the first keys, as docs/RUNBOOKS.md has them typed."""
-    from game.page import commands, courses
+    from tests.game.page import commands, courses
 
     for name in courses()["rolls"]:
         yield name, [command for time in commands(name) for command in time]

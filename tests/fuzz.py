@@ -1,9 +1,8 @@
-#!/usr/bin/env python3
 """Lets libFuzzer make texts from the stored scripts and their words. The library and a second
 reader have to call the same ones malformed (`tests/fuzz.c`). To scripts that it made the library
 has to answer as the tables do.
 
-    tests/fuzz.py FOLDER RUNS     takes the library that `make lib` has left there
+    python3 -m tests.fuzz FOLDER RUNS    takes the library that `make lib` has left there
 """
 
 import re
@@ -12,11 +11,8 @@ import sys
 import tempfile
 from pathlib import Path
 
-from tools import TOP, Wrong, run
-
-sys.path.insert(0, str(TOP / "replay"))
-
-from tables import answers  # noqa: E402
+from tables import answers
+from tests.tools import TOP, Wrong, run
 
 STORED = TOP / "replay" / "scripts.txt"
 # The second judge is slow on longer scripts.

@@ -1,4 +1,3 @@
-#!/usr/bin/env python3
 """The gate: `tests/docs.py` and `tests/release.py`, then `rt ci`. Beside its first proofs run
 `tests/runbooks.py`, `tests/networks.py`, `tests/examples.py` and `tests/mistakes.py`, and beside
 its edits run `tests/memory.py`, `tests/sets.py`, `tests/notes.py`, `tests/command.py`,
@@ -18,13 +17,9 @@ import threading
 import time
 from pathlib import Path
 
-import told
-
-TOP = Path(__file__).resolve().parent.parent
-sys.path.append(str(TOP / "packaging"))
-
-import built  # noqa: E402
-import proved  # noqa: E402
+import built
+import proved
+from tests import TOP, told
 
 START = time.monotonic()
 STEPS = []
@@ -103,13 +98,13 @@ class Beside(threading.Thread):
 
     def __init__(self, name, *words, under=()):
         super().__init__(daemon=True, name=name)
-        self.words = [*under, sys.executable, TOP / "tests" / f"{name}.py", *words]
+        self.words = [*under, sys.executable, "-m", f"tests.{name}", *words]
         self.test = None
         # What waits for it.
         self.later = []
 
     def run(self):
-        self.test = subprocess.run(self.words, stdout=subprocess.PIPE, text=True)
+        self.test = subprocess.run(self.words, cwd=TOP, stdout=subprocess.PIPE, text=True)
         note(self.name)
         if not self.test.returncode:
             for script in self.later:
@@ -190,7 +185,7 @@ def prove(scripts):
 
 def main():
     for name in ("docs", "release"):
-        if subprocess.run([sys.executable, TOP / "tests" / f"{name}.py"]).returncode:
+        if subprocess.run([sys.executable, "-m", f"tests.{name}"], cwd=TOP).returncode:
             return 1
         note(name)
     # At low priority: each crate waits for the proofs of those below it.

@@ -1,8 +1,8 @@
-#!/usr/bin/env python3
 """Tests the module for Go, as a release has it.
 
-    tests/go.py FOLDER              takes the library that `make lib` has left there
-    tests/go.py FOLDER elsewhere    takes that for ARM: by the compiler CC, and run under RUNNER
+    python3 -m tests.go FOLDER              takes the library that `make lib` has left there
+    python3 -m tests.go FOLDER elsewhere    takes that for ARM: by the compiler CC, and run under
+                                            RUNNER
 
 `go vet` finds nothing, its tests pass, here also under the detector of races, its example plays
 scripts as the program does, and a project uses the module by the folder's name.
@@ -13,12 +13,9 @@ import sys
 import tempfile
 from pathlib import Path
 
-from tools import RUNNER, TOP, Wrong, run
-
-sys.path.append(str(TOP / "packaging"))
-
-from artefact import AARCH64, X86_64, Built, version  # noqa: E402
-from modules import stage_module  # noqa: E402
+from artefact import AARCH64, X86_64, Built, version
+from modules import stage_module
+from tests.tools import RUNNER, TOP, Wrong, run
 
 SCRIPTS = [TOP / "examples" / f"{name}.script" for name in ("algorithm-roll", "ksk-roll")]
 PROJECT = """\

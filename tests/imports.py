@@ -12,10 +12,8 @@ from unittest import mock
 import dns.dnssec
 import dns.rdata
 
-import adaptors
-import stores
-import testkeys
-from typed import TOP, folder, typed
+from tests import adaptors, stores, testkeys
+from tests.typed import TOP, folder, typed
 from vaqsider import importing, keyfiles
 from vaqsider.errors import Failure
 from vaqsider.signers import Key

@@ -1,7 +1,6 @@
-#!/usr/bin/env python3
 """Installs the program, the library and the command into a new folder, and uses them there.
 
-    tests/install.py FOLDER    takes the library that `make lib` has left there
+    python3 -m tests.install FOLDER    takes the library that `make lib` has left there
 
 A caller in C is built by `pkg-config`, the folder is moved, and the caller is built again. The
 program, its links and the command answer from the new place, without the repository. Each file that
@@ -19,13 +18,10 @@ import sys
 import tempfile
 from pathlib import Path
 
-import mishaps
-from tools import CRATES, NOTED, SHOWN, STRICT, TOP, Wrong, run
-
-sys.path.append(str(TOP / "packaging"))
-
-from artefact import X86_64, Built  # noqa: E402
-from tarballs import pack_built  # noqa: E402
+from artefact import X86_64, Built
+from tarballs import pack_built
+from tests import mishaps
+from tests.tools import CRATES, NOTED, SHOWN, STRICT, TOP, Wrong, run
 
 INSTALL = TOP / "packaging" / "install.py"
 VERSION = (TOP / "VERSION").read_text().strip()

@@ -1,12 +1,13 @@
-#!/usr/bin/env python3
 """Tests the library that `make lib` makes, and its callers in C, Rust and Python.
 
-    tests/library.py FOLDER     takes the one that `make lib` or `tests/archive.py` has left there
-    tests/library.py FOLDER valgrind|asan     only its tests in C, under a checker of memory
-    tests/library.py FOLDER elsewhere         only its tests in C: those of another architecture, by
-                                              the compiler CC, run under RUNNER
-    tests/library.py FOLDER python            only its tests in Python: for a Python of another
-                                              architecture, on one of EVERY scripts
+    python3 -m tests.library FOLDER
+            takes the one that `make lib` or `tests/archive.py` has left there
+    python3 -m tests.library FOLDER valgrind|asan
+            only its tests in C, under a checker of memory
+    python3 -m tests.library FOLDER elsewhere
+            only its tests in C: those of another architecture, by the compiler CC, run under RUNNER
+    python3 -m tests.library FOLDER python
+            only its tests in Python: for a Python of another architecture, on one of EVERY scripts
 
 A script and its answers are those of `replay/scripts.txt`. The program `keyset` has to answer them,
 damaged scripts and long ones as the library does, and `keyset status` has to show what sessions
@@ -25,17 +26,9 @@ from concurrent.futures import ThreadPoolExecutor
 from itertools import islice
 from pathlib import Path
 
-import install
-import long
-import malformed
-import noted
-import programs
-import release
-import rust
-import sessions
-import words
-from tools import C99, CC, EVERY, NOTED, PROGRAM, RUNNER, STATUS, STRICT, TOP, WRAPPED, Wrong
-from tools import c_flags, kit, run
+from tests import install, long, malformed, noted, programs, release, rust, sessions, words
+from tests.tools import C99, CC, EVERY, NOTED, PROGRAM, RUNNER, STATUS, STRICT, TOP, WRAPPED, Wrong
+from tests.tools import c_flags, kit, run
 
 LIBRARY = TOP / "library"
 STORED = TOP / "replay" / "scripts.txt"
@@ -102,7 +95,7 @@ def test_policies(folder, room):
 
 
 def test_statuses(folder):
-    return run(sys.executable, "-B", TOP / "tests" / "sessions.py", folder).strip()
+    return run(sys.executable, "-m", "tests.sessions", folder, cwd=TOP).strip()
 
 
 def under_valgrind(folder, room):
@@ -198,8 +191,6 @@ def damaged(script, chance):
 
 def python_module(folder):
     os.environ["KEYSET_LIBRARY"] = str(folder / "lib" / "libkeyset.so")
-    sys.dont_write_bytecode = True
-    sys.path.insert(0, str(LIBRARY / "python"))
     import keyset
 
     return keyset

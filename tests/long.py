@@ -6,12 +6,7 @@ second judge says whether the chain of trust held, for the same course with few 
 it is too slow for this many.
 """
 
-import sys
-from pathlib import Path
-
-sys.path.insert(0, str(Path(__file__).resolve().parent.parent / "replay"))
-
-from tables import KeySet, answers  # noqa: E402
+from tables import KeySet, answers
 
 MEGABYTE = 1 << 20
 # The number of key tags, and of the adds that find none left.

@@ -1,4 +1,3 @@
-#!/usr/bin/env python3
 """Machines that share zones over PostgreSQL, which is started here in a folder of its own. Debian's
 `postgresql` and `python3-psycopg` are needed, so `make machines` runs it, and not the gate.
 
@@ -21,14 +20,10 @@ from collections.abc import Iterator
 from pathlib import Path
 from unittest import mock
 
-sys.dont_write_bytecode = True
-
-import answering  # noqa: E402
-from rolled import ZONE, World, living, shape  # noqa: E402
-from typed import TOP, folder, typed  # noqa: E402
-
-sys.path.append(str(TOP / "live"))
-from postgres import NAME, Postgres  # noqa: E402
+from live.postgres import NAME, Postgres
+from tests import answering
+from tests.rolled import ZONE, World, living, shape
+from tests.typed import TOP, folder, typed
 
 LIFETIMES = "ksk-lifetime 15d\nzsk-lifetime 6d\n"
 COUNTS = {"kills": 0, "ticks": 0}

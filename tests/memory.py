@@ -1,4 +1,3 @@
-#!/usr/bin/env python3
 """Lets each request for memory fail in turn: those of names, of a stored script's record, of copies
 of its keys and its key set, and of a judge. It also checks that the audit by the definition makes
 none. (In `tests/library.c` the requests for a script's answers fail, and in `tests/sessions.c`
@@ -20,7 +19,7 @@ import time
 from dataclasses import dataclass
 from pathlib import Path
 
-from tools import CRATES, NOTES, PROGRAM, STATUS, STRICT, TOP, Wrong, run
+from tests.tools import CRATES, NOTES, PROGRAM, STATUS, STRICT, TOP, Wrong, run
 
 CALLERS = CRATES / "callers" / "out" / "callers"
 STORED = TOP / "replay" / "scripts.txt"

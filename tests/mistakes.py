@@ -1,8 +1,7 @@
-#!/usr/bin/env python3
 """Checks types by mypy: those of the command, and those of the Python package, as a caller does who
 has installed it.
 
-    tests/mistakes.py
+    python3 -m tests.mistakes
 
 The files that pyproject.toml names have no fault under `--strict`. In the program below each line
 with a comment has a mistake, and mypy has to name exactly these lines."""
@@ -17,7 +16,7 @@ import venv
 from importlib.util import find_spec
 from pathlib import Path
 
-from tools import TOP, Wrong, run
+from tests.tools import TOP, Wrong, run
 
 PACKAGE = TOP / "library" / "python" / "keyset"
 

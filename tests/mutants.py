@@ -1,10 +1,9 @@
-#!/usr/bin/env python3
 """Changes one line of the command or of a package at a time, and runs the tests that have to
 see it.
 
-    tests/mutants.py [--jobs N] [WORD..]
-                     tries the changes of tests/mutants.txt, or those of files whose name has one
-                     of these words; so many tests run at once
+    python3 -m tests.mutants [--jobs N] [WORD..]    tries the changes of tests/mutants.txt, or those
+                                                    of files whose name has one of these words; so
+                                                    many tests run at once
 
 A change is the lines `file:`, `old:` and `new:`, for a text that the file has once; `\\n` in it is
 a line feed. Then comes `seen by:` with the names of tests, or `survives:` with the reason. Each has
@@ -24,7 +23,8 @@ from concurrent.futures import ThreadPoolExecutor
 from dataclasses import dataclass
 from pathlib import Path
 
-TOP = Path(__file__).resolve().parent.parent
+from tests import TOP
+
 TABLE = TOP / "tests" / "mutants.txt"
 COPIED = ("command", "docs", "examples", "library", "replay", "tests", "VERSION", "LICENSE")
 NOT_COPIED = shutil.ignore_patterns("__pycache__", "target", "out", "frozen")
@@ -88,9 +88,9 @@ def environment(programs):
 
 def passes(tree, test, variables):
     """Whether a test passes in a copy."""
-    command = [sys.executable, tree / "tests/command.py", "--only", test]
+    command = [sys.executable, "-m", "tests.command", "--only", test]
     if test.startswith("rolling."):
-        command = [sys.executable, tree / "tests/rolling.py", "--only", test.partition(".")[2]]
+        command = [sys.executable, "-m", "tests.rolling", "--only", test.partition(".")[2]]
     elif test.endswith(".py"):
         command = [sys.executable, tree / test]
     elif test.startswith("cargo."):

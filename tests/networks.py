@@ -1,4 +1,3 @@
-#!/usr/bin/env python3
 """Networks of the game, premise by premise.
 
 Zones of `tests/runbooks.py` whose operators follow the guides are networks of their records. Each
@@ -15,19 +14,18 @@ import sys
 import time
 from itertools import permutations, product
 
-import runbooks
-
-from game.book import left_out, runbooks as book
-from game.network import KINDS, Network, names
-from game.notes import Notes
-from game.pair import Pair
-from game.points import (
-    DS_ALONE, DS_OWN, JOINS_EARLY, KEYS_UNSEEN, LEAVES_EARLY, OTHER_TTL, PAIRS, POINTS, TAKEN_OUT,
-)
-from game.signer import Stuck
-from game.zone import SECOND, Broken, World
 from judge import has_chain
 from tables import ROLLS
+from tests import runbooks
+from tests.game.book import left_out, runbooks as book
+from tests.game.network import KINDS, Network, names
+from tests.game.notes import Notes
+from tests.game.pair import Pair
+from tests.game.points import (
+    DS_ALONE, DS_OWN, JOINS_EARLY, KEYS_UNSEEN, LEAVES_EARLY, OTHER_TTL, PAIRS, POINTS, TAKEN_OUT,
+)
+from tests.game.signer import Stuck
+from tests.game.zone import SECOND, Broken, World
 
 ZONES, TWO = 2, 4
 # Points of the guide for two signers that its definition has.

@@ -1,10 +1,9 @@
-#!/usr/bin/env python3
 """What a policy says to do next, by the program `keyset next` and by its twin of the game
 (what_next.py): they have to say the same, or refuse with the same words. The questions are drawn:
 each stored script up to some line, notes of it, a policy and a moment. Bad days have an answer of
 their own (bad_days.py).
 
-    tests/nexts.py [QUESTIONS]    how many are asked at least
+    python3 -m tests.nexts [QUESTIONS]    how many are asked at least
 """
 
 from __future__ import annotations
@@ -18,17 +17,12 @@ from collections import Counter
 from collections.abc import Iterator, Sequence
 from concurrent.futures import ThreadPoolExecutor
 from dataclasses import dataclass
-from pathlib import Path
 
-sys.dont_write_bytecode = True
-TOP = Path(__file__).resolve().parent.parent
-sys.path += [str(TOP / "tests"), str(TOP / "replay"), str(TOP / "library" / "python")]
-
-from keyset import programs  # noqa: E402
-from tables import KeySet  # noqa: E402
-
-from game import bad_days, what_next  # noqa: E402
-from game.facts import KINDS  # noqa: E402
+from keyset import programs
+from tables import KeySet
+from tests import TOP
+from tests.game import bad_days, what_next
+from tests.game.facts import KINDS
 
 QUESTIONS, LAST, TTLS = 4000, 2**64 - 1, (0, 1, 60, 300, 3600, 2**31, 2**32 - 1)
 ROLLS = (("ksk-roll", "ksk-double-ds-roll"), ("zsk-roll", "zsk-double-signature-roll"))

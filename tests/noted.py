@@ -5,8 +5,8 @@ of the program `keyset notes` for the same lines."""
 import os
 import sys
 
-import notes
-from tools import CC, C99, EVERY, NOTED, STRICT, TOP, WRAPPED, Wrong, c_flags, run
+from tests import notes
+from tests.tools import CC, C99, EVERY, NOTED, STRICT, TOP, WRAPPED, Wrong, c_flags, run
 
 LIBRARY = TOP / "library"
 ZONES = 12

@@ -1,4 +1,3 @@
-#!/usr/bin/env python3
 """Operators of `tests/runbooks.py` who keep notes, as docs/REFERENCE.md has them.
 
 The program `keyset notes` is asked for each report. Its answer has to be what the rule of
@@ -15,15 +14,12 @@ import sys
 import time
 from itertools import permutations
 
-import mistyped
-import runbooks
-
-from game.book import left_out, runbooks as book
-from game.notes import Notes
-from game.points import PAIRS, POINTS
 from tables import ROLLS
-from tools import NOTES
-
+from tests import mistyped, runbooks
+from tests.game.book import left_out, runbooks as book
+from tests.game.notes import Notes
+from tests.game.points import PAIRS, POINTS
+from tests.tools import NOTES
 
 # A script of three calls, and what is answered to notes beside it and a question.
 SCRIPT = """zone example.com

@@ -3,9 +3,9 @@ network.svg. The others are those of `vaqsider draw` for the example of their na
 --write` writes both, and without `--write` it compares them."""
 
 from html import escape
-from pathlib import Path
 
-TOP = Path(__file__).resolve().parent.parent
+from tests import TOP
+
 HERE = TOP / "docs" / "pictures"
 
 WIDE, HIGH, ROW = 136, 26, 52

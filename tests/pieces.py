@@ -4,15 +4,11 @@ each of them."""
 
 import random
 import re
-import sys
 from pathlib import Path
 from unittest import mock
 
-from drawn import examples
-from lengths import course
-from typed import TOP
-
-sys.path.insert(0, str(TOP / "replay"))
+from tests.drawn import examples
+from tests.lengths import course
 
 SEED, SCRIPTS, PART = 60, 30, 6
 # After it only the ZSK role of a CSK signs, with no roll in progress: no setter makes that.

@@ -4,9 +4,8 @@ for."""
 
 import subprocess
 
-import malformed
-import notes
-from tools import C99, CC, NOTED, PROGRAM, RUNNER, STRICT, TOP, Wrong, c_flags, run
+from tests import malformed, notes
+from tests.tools import C99, CC, NOTED, PROGRAM, RUNNER, STRICT, TOP, Wrong, c_flags, run
 
 
 def build(folder, room):

@@ -1,8 +1,7 @@
-#!/usr/bin/env python3
 """Tests what a release says of itself, without a build.
 
-    tests/release.py             compares, and fails with each difference
-    tests/release.py --freeze    stores the scripts of a new release
+    python3 -m tests.release             compares, and fails with each difference
+    python3 -m tests.release --freeze    stores the scripts of a new release
 
 - `VERSION` has the number of the release, and each other file that names it has the same.
 - The newest release of `CHANGELOG.md` is this one.
@@ -16,17 +15,13 @@
 
 import re
 import sys
-from pathlib import Path
 
-sys.dont_write_bytecode = True
-TOP = Path(__file__).resolve().parent.parent
-sys.path[:0] = [str(TOP / "replay"), str(TOP / "packaging")]
-
-import compare  # noqa: E402
-import proved  # noqa: E402
-from make_sample import examples  # noqa: E402
-from make_scripts import by_hand, read_scripts  # noqa: E402
-from tables import KeySet, answers  # noqa: E402
+import compare
+import proved
+from make_sample import examples
+from make_scripts import by_hand, read_scripts
+from tables import KeySet, answers
+from tests import TOP
 
 FROZEN = TOP / "tests" / "frozen"
 STORED = TOP / "replay" / "scripts.txt"
@@ -182,7 +177,7 @@ def main():
         freeze(version)
     wrong = [*differing_names(version), *unlisted_changes(version), *misread_proofs()]
     if version not in frozen():
-        wrong.append(f"tests/frozen/{version} isn't there: tests/release.py --freeze makes it")
+        wrong.append(f"tests/frozen/{version} isn't there: python3 -m tests.release --freeze makes it")
     for old in frozen():
         wrong += [*other_answers(old), *undated_words(old)]
     if wrong:

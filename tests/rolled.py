@@ -8,7 +8,6 @@ import json
 import os
 import re
 import shutil
-import sys
 from collections.abc import Iterator
 from dataclasses import dataclass, field
 from itertools import product
@@ -24,15 +23,11 @@ import dns.rdata
 import dns.rdatatype
 import dns.rrset
 
-import answering
-import testkeys
-from typed import TOP, typed
+from tests import answering, testkeys
+from tests.game import what_next
+from tests.typed import typed
 from vaqsider import advice
 from vaqsider.errors import Failure
-
-sys.path.append(str(TOP / "replay"))
-
-from game import what_next  # noqa: E402
 
 ZONE, PARENT_TTL = "example.com", 300
 TTLS = {"ds": PARENT_TTL, "dnskey": 60, "zone": 60}

@@ -1,11 +1,9 @@
-#!/usr/bin/env python3
 """Zones that roll by themselves, in a world of this process (rolled.py): courses by each kind of
 policy; ticks that are killed after each change on disk; two at once; clocks that jump; a full disk;
 hooks that hang or lie; policies with each word wrong; and what needs a person (attended.py).
 
-    tests/rolling.py            all of it
-    tests/rolling.py --only NAME..
-                                only these checks, as courses or killed
+    python3 -m tests.rolling                  all of it
+    python3 -m tests.rolling --only NAME..    only these checks, as courses or killed
 
 What comes next a second reader says too (game/what_next.py): the program has to say the same, if it
 knows the word."""
@@ -32,14 +30,10 @@ from html.parser import HTMLParser
 from pathlib import Path
 from unittest import mock
 
-sys.dont_write_bytecode = True
-
-import answering  # noqa: E402
-import attended  # noqa: E402
-import rolled  # noqa: E402
-from game import what_next  # noqa: E402
-from rolled import BEGIN, ZONE, Broken, World, lines, living, shape, tick  # noqa: E402
-from typed import TOP, folder, typed  # noqa: E402
+from tests import answering, attended, rolled
+from tests.game import what_next
+from tests.rolled import BEGIN, ZONE, Broken, World, lines, living, shape, tick
+from tests.typed import TOP, folder, typed
 
 COUNTS = {"ticks": 0, "rolls": 0, "kills": 0, "policies": 0, "commands": 0}
 DAY = 86400

@@ -1,4 +1,3 @@
-#!/usr/bin/env python3
 """Plays operators who follow `docs/courses.json` to the letter, from which the lists of
 `docs/RUNBOOKS.md` are made, and looks at whatever caches may hold. There is no network, and the
 only clock is the game's. The key set is that of `replay/tables.py`.
@@ -31,21 +30,15 @@ import sys
 import time
 from collections import Counter
 from itertools import permutations
-from pathlib import Path
 
-sys.dont_write_bytecode = True
-TOP = Path(__file__).resolve().parent.parent
-sys.path.insert(0, str(TOP / "replay"))
-
-from judge import chain_line  # noqa: E402
-from tables import ROLLS  # noqa: E402
-
-from game.book import EARLY_END, FIRST_KEYS, Wrong, left_out, runbooks  # noqa: E402
-from game.course import BESIDE, SLIPS, Follower  # noqa: E402
-from game.pair import JOINED, LEFT, Pair  # noqa: E402
-from game.points import ALGORITHM, BREAKS, DOUBLE_DS, NO_CHAIN, ORDERS, PAIRS, POINTS  # noqa: E402
-from game.signer import GONE, Stuck  # noqa: E402
-from game.zone import Broken, World  # noqa: E402
+from judge import chain_line
+from tables import ROLLS
+from tests.game.book import EARLY_END, FIRST_KEYS, Wrong, left_out, runbooks
+from tests.game.course import BESIDE, SLIPS, Follower
+from tests.game.pair import JOINED, LEFT, Pair
+from tests.game.points import ALGORITHM, BREAKS, DOUBLE_DS, NO_CHAIN, ORDERS, PAIRS, POINTS
+from tests.game.signer import GONE, Stuck
+from tests.game.zone import Broken, World
 
 
 def play(seed, order, book, leaves, noted=None):

@@ -1,9 +1,8 @@
-#!/usr/bin/env python3
 """Signers that run, by the real ones: PowerDNS, Knot DNS and named. The gate doesn't need them.
 
-    tests/running.py [NAME..]    takes each through a course of rolls, with a crash before each
-                                 command. After each step it asks the server itself, and compares
-                                 what that gives with what is due
+    python3 -m tests.running [NAME..]    takes each through a course of rolls, with a crash before
+                                         each command. After each step it asks the server itself,
+                                         and compares what that gives with what is due
 
 The names are pdns, pdns-pgsql and pdns-api (also on PostgreSQL), knot, knot-pkcs11 (by SoftHSM) and
 bind-inline."""
@@ -27,8 +26,9 @@ import dns.message
 import dns.query
 import dns.rdatatype
 
-import adaptors
-from typed import TOP, folder
+from live.postgres import Postgres
+from tests import adaptors
+from tests.typed import folder
 from vaqsider import keyfiles
 from vaqsider.errors import Failure
 from vaqsider.signers import Key, Sets, daemon
@@ -36,9 +36,6 @@ from vaqsider.signers.inline import Inline
 from vaqsider.signers.knot import FAR, Knot
 from vaqsider.signers.pdns import Pdnsutil
 from vaqsider.signers.pdns_api import Api
-
-sys.path.append(str(TOP / "live"))
-from postgres import Postgres  # noqa: E402
 
 # For how many seconds a server may take to begin.
 PATIENCE = 30

@@ -1,7 +1,6 @@
-#!/usr/bin/env python3
 """Tests the status that sessions of the library show, after each line of each stored script.
 
-    tests/sessions.py FOLDER    takes the library that `make lib` has left there
+    python3 -m tests.sessions FOLDER    takes the library that `make lib` has left there
 
 Each status is JSON of one shape, and the last one of a script meets the schema. Its sets and its
 verdict are those of the closing lines. What the status says can be done is tried on a copy of the
@@ -18,7 +17,7 @@ from pathlib import Path
 
 from jsonschema.validators import validator_for
 
-from tools import EVERY, TOP, Wrong
+from tests.tools import EVERY, TOP, Wrong
 
 SCHEMA = json.loads((TOP / "docs" / "status.schema.json").read_text())
 STORED = TOP / "replay" / "scripts.txt"

@@ -1,4 +1,3 @@
-#!/usr/bin/env python3
 """Takes each roll through all its phases. Between any two of its calls it puts each setter on each
 key, a deletion, a call made again, an early end and a moment that goes back. After each of them it
 also ends the roll early, and starts it again. Each answer, the record, and the whole key set after
@@ -13,12 +12,9 @@ It asks the program `callers`, which `rt ci` has made by then.
 import subprocess
 import sys
 import time
-from pathlib import Path
 
-TOP = Path(__file__).resolve().parent.parent
-sys.path.insert(0, str(TOP / "replay"))
-
-from tables import ROLLS, KeySet  # noqa: E402
+from tables import ROLLS, KeySet
+from tests import TOP
 
 PROGRAM = TOP / "crates" / "callers" / "out" / "callers"
 STORED = TOP / "replay" / "scripts.txt"

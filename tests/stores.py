@@ -9,7 +9,6 @@ import re
 from pathlib import Path
 from unittest import mock
 
-import typed  # noqa: F401 (it has the command on the path)
 from vaqsider import keyfiles
 from vaqsider.errors import Failure
 from vaqsider.signers import Key, by_flags

@@ -4,7 +4,8 @@ import os
 import subprocess
 from pathlib import Path
 
-TOP = Path(__file__).resolve().parent.parent
+from tests import TOP
+
 CRATES = TOP / "crates"
 # The proved program, alone and with its words.
 PROGRAM = CRATES / "keyset" / "out" / "keyset"

@@ -1,16 +1,15 @@
-#!/usr/bin/env python3
 """Lists the types of the crates that share a name with another one: a reader takes two types of one
 name for one thing. `tests/docs.py` fails if there are any.
 
-    tests/type_names.py    prints each name that several types have, with their files
+    python3 -m tests.type_names    prints each name that several types have, with their files
 """
 
 import re
 import sys
 from collections import defaultdict
-from pathlib import Path
 
-TOP = Path(__file__).resolve().parent.parent
+from tests import TOP
+
 CRATES = TOP / "crates"
 # A type that stands in no other one. (Traits of std fix the names of those within an `impl`.)
 TYPE = re.compile(r"^(?:pub(?:\(\w+\))? )?(?:struct|enum|union|trait|type) (\w+)", re.MULTILINE)

@@ -4,14 +4,12 @@ import contextlib
 import io
 import os
 import shutil
-import sys
 import tempfile
 from pathlib import Path
 
-TOP = Path(__file__).resolve().parent.parent
+from tests import TOP
+
 STORED = TOP / "tests" / "command"
-sys.dont_write_bytecode = True
-sys.path.insert(0, str(TOP / "command"))
 
 
 def typed(words, now=1000):

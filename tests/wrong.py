@@ -1,4 +1,3 @@
-#!/usr/bin/env python3
 """Tries more wrong bodies than the gate does: those of `crates/NAME/wrong`. Names of crates may
 follow; else all are tried. The check has to refuse each, as those of `must-fail`.
 
@@ -11,7 +10,7 @@ import sys
 import tempfile
 from pathlib import Path
 
-from tools import TOP
+from tests.tools import TOP
 
 LEFT = shutil.ignore_patterns(".git", "out", "must-fail")
 

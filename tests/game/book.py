@@ -3,12 +3,12 @@ rules the guides say."""
 
 import json
 import re
-from pathlib import Path
 from typing import NamedTuple
 
 from tables import ROLLS
+from tests import TOP
 
-DOCS = Path(__file__).resolve().parents[2] / "docs"
+DOCS = TOP / "docs"
 COURSES = DOCS / "courses.json"
 FIRST_KEYS, EARLY_END = "The first keys", "Ending a roll early"
 

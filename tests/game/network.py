@@ -5,9 +5,8 @@ from dataclasses import dataclass
 from math import inf
 
 from judge import SPEAKS_OF, base, origin
-
-from game.notes import due
-from game.zone import SECOND
+from tests.game.notes import due
+from tests.game.zone import SECOND
 
 KINDS = ("ds", "dnskey", "zone")
 

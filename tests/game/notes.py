@@ -5,8 +5,7 @@ from itertools import combinations
 from typing import NamedTuple, Optional
 
 from judge import SPEAKS_OF, base, origin, time
-
-from game.zone import SECOND
+from tests.game.zone import SECOND
 
 
 class Question(NamedTuple):
