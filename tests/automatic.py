@@ -1,7 +1,8 @@
 """Plays zones that roll by themselves: an operator does what `keyset next` says, and nothing else.
-Whatever caches may hold is looked at as in tests/runbooks.py, and each call is made by the key set
-of `replay/tables.py`. What is said is compared with the definition, as tests/game/what_next.py has
-it, and at its end each script is answered by the program: all its calls are accepted.
+Whatever caches may hold is looked at as in tests/oracle/runbooks.py, and each call is made by the
+key set of `replay/tables.py`. What is said is compared with the definition, as
+tests/oracle/what_next.py has it, and at its end each script is answered by the program: all its
+calls are accepted.
 
     python3 -m tests.automatic [ROLLS [ZONE [JOBS]]]
             how many rolls are played at least, from which zone on, and how many at once
@@ -25,12 +26,12 @@ from typing import Iterator, Optional, Sequence
 from judge import chain_line, has_chain, time as judged_time
 from keyset import programs
 from tables import ROLLS
-from tests.game.facts import Facts
-from tests.game.notes import Notes, Version, due
-from tests.game.policy import CSK, KSK_ROLLS, ZSK_ROLLS, Policy
-from tests.game.signer import Operator, Stuck
-from tests.game.what_next import AT_REST, View, next_of, shown
-from tests.game.zone import SECOND, SLOWEST, Broken, World
+from tests.oracle.facts import Facts
+from tests.oracle.notes import Notes, Version, due
+from tests.oracle.policy import CSK, KSK_ROLLS, ZSK_ROLLS, Policy
+from tests.oracle.signer import Operator, Stuck
+from tests.oracle.what_next import AT_REST, View, next_of, shown
+from tests.oracle.zone import SECOND, SLOWEST, Broken, World
 
 ROLLS_OF_A_ZONE, ROLLS_IN_THE_GATE = 12, 240
 ALGORITHMS = (8, 13, 14, 15)

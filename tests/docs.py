@@ -36,7 +36,7 @@ import sys
 from make_sample import examples
 from tables import answers
 from tests import TOP, contracts, pictures, type_names
-from tests.game.page import command_lines, steps
+from tests.oracle.page import command_lines, steps
 
 STORED = TOP / "replay" / "scripts.txt"
 

@@ -210,7 +210,7 @@ class Operator:
 
 def runbooks():
     """The commands of each roll and of the first keys, as docs/RUNBOOKS.md has them typed."""
-    from tests.game.page import commands, courses
+    from tests.oracle.page import commands, courses
 
     for name in courses()["rolls"]:
         yield name, [command for time in commands(name) for command in time]

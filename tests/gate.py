@@ -1,6 +1,6 @@
 """The gate: `tests/docs.py` and `tests/release.py`, then `rt ci`. Beside its first proofs run
-`tests/runbooks.py`, `tests/networks.py`, `tests/examples.py` and `tests/mistakes.py`, and beside
-its edits run `tests/memory.py`, `tests/sets.py`, `tests/notes.py`, `tests/command.py`,
+`tests/oracle/runbooks.py`, `tests/oracle/networks.py`, `tests/examples.py` and `tests/mistakes.py`,
+and beside its edits run `tests/memory.py`, `tests/sets.py`, `tests/notes.py`, `tests/command.py`,
 `tests/rolling.py`, `tests/nexts.py`, `tests/automatic.py` and `tests/library.py`, for which
 `tests/archive.py` builds the library. Then `tests/told.py` compares the numbers of docs/tests.txt
 with what all of them have printed. Before the last line of `rt ci` it prints from which files each
@@ -28,7 +28,7 @@ PRINTED = []
 # What the dearest proof takes of the memory, in bytes.
 MEMORY = 3_500_000_000
 # The tests that need no proof.
-FREE = ("runbooks", "networks", "examples", "mistakes")
+FREE = ("oracle.runbooks", "oracle.networks", "examples", "mistakes")
 # The priority of edits, as that of `nice`.
 LOW = 10
 # What it leaves out, for that needs servers, root or hours.
@@ -94,11 +94,11 @@ class Edits(threading.Thread):
 
 
 class Beside(threading.Thread):
-    """A script of tests that runs beside `rt ci`."""
+    """A module of tests that runs beside `rt ci`, by its room and name."""
 
-    def __init__(self, name, *words, under=()):
-        super().__init__(daemon=True, name=name)
-        self.words = [*under, sys.executable, "-m", f"tests.{name}", *words]
+    def __init__(self, module, *words, under=()):
+        super().__init__(daemon=True, name=module.rpartition(".")[2])
+        self.words = [*under, sys.executable, "-m", f"tests.{module}", *words]
         self.test = None
         # What waits for it.
         self.later = []
@@ -123,8 +123,8 @@ class After(Beside):
     """A script of tests that runs after these crates are proved or kept, on what `rt ci` has built
     or restored, and after these scripts have passed."""
 
-    def __init__(self, name, *words, after):
-        super().__init__(name, *words)
+    def __init__(self, module, *words, after):
+        super().__init__(module, *words)
         self.wanted = set(after)
         self.alone = threading.Lock()
 

@@ -1,6 +1,6 @@
 """Tests notes beside sessions of the library: in C at the border, in Python over what operators of
-`tests/runbooks.py` note, and the callers that say which reports are due. Each answer has to be that
-of the program `keyset notes` for the same lines."""
+`tests/oracle/runbooks.py` note, and the callers that say which reports are due. Each answer has to
+be that of the program `keyset notes` for the same lines."""
 
 import os
 import sys

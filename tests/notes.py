@@ -1,11 +1,11 @@
-"""Operators of `tests/runbooks.py` who keep notes, as docs/REFERENCE.md has them.
+"""Operators of `tests/oracle/runbooks.py` who keep notes, as docs/REFERENCE.md has them.
 
 The program `keyset notes` is asked for each report. Its answer has to be what the rule of
-docs/REFERENCE.md says, for which `tests/game/notes.py` has code of its own. It may be no more than
-rule 1 of docs/OPERATORS.md, as it is played, except for the difference of clocks. Half of them
-report what their notes say, and no zone breaks by it. With one second less zones break. At
-some reports each digit of the notes is lost in turn, and at all of them a moment before the
-report's step is asked about (`tests/mistyped.py`)."""
+docs/REFERENCE.md says, for which `tests/oracle/notes.py` has code of its own. It may be no more
+than rule 1 of docs/OPERATORS.md, as it is played, except for the difference of clocks. Half of them
+report what their notes say, and no zone breaks by it. With one second less zones break. At some
+reports each digit of the notes is lost in turn, and at all of them a moment before the report's
+step is asked about (`tests/mistyped.py`)."""
 
 import random
 import resource
@@ -15,10 +15,11 @@ import time
 from itertools import permutations
 
 from tables import ROLLS
-from tests import mistyped, runbooks
-from tests.game.book import left_out, runbooks as book
-from tests.game.notes import Notes
-from tests.game.points import PAIRS, POINTS
+from tests import mistyped
+from tests.oracle import runbooks
+from tests.oracle.book import left_out, runbooks as book
+from tests.oracle.notes import Notes
+from tests.oracle.points import PAIRS, POINTS
 from tests.tools import NOTES
 
 # A script of three calls, and what is answered to notes beside it and a question.

@@ -24,7 +24,7 @@ import dns.rdatatype
 import dns.rrset
 
 from tests import answering, testkeys
-from tests.game import what_next
+from tests.oracle import what_next
 from tests.typed import typed
 from vaqsider import advice
 from vaqsider.errors import Failure

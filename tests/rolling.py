@@ -31,7 +31,7 @@ from pathlib import Path
 from unittest import mock
 
 from tests import answering, attended, rolled
-from tests.game import what_next
+from tests.oracle import what_next
 from tests.rolled import BEGIN, ZONE, Broken, World, lines, living, shape, tick
 from tests.typed import TOP, folder, typed
 

@@ -1,12 +1,12 @@
 """A zone of the game with two signers."""
 
-from tests.game.book import FIRST_KEYS
-from tests.game.course import Follower
-from tests.game.points import (
+from tests.oracle.book import FIRST_KEYS
+from tests.oracle.course import Follower
+from tests.oracle.points import (
     ALGORITHM, ALGORITHM_ALONE, CSK, DOUBLE_DS, DOUBLE_SIGNATURE, DS_ALONE, JOINS_EARLY,
     LEAVES_EARLY, NS_TTL, UNSIGNED_ALONE,
 )
-from tests.game.zone import SECOND
+from tests.oracle.zone import SECOND
 
 JOINED, LEFT = "joined", "left"
 # The rolls that each makes for itself.

@@ -5,8 +5,8 @@ from dataclasses import dataclass
 from math import inf
 
 from judge import SPEAKS_OF, base, origin
-from tests.game.notes import due
-from tests.game.zone import SECOND
+from tests.oracle.notes import due
+from tests.oracle.zone import SECOND
 
 KINDS = ("ds", "dnskey", "zone")
 

@@ -6,7 +6,7 @@ from math import inf
 
 from judge import has_chain
 from tables import SETS
-from tests.game.points import EXPIRED, NO_CDS, NO_CHAIN, NOT_EVERY, TOO_MANY, WORLDS
+from tests.oracle.points import EXPIRED, NO_CDS, NO_CHAIN, NOT_EVERY, TOO_MANY, WORLDS
 
 # The instants in a second.
 SECOND = 8

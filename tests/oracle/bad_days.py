@@ -6,7 +6,7 @@ from __future__ import annotations
 from collections.abc import Iterator
 from dataclasses import dataclass, field, replace
 
-from tests.game.what_next import AT_REST, said
+from tests.oracle.what_next import AT_REST, said
 
 POLICY = ("policy 13 ksk-roll zsk-roll", "ksk-lifetime 100000", "zsk-lifetime 10000")
 TTL, BEGIN, RENEWED = 60, 1000, 11000

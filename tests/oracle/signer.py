@@ -3,14 +3,14 @@
 from collections import Counter
 
 from tables import SETS, KeySet
-from tests.game.book import ASKS, COURSES, WATCHED, Wrong
-from tests.game.points import (
+from tests.oracle.book import ASKS, COURSES, WATCHED, Wrong
+from tests.oracle.points import (
     A_SECOND, AT_ONCE, BEFORE_START, CDS_BY_ALL, CDS_BY_SIGNERS, CDS_BY_ZONE, CDS_LEFT, CDS_ON_ONE,
     CDS_STAYS, CDS_UNCHANGED, CDS_UNCOUNTED, DS_OWN, EARLY, EARLY_ENDS, KEYS_UNSEEN, LOWERED,
     NOT_KEPT, NOT_RENEWED, NO_END, NO_MARGIN, NO_SUM, OTHER_TTL, RAISED, ROUNDED, SKIPPED,
     TAKEN_OUT, TTL_OF_0,
 )
-from tests.game.zone import SECOND, SLOWEST
+from tests.oracle.zone import SECOND, SLOWEST
 
 # A roll is stuck if it doesn't go on for this many seconds after its last step.
 STUCK = 200

@@ -1,13 +1,12 @@
 """Networks of the game, premise by premise.
 
-Zones of `tests/runbooks.py` whose operators follow the guides are networks of their records. Each
-premise of the theorems on resolvers is checked up to each instant at which what caches may hold
-changes, by the definitions of `crates/dnssec_network/specs`, which `tests/game/network.py` has
-written again; and each choice of sets that caches may hold then has a chain of trust. Some zones
-make all six rolls, by notes. Others have two signers, one of which may join or leave: they keep the
-guide's rules as these are defined. If a signer leaves out a point that the definition has, it isn't
-met in some zone.
-"""
+Zones of `tests/oracle/runbooks.py` whose operators follow the guides are networks of their records.
+Each premise of the theorems on resolvers is checked up to each instant at which what caches may
+hold changes, by the definitions of `crates/dnssec_network/specs`, which `tests/oracle/network.py`
+has written again; and each choice of sets that caches may hold then has a chain of trust. Some
+zones make all six rolls, by notes. Others have two signers, one of which may join or leave: they
+keep the guide's rules as these are defined. If a signer leaves out a point that the definition has,
+it isn't met in some zone. """
 
 import random
 import sys
@@ -16,16 +15,16 @@ from itertools import permutations, product
 
 from judge import has_chain
 from tables import ROLLS
-from tests import runbooks
-from tests.game.book import left_out, runbooks as book
-from tests.game.network import KINDS, Network, names
-from tests.game.notes import Notes
-from tests.game.pair import Pair
-from tests.game.points import (
+from tests.oracle import runbooks
+from tests.oracle.book import left_out, runbooks as book
+from tests.oracle.network import KINDS, Network, names
+from tests.oracle.notes import Notes
+from tests.oracle.pair import Pair
+from tests.oracle.points import (
     DS_ALONE, DS_OWN, JOINS_EARLY, KEYS_UNSEEN, LEAVES_EARLY, OTHER_TTL, PAIRS, POINTS, TAKEN_OUT,
 )
-from tests.game.signer import Stuck
-from tests.game.zone import SECOND, Broken, World
+from tests.oracle.signer import Stuck
+from tests.oracle.zone import SECOND, Broken, World
 
 ZONES, TWO = 2, 4
 # Points of the guide for two signers that its definition has.

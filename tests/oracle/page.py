@@ -4,7 +4,7 @@ tables of `replay/` say; and the commands of a roll."""
 from textwrap import wrap
 
 from tables import answers
-from tests.game.book import FIRST_KEYS, courses
+from tests.oracle.book import FIRST_KEYS, courses
 
 ADDS = ("add-ksk K1", "add-ksk K2", "add-zsk Z1", "add-zsk Z2", "add-csk C1")
 TTLS = {"dnskey": "the DNSKEY TTL", "ds": "the DS TTL"}

@@ -1,13 +1,13 @@
 """The rolls of an operator of the game, and the course of a zone with one signer."""
 
 from tables import ROLLS, KeySet
-from tests.game.book import EARLY_END, FIRST_KEYS, UNSIGNED, Wrong
-from tests.game.points import (
+from tests.oracle.book import EARLY_END, FIRST_KEYS, UNSIGNED, Wrong
+from tests.oracle.points import (
     ALGORITHM, ALL_AT_ONCE, BACK_AT_ONCE, CDS_STAYS, CSK, CSK_FIRST, DOUBLE_DS, EARLY_ENDS,
     KSK_FIRST, MIXED, NOT_HELD_BACK, NOT_IN_USE, ONE_SIDE, PARENT_FIRST, SAME_KEY, UNSIGNED_ONLY,
 )
-from tests.game.signer import GONE, Operator
-from tests.game.zone import SECOND
+from tests.oracle.signer import GONE, Operator
+from tests.oracle.zone import SECOND
 
 BESIDE, SLIPS = "beside", "false lines"
 ALGORITHMS = (8, 13, 14, 15)

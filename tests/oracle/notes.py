@@ -5,7 +5,7 @@ from itertools import combinations
 from typing import NamedTuple, Optional
 
 from judge import SPEAKS_OF, base, origin, time
-from tests.game.zone import SECOND
+from tests.oracle.zone import SECOND
 
 
 class Question(NamedTuple):

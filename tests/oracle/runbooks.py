@@ -14,11 +14,12 @@ together, or one joins. Each makes rolls, and both change the algorithm. Then on
 unsigned and come back.
 
 Whenever a server gets another version, the game looks at every choice of sets that some cache may
-hold then. A cache may hold a set for its TTL after the last server ceased to give it, in seconds that
-begin at any instant. A validator also keeps a DNSKEY set that it has checked by a DS set for the TTL of the DNSKEY set, whatever
-becomes of the DS set. So the game looks at a DS set, a DNSKEY set checked by it, and signatures of
-the zone together. They have to form a chain of trust, with a signature by each algorithm of the DS
-set. The same goes for CDS. And no cache may hold a set longer than its signatures are valid.
+hold then. A cache may hold a set for its TTL after the last server ceased to give it, in seconds
+that begin at any instant. A validator also keeps a DNSKEY set that it has checked by a DS set for
+the TTL of the DNSKEY set, whatever becomes of the DS set. So the game looks at a DS set, a DNSKEY
+set checked by it, and signatures of the zone together. They have to form a chain of trust, with a
+signature by each algorithm of the DS set. The same goes for CDS. And no cache may hold a set longer
+than its signatures are valid.
 
 Then come operators who don't follow the guides in one point. Each point has to break some zone, in
 the way that belongs to it; `-v` prints how many break. If the guides don't say a point, all
@@ -33,12 +34,12 @@ from itertools import permutations
 
 from judge import chain_line
 from tables import ROLLS
-from tests.game.book import EARLY_END, FIRST_KEYS, Wrong, left_out, runbooks
-from tests.game.course import BESIDE, SLIPS, Follower
-from tests.game.pair import JOINED, LEFT, Pair
-from tests.game.points import ALGORITHM, BREAKS, DOUBLE_DS, NO_CHAIN, ORDERS, PAIRS, POINTS
-from tests.game.signer import GONE, Stuck
-from tests.game.zone import Broken, World
+from tests.oracle.book import EARLY_END, FIRST_KEYS, Wrong, left_out, runbooks
+from tests.oracle.course import BESIDE, SLIPS, Follower
+from tests.oracle.pair import JOINED, LEFT, Pair
+from tests.oracle.points import ALGORITHM, BREAKS, DOUBLE_DS, NO_CHAIN, ORDERS, PAIRS, POINTS
+from tests.oracle.signer import GONE, Stuck
+from tests.oracle.zone import Broken, World
 
 
 def play(seed, order, book, leaves, noted=None):
