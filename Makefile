@@ -69,7 +69,7 @@ noted:
 arm: made has-aarch64-linux-gnu-gcc ## builds the library and program for ARM: library/out-aarch64
 	@packaging/built.py library/out-aarch64 || $(MAKE) -j1 armed
 armed:
-	@$(PYTHON) -m tests.archive library/out-aarch64 aarch64
+	@$(PYTHON) -m tests.library.archive library/out-aarch64 aarch64
 	@mkdir -p library/out-aarch64/programs/keyset/out
 	@aarch64-linux-gnu-gcc -std=c99 -O2 -Wall -Wextra -Wl,-z,now -Ilibrary/out-aarch64/include \
 		-o library/out-aarch64/programs/keyset/out/keyset library/programs/*.c \
@@ -147,21 +147,21 @@ memory: python has-cc build ## lets each request for memory fail in turn
 	@$(PYTHON) -m tests.memory
 
 test-lib: $(CALLERS) made ## tests the library, its callers and the install
-	@$(PYTHON) -m tests.library library/out
+	@$(PYTHON) -m tests.library.library library/out
 asan: python has-cc made ## tests the library in C under the address sanitizer
-	@$(PYTHON) -m tests.library library/out $@
+	@$(PYTHON) -m tests.library.library library/out $@
 valgrind: python has-cc has-valgrind made ## tests the library in C under valgrind
-	@$(PYTHON) -m tests.library library/out $@
+	@$(PYTHON) -m tests.library.library library/out $@
 
 test-arm: arm has-qemu-aarch64 has-go ## tests the library for ARM in C, Go and Python, under qemu
-	@$(PYTHON) -m tests.arm library/out-aarch64
+	@$(PYTHON) -m tests.library.arm library/out-aarch64
 
 test-go: python has-go has-cc made ## tests the module for Go
-	@$(PYTHON) -m tests.go library/out
+	@$(PYTHON) -m tests.library.go library/out
 
 # The library and a second reader have to agree on each text, and the tables on some.
 fuzz: python has-clang made ## lets libFuzzer make RUNS texts: it needs clang with its runtime
-	@$(PYTHON) -m tests.fuzz library/out $(RUNS)
+	@$(PYTHON) -m tests.library.fuzz library/out $(RUNS)
 
 # What mypy has to find stands in the test, and what it checks in pyproject.toml.
 types: modules has-mypy ## checks the types of the command and of the Python package by mypy

@@ -1,11 +1,11 @@
 """The gate: `tests/docs.py` and `tests/release.py`, then `rt ci`. Beside its first proofs run
 `tests/oracle/runbooks.py`, `tests/oracle/networks.py`, `tests/examples.py` and `tests/mistakes.py`,
 and beside its edits run `tests/memory.py`, `tests/sets.py`, `tests/notes.py`, `tests/command.py`,
-`tests/rolling.py`, `tests/nexts.py`, `tests/automatic.py` and `tests/library.py`, for which
-`tests/archive.py` builds the library. Then `tests/told.py` compares the numbers of docs/tests.txt
-with what all of them have printed. Before the last line of `rt ci` it prints from which files each
-proof was made, as a release wants it, when each step was done, in minutes and seconds since the
-start, so that a rise is seen, and which tests it leaves out."""
+`tests/rolling.py`, `tests/nexts.py`, `tests/automatic.py` and `tests/library/library.py`, for which
+`tests/library/archive.py` builds the library. Then `tests/told.py` compares the numbers of
+docs/tests.txt with what all of them have printed. Before the last line of `rt ci` it prints from
+which files each proof was made, as a release wants it, when each step was done, in minutes and
+seconds since the start, so that a rise is seen, and which tests it leaves out."""
 
 import contextlib
 import os
@@ -201,8 +201,8 @@ def prove_and_test(free, folder):
     have passed, `make install` and `make dist` take that library and the program."""
     before = built.sums()
     # The library takes no proof of `keyset_c`, only of the crates below it.
-    archive = After("archive", folder, after=["dnssec_status", "dnssec_automatic"])
-    library = After("library", folder, after=["keyset", "archive"])
+    archive = After("library.archive", folder, after=["dnssec_status", "dnssec_automatic"])
+    library = After("library.library", folder, after=["keyset", "archive"])
     archive.later.append(library)
     scripts = [
         After("memory", after=["callers", "keyset"]),

@@ -1,7 +1,7 @@
 """Lets each request for memory fail in turn: those of names, of a stored script's record, of copies
 of its keys and its key set, and of a judge. It also checks that the audit by the definition makes
-none. (In `tests/library.c` the requests for a script's answers fail, and in `tests/sessions.c`
-those of each call.)
+none. (In `tests/library/library.c` the requests for a script's answers fail, and in
+`tests/library/sessions.c` those of each call.)
 
 It runs the program `callers`, which `rt ci` has made by then, once for each request of each of
 these works, with `tests/memory.c` in place of the C library's allocator. The requests of the

@@ -1,6 +1,6 @@
 """Installs the program, the library and the command into a new folder, and uses them there.
 
-    python3 -m tests.install FOLDER    takes the library that `make lib` has left there
+    python3 -m tests.library.install FOLDER    takes the library that `make lib` has left there
 
 A caller in C is built by `pkg-config`, the folder is moved, and the caller is built again. The
 program, its links and the command answer from the new place, without the repository. Each file that
@@ -8,7 +8,7 @@ names a version names that of the file VERSION. Each manual page has the form th
 second install changes nothing. An install over an older list removes the files that only the old
 list has. An install below another folder of libraries is found by `pkg-config` there, one without a
 part lacks just its files, and a shared object of an older interface stays. After `uninstall` only
-the files of others are left. Mishaps are those of `tests/mishaps.py`.
+the files of others are left. Mishaps are those of `tests/library/mishaps.py`.
 """
 
 import json
@@ -20,7 +20,7 @@ from pathlib import Path
 
 from artefact import X86_64, Built
 from tarballs import pack_built
-from tests import mishaps
+from tests.library import mishaps
 from tests.tools import CRATES, NOTED, SHOWN, STRICT, TOP, Wrong, run
 
 INSTALL = TOP / "packaging" / "install.py"

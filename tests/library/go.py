@@ -1,8 +1,8 @@
 """Tests the module for Go, as a release has it.
 
-    python3 -m tests.go FOLDER              takes the library that `make lib` has left there
-    python3 -m tests.go FOLDER elsewhere    takes that for ARM: by the compiler CC, and run under
-                                            RUNNER
+    python3 -m tests.library.go FOLDER              takes the library that `make lib` has left there
+    python3 -m tests.library.go FOLDER elsewhere    takes that for ARM: by the compiler CC, and run
+                                                    under RUNNER
 
 `go vet` finds nothing, its tests pass, here also under the detector of races, its example plays
 scripts as the program does, and a project uses the module by the folder's name.

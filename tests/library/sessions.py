@@ -1,6 +1,6 @@
 """Tests the status that sessions of the library show, after each line of each stored script.
 
-    python3 -m tests.sessions FOLDER    takes the library that `make lib` has left there
+    python3 -m tests.library.sessions FOLDER    takes the library that `make lib` has left there
 
 Each status is JSON of one shape, and the last one of a script meets the schema. Its sets and its
 verdict are those of the closing lines. What the status says can be done is tried on a copy of the

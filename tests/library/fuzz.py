@@ -1,8 +1,8 @@
 """Lets libFuzzer make texts from the stored scripts and their words. The library and a second
-reader have to call the same ones malformed (`tests/fuzz.c`). To scripts that it made the library
-has to answer as the tables do.
+reader have to call the same ones malformed (`tests/library/fuzz.c`). To scripts that it made the
+library has to answer as the tables do.
 
-    python3 -m tests.fuzz FOLDER RUNS    takes the library that `make lib` has left there
+    python3 -m tests.library.fuzz FOLDER RUNS    takes the library that `make lib` has left there
 """
 
 import re
@@ -14,6 +14,7 @@ from pathlib import Path
 from tables import answers
 from tests.tools import TOP, Wrong, run
 
+HERE = Path(__file__).parent
 STORED = TOP / "replay" / "scripts.txt"
 # The second judge is slow on longer scripts.
 LONGEST = 60
@@ -26,7 +27,7 @@ def stored_scripts():
 
 
 def build(folder, program):
-    sources = [TOP / "tests" / name for name in ("fuzz.c", "reader.c")]
+    sources = [HERE / name for name in ("fuzz.c", "reader.c")]
     flags = ["-O2", "-g", "-fsanitize=fuzzer,address,undefined"]
     linked = [f"-I{folder}/include", f"-L{folder}/lib", "-l:libkeyset.a"]
     try:

@@ -1,12 +1,12 @@
 """Tests the library that `make lib` makes, and its callers in C, Rust and Python.
 
-    python3 -m tests.library FOLDER
-            takes the one that `make lib` or `tests/archive.py` has left there
-    python3 -m tests.library FOLDER valgrind|asan
+    python3 -m tests.library.library FOLDER
+            takes the one that `make lib` or `tests/library/archive.py` has left there
+    python3 -m tests.library.library FOLDER valgrind|asan
             only its tests in C, under a checker of memory
-    python3 -m tests.library FOLDER elsewhere
+    python3 -m tests.library.library FOLDER elsewhere
             only its tests in C: those of another architecture, by the compiler CC, run under RUNNER
-    python3 -m tests.library FOLDER python
+    python3 -m tests.library.library FOLDER python
             only its tests in Python: for a Python of another architecture, on one of EVERY scripts
 
 A script and its answers are those of `replay/scripts.txt`. The program `keyset` has to answer them,
@@ -26,11 +26,12 @@ from concurrent.futures import ThreadPoolExecutor
 from itertools import islice
 from pathlib import Path
 
-from tests import install, long, malformed, noted, programs, release, rust, sessions, words
+from tests import long, malformed, release, words
+from tests.library import install, noted, programs, rust, sessions
 from tests.tools import C99, CC, EVERY, NOTED, PROGRAM, RUNNER, STATUS, STRICT, TOP, WRAPPED, Wrong
 from tests.tools import c_flags, kit, run
 
-LIBRARY = TOP / "library"
+HERE, LIBRARY = Path(__file__).parent, TOP / "library"
 STORED = TOP / "replay" / "scripts.txt"
 EXAMPLES = sorted((TOP / "examples").rglob("*.script"))
 
@@ -62,14 +63,14 @@ def expect_no_links(folder):
 
 def build_in_c(folder, program, *flags, more=()):
     """Builds the tests in C as a program."""
-    sources = [TOP / "tests" / name for name in ("library.c", "reader.c", *more)]
+    sources = [HERE / name for name in ("library.c", "reader.c", *more)]
     run(CC, *STRICT, *WRAPPED, *flags, "-o", program, *sources, *c_flags(folder))
     return program
 
 
 def build_sessions(folder, program, *flags):
     """Builds tests in C as a program: those of the file of its name."""
-    source = TOP / "tests" / f"{program.name}.c"
+    source = HERE / f"{program.name}.c"
     run(CC, *STRICT, *WRAPPED, *flags, "-o", program, source, *c_flags(folder))
     return program
 
@@ -95,7 +96,7 @@ def test_policies(folder, room):
 
 
 def test_statuses(folder):
-    return run(sys.executable, "-m", "tests.sessions", folder, cwd=TOP).strip()
+    return run(sys.executable, "-m", "tests.library.sessions", folder, cwd=TOP).strip()
 
 
 def under_valgrind(folder, room):

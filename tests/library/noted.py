@@ -4,6 +4,7 @@ be that of the program `keyset notes` for the same lines."""
 
 import os
 import sys
+from pathlib import Path
 
 from tests import notes
 from tests.tools import CC, C99, EVERY, NOTED, STRICT, TOP, WRAPPED, Wrong, c_flags, run
@@ -14,7 +15,8 @@ ZONES = 12
 
 def build(folder, program, *flags):
     """Builds the tests in C as a program."""
-    run(CC, *STRICT, *WRAPPED, *flags, "-o", program, TOP / "tests" / "noted.c", *c_flags(folder))
+    source = Path(__file__).with_name("noted.c")
+    run(CC, *STRICT, *WRAPPED, *flags, "-o", program, source, *c_flags(folder))
     return program
 
 

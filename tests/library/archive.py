@@ -1,7 +1,7 @@
 """Builds the library for C in FOLDER, on the crates below it that a running `rt ci` has proved or
 has kept.
 
-    python3 -m tests.archive FOLDER [aarch64]
+    python3 -m tests.library.archive FOLDER [aarch64]
 
 The second word names another architecture than this machine's. This proves `keyset_c` once more:
 `rt ci` keeps nothing of its proof that a build could take.

@@ -1,6 +1,6 @@
 """Tests the library for ARM on this machine, under qemu.
 
-    python3 -m tests.arm FOLDER    takes the library that `make arm` has left there
+    python3 -m tests.library.arm FOLDER    takes the library that `make arm` has left there
 
 The tests and callers in C and in Go are built for ARM here. Those in Python run in Debian's Python
 for ARM, which is unpacked into a folder, and not installed. There `sys.executable` names a script
@@ -85,9 +85,9 @@ def main():
             return 1
         slow = {**os.environ, "EVERY": EVERY}
         for env, *words in (
-            (os.environ, sys.executable, "-m", "tests.library", folder, "elsewhere"),
-            (os.environ, sys.executable, "-m", "tests.go", folder, "elsewhere"),
-            (slow, python, "-m", "tests.library", folder, "python"),
+            (os.environ, sys.executable, "-m", "tests.library.library", folder, "elsewhere"),
+            (os.environ, sys.executable, "-m", "tests.library.go", folder, "elsewhere"),
+            (slow, python, "-m", "tests.library.library", folder, "python"),
         ):
             if subprocess.run(list(map(str, words)), cwd=TOP, env=env).returncode:
                 return 1
