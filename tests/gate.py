@@ -1,11 +1,9 @@
-"""The gate: `tests/docs.py` and `tests/release.py`, then `rt ci`. Beside its first proofs run
-`tests/oracle/runbooks.py`, `tests/oracle/networks.py`, `tests/examples.py` and `tests/mistakes.py`,
-and beside its edits run `tests/memory.py`, `tests/sets.py`, `tests/notes.py`, `tests/command.py`,
-`tests/rolling.py`, `tests/nexts.py`, `tests/automatic.py` and `tests/library/library.py`, for which
-`tests/library/archive.py` builds the library. Then `tests/told.py` compares the numbers of
-docs/tests.txt with what all of them have printed. Before the last line of `rt ci` it prints from
-which files each proof was made, as a release wants it, when each step was done, in minutes and
-seconds since the start, so that a rise is seen, and which tests it leaves out."""
+"""The gate: the tests `docs` and `release`, then `rt ci`. Beside its first proofs run the tests that
+need none, and beside its edits those that take what it has built: `archive` builds the library for
+them. Then `told` compares the numbers of docs/tests.txt with what all of them have printed. Before
+the last line of `rt ci` it prints from which files each proof was made, as a release wants it, when
+each step was done, in minutes and seconds since the start, so that a rise is seen, and which tests
+it leaves out."""
 
 import contextlib
 import os
@@ -205,13 +203,13 @@ def prove_and_test(free, folder):
     library = After("library.library", folder, after=["keyset", "archive"])
     archive.later.append(library)
     scripts = [
-        After("memory", after=["callers", "keyset"]),
-        After("sets", after=["callers"]),
-        After("notes", after=["keyset"]),
+        After("scripts.memory", after=["callers", "keyset"]),
+        After("scripts.sets", after=["callers"]),
+        After("scripts.notes", after=["keyset"]),
         After("command", after=["keyset"]),
         After("rolling", after=["keyset"]),
-        After("nexts", after=["keyset"]),
-        After("automatic", after=["keyset"]),
+        After("scripts.nexts", after=["keyset"]),
+        After("scripts.automatic", after=["keyset"]),
         archive,
         library,
     ]

@@ -26,8 +26,9 @@ from concurrent.futures import ThreadPoolExecutor
 from itertools import islice
 from pathlib import Path
 
-from tests import long, malformed, release, words
+from tests import release
 from tests.library import install, noted, programs, rust, sessions
+from tests.scripts import long, malformed, words
 from tests.tools import C99, CC, EVERY, NOTED, PROGRAM, RUNNER, STATUS, STRICT, TOP, WRAPPED, Wrong
 from tests.tools import c_flags, kit, run
 

@@ -6,7 +6,7 @@ import os
 import sys
 from pathlib import Path
 
-from tests import notes
+from tests.scripts import notes
 from tests.tools import CC, C99, EVERY, NOTED, STRICT, TOP, WRAPPED, Wrong, c_flags, run
 
 LIBRARY = TOP / "library"

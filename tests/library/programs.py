@@ -4,7 +4,7 @@ for."""
 
 import subprocess
 
-from tests import malformed, notes
+from tests.scripts import malformed, notes
 from tests.tools import C99, CC, NOTED, PROGRAM, RUNNER, STRICT, TOP, Wrong, c_flags, run
 
 

@@ -6,7 +6,8 @@ hold changes, by the definitions of `crates/dnssec_network/specs`, which `tests/
 has written again; and each choice of sets that caches may hold then has a chain of trust. Some
 zones make all six rolls, by notes. Others have two signers, one of which may join or leave: they
 keep the guide's rules as these are defined. If a signer leaves out a point that the definition has,
-it isn't met in some zone. """
+it isn't met in some zone.
+"""
 
 import random
 import sys

@@ -5,7 +5,7 @@ docs/REFERENCE.md says, for which `tests/oracle/notes.py` has code of its own. I
 than rule 1 of docs/OPERATORS.md, as it is played, except for the difference of clocks. Half of them
 report what their notes say, and no zone breaks by it. With one second less zones break. At some
 reports each digit of the notes is lost in turn, and at all of them a moment before the report's
-step is asked about (`tests/mistyped.py`)."""
+step is asked about (`tests/scripts/mistyped.py`)."""
 
 import random
 import resource
@@ -15,11 +15,11 @@ import time
 from itertools import permutations
 
 from tables import ROLLS
-from tests import mistyped
 from tests.oracle import runbooks
 from tests.oracle.book import left_out, runbooks as book
 from tests.oracle.notes import Notes
 from tests.oracle.points import PAIRS, POINTS
+from tests.scripts import mistyped
 from tests.tools import NOTES
 
 # A script of three calls, and what is answered to notes beside it and a question.

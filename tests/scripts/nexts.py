@@ -3,7 +3,7 @@
 each stored script up to some line, notes of it, a policy and a moment. Bad days have an answer of
 their own (bad_days.py).
 
-    python3 -m tests.nexts [QUESTIONS]    how many are asked at least
+    python3 -m tests.scripts.nexts [QUESTIONS]    how many are asked at least
 """
 
 from __future__ import annotations

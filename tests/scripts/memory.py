@@ -4,10 +4,10 @@ none. (In `tests/library/library.c` the requests for a script's answers fail, an
 `tests/library/sessions.c` those of each call.)
 
 It runs the program `callers`, which `rt ci` has made by then, once for each request of each of
-these works, with `tests/memory.c` in place of the C library's allocator. The requests of the
-program `keyset` fail in the same way, with each of its words. Of `keyset notes` it checks by the
-number of requests that a further question doesn't run the script again. If nothing is read, there
-is no request.
+these works, with `tests/scripts/memory.c` in place of the C library's allocator. The requests of
+the program `keyset` fail in the same way, with each of its words. Of `keyset notes` it checks by
+the number of requests that a further question doesn't run the script again. If nothing is read,
+there is no request.
 """
 
 import os
@@ -79,7 +79,7 @@ class Outcome:
 
 def build(folder):
     """Builds the allocator."""
-    allocator, source = Path(folder, "memory.so"), TOP / "tests" / "memory.c"
+    allocator, source = Path(folder, "memory.so"), Path(__file__).with_name("memory.c")
     run("cc", *STRICT, "-shared", "-fPIC", "-o", allocator, source)
     return allocator
 

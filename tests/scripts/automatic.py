@@ -4,7 +4,7 @@ key set of `replay/tables.py`. What is said is compared with the definition, as
 tests/oracle/what_next.py has it, and at its end each script is answered by the program: all its
 calls are accepted.
 
-    python3 -m tests.automatic [ROLLS [ZONE [JOBS]]]
+    python3 -m tests.scripts.automatic [ROLLS [ZONE [JOBS]]]
             how many rolls are played at least, from which zone on, and how many at once
 
 The policies are random, and change on the way: lifetimes and demands, the rolls by which keys are
