@@ -110,8 +110,8 @@ mutants: modules build ## changes a line of the command at a time: a test has to
 	@$(PYTHON) -m tests.mutants
 
 signers: modules build ## signs by real tools, of files and of PowerDNS, Knot and named
-	@$(PYTHON) -m tests.signers
-	@$(PYTHON) -m tests.running
+	@$(PYTHON) -m tests.command.signers
+	@$(PYTHON) -m tests.command.running
 
 # Each minute it says how far it has come.
 game: python build ## plays ROLLS rolls by what policies say, many zones at once
@@ -119,7 +119,7 @@ game: python build ## plays ROLLS rolls by what policies say, many zones at once
 
 # It needs Debian's postgresql and python3-psycopg.
 machines: modules build ## lets machines share zones over PostgreSQL, and kills them
-	@$(PYTHON) -m tests.machines
+	@$(PYTHON) -m tests.command.machines
 
 # It needs the packages that live/README.md names. Its parts run side by side, each to its end, and
 # it fails if one of them does.
@@ -137,7 +137,7 @@ by-itself: build ## lets zones roll by themselves for 20 minutes, on real name s
 
 # It needs Debian's nsd, bind9-utils and bind9-dnsutils, and the port that the page names.
 first-hour: python build ## does what docs/first-hour.md says, on real servers, in two minutes
-	@$(PYTHON) -m tests.first_hour
+	@$(PYTHON) -m tests.command.first_hour
 
 docs: python ## compares what the documents print with the examples and the callers
 	@$(PYTHON) -m tests.docs

@@ -1,9 +1,9 @@
-"""The gate: the tests `docs` and `release`, then `rt ci`. Beside its first proofs run the tests that
-need none, and beside its edits those that take what it has built: `archive` builds the library for
-them. Then `told` compares the numbers of docs/tests.txt with what all of them have printed. Before
-the last line of `rt ci` it prints from which files each proof was made, as a release wants it, when
-each step was done, in minutes and seconds since the start, so that a rise is seen, and which tests
-it leaves out."""
+"""The gate: the tests `docs` and `release`, then `rt ci`. Beside its first proofs run the tests
+that need none, and beside its edits those that take what it has built: `archive` builds the library
+for them. Then `told` compares the numbers of docs/tests.txt with what all of them have printed.
+Before the last line of `rt ci` it prints from which files each proof was made, as a release wants
+it, when each step was done, in minutes and seconds since the start, so that a rise is seen, and
+which tests it leaves out."""
 
 import contextlib
 import os
@@ -206,8 +206,8 @@ def prove_and_test(free, folder):
         After("scripts.memory", after=["callers", "keyset"]),
         After("scripts.sets", after=["callers"]),
         After("scripts.notes", after=["keyset"]),
-        After("command", after=["keyset"]),
-        After("rolling", after=["keyset"]),
+        After("command.transcripts", after=["keyset"]),
+        After("command.rolling", after=["keyset"]),
         After("scripts.nexts", after=["keyset"]),
         After("scripts.automatic", after=["keyset"]),
         archive,

@@ -7,8 +7,9 @@ see it.
 
 A change is the lines `file:`, `old:` and `new:`, for a text that the file has once; `\\n` in it is
 a line feed. Then comes `seen by:` with the names of tests, or `survives:` with the reason. Each has
-to pass without a change, and to fail with it. A test is what `tests/command.py --only` takes,
-`rolling.NAME`, a file of Python's tests, or `cargo.NAME`, which is tried if the library is built.
+to pass without a change, and to fail with it. A test is what `tests/command/transcripts.py --only`
+takes, `rolling.NAME`, a file of Python's tests, or `cargo.NAME`, which is tried if the library is
+built.
 """
 
 import argparse
@@ -88,9 +89,9 @@ def environment(programs):
 
 def passes(tree, test, variables):
     """Whether a test passes in a copy."""
-    command = [sys.executable, "-m", "tests.command", "--only", test]
+    command = [sys.executable, "-m", "tests.command.transcripts", "--only", test]
     if test.startswith("rolling."):
-        command = [sys.executable, "-m", "tests.rolling", "--only", test.partition(".")[2]]
+        command = [sys.executable, "-m", "tests.command.rolling", "--only", test.partition(".")[2]]
     elif test.endswith(".py"):
         command = [sys.executable, tree / test]
     elif test.startswith("cargo."):

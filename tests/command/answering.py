@@ -17,7 +17,7 @@ import dns.rdatatype
 import dns.resolver
 import dns.rrset
 
-from tests import testkeys
+from tests.command import testkeys
 from vaqsider import asking
 
 # In seconds: the machine may be busy with proofs.

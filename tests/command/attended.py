@@ -1,6 +1,6 @@
-"""Checks of tests/rolling.py: what a tick needs a person for and what that is told of, signers that
-run, clocks that are wrong by what the policy allows, key files that are deleted, short names, and
-the units of systemd."""
+"""Checks of tests/command/rolling.py: what a tick needs a person for and what that is told of,
+signers that run, clocks that are wrong by what the policy allows, key files that are deleted, short
+names, and the units of systemd."""
 
 from __future__ import annotations
 
@@ -11,8 +11,8 @@ from collections.abc import Iterator
 from pathlib import Path
 from unittest import mock
 
-from tests.rolled import ZONE, Servers, World, lines, living, tick
-from tests.typed import TOP, folder, typed
+from tests.command.rolled import ZONE, Servers, World, lines, living, tick
+from tests.command.typed import TOP, folder, typed
 
 DAY = 86400
 # The moment of a world whose keys have names with a month: 2027-01-15.

@@ -16,13 +16,13 @@ import dns.rcode
 import dns.rdatatype
 import dns.resolver
 
-from tests import answering
-from tests.loopback import (
+from tests.command import answering
+from tests.command.loopback import (
     ABOVE, BEFORE, FIRST, KEYS, KSK, NEW, NOW, NOW_RIGHT, OLD, OTHER, PARENT, RESOLVER, RIGHT,
     SECOND, SILENT, Server, Set, ZONE, changed, coded, dnskey, ds, honest, in_bytes, no_authority,
     no_tcp, other_id, other_question, same_tag, soa, truncated, world,
 )
-from tests.typed import folder, typed
+from tests.command.typed import folder, typed
 
 
 @dataclass(frozen=True)

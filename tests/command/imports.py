@@ -12,8 +12,8 @@ from unittest import mock
 import dns.dnssec
 import dns.rdata
 
-from tests import adaptors, stores, testkeys
-from tests.typed import TOP, folder, typed
+from tests.command import adaptors, stores, testkeys
+from tests.command.typed import STORED, folder, typed
 from vaqsider import importing, keyfiles
 from vaqsider.errors import Failure
 from vaqsider.signers import Key
@@ -131,7 +131,7 @@ def _of_knot(**times):
 
 # What OpenDNSSEC 2.1.12 prints, for tags of the test's keys; and what it prints of a ZSK that has
 # left, that leaves, whose record servers don't give any more, and that it has only just made.
-DEBUG, VERBOSE = ((TOP / "tests" / "opendnssec" / it).read_text() for it in ("debug", "verbose"))
+DEBUG, VERBOSE = ((STORED / "opendnssec" / it).read_text() for it in ("debug", "verbose"))
 LEFT, LEAVES, NEW = (("hidden", "NA", "hidden"), ("unretentive", "NA", "hidden"),
                      ("hidden", "(null)", "(null)"))
 

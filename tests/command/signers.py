@@ -1,8 +1,8 @@
 """Signs by the real tools of BIND and of ldns, which the gate doesn't need.
 
-    python3 -m tests.signers    signs a zone in each way of the table, by each signer, and has each
-                                version verified by the tools of both; then changes what was signed,
-                                and wants the old version to stay
+    python3 -m tests.command.signers    signs a zone in each way of the table, by each signer, and
+                                        has each version verified by the tools of both; then changes
+                                        what was signed, and wants the old version to stay
 """
 
 from __future__ import annotations
@@ -15,7 +15,7 @@ import sys
 import time
 from pathlib import Path
 
-from tests.typed import TOP, folder, typed
+from tests.command.typed import TOP, folder, typed
 
 TOOLS = ("dnssec-keygen", "dnssec-signzone", "dnssec-verify", "ldns-signzone", "ldns-verify-zone")
 # Its serial is above that of any day: each version has the next one.
@@ -124,7 +124,7 @@ def changes(script: str):
         Path("bad/dnssec-signzone").write_text(text)
         Path("bad/dnssec-signzone").chmod(0o755)
         words = ["env", f"PATH={Path('bad').resolve()}:/usr/bin:/bin", f"PYTHONPATH={TOP}"]
-        words += [sys.executable, "-m", "tests.signers", "--act", script]
+        words += [sys.executable, "-m", "tests.command.signers", "--act", script]
         told = subprocess.run(words, capture_output=True, text=True)
         if told.returncode != 69 or Path("signed").read_text() != before:
             yield f"{change}: {told.returncode} {told.stdout}"

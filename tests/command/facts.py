@@ -11,10 +11,10 @@ import time
 from pathlib import Path
 from unittest import mock
 
-from tests import drawn, pieces, printed, testkeys
-from tests.drawn import answers, examples
-from tests.lengths import lengths
-from tests.typed import TOP, folder, private_halves, typed
+from tests.command import drawn, pieces, printed, testkeys
+from tests.command.drawn import answers, examples
+from tests.command.lengths import lengths
+from tests.command.typed import TOP, folder, private_halves, typed
 
 # The calls of a roll, by the kinds of sets that its start and its two waits ask to watch.
 ROLLS = {

@@ -18,7 +18,7 @@ import dns.rdataclass
 import dns.rdatatype
 import dns.rrset
 
-from tests import testkeys
+from tests.command import testkeys
 
 KSK, OLD, NEW, OTHER = 64103, 10133, 46350, 46352
 NOW = 275

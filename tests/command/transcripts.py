@@ -1,13 +1,15 @@
 """Runs the command of an operator on stored transcripts, without a server.
 
-    python3 -m tests.command                  compares what each line prints, asks facts.py,
-                                              acts.py, adaptors.py, imports.py, ceremonies.py and
-                                              liars.py, lets the command crash after each change of
-                                              its files, and counts the lines of its code that ran
-    python3 -m tests.command --write          writes the transcripts again
-    python3 -m tests.command --left           shows which lines of its code did not run
-    python3 -m tests.command --only NAME..    only these: NAME.txt, crash.NAME, or a check as
-                                              facts.plans
+    python3 -m tests.command.transcripts
+            compares what each line prints, asks facts.py, acts.py, adaptors.py, imports.py,
+            ceremonies.py and liars.py, lets the command crash after each change of its files, and
+            counts the lines of its code that ran
+    python3 -m tests.command.transcripts --write
+            writes the transcripts again
+    python3 -m tests.command.transcripts --left
+            shows which lines of its code did not run
+    python3 -m tests.command.transcripts --only NAME..
+            only these: NAME.txt, crash.NAME, or a check as facts.plans
 
 A transcript, `tests/command/NAME.txt`, has lines that begin with `$ `. Below each is what it
 prints, then `? N` if it ends with a status that isn't 0. `NOW=N` in front of a line is the clock.
@@ -28,8 +30,9 @@ from concurrent.futures import ProcessPoolExecutor
 from pathlib import Path
 from unittest import mock
 
-from tests import TOP, acts, adaptors, answering, ceremonies, facts, imports, liars, testkeys
-from tests.typed import STORED, folder, private_halves, typed
+from tests import TOP
+from tests.command import acts, adaptors, answering, ceremonies, facts, imports, liars, testkeys
+from tests.command.typed import STORED, folder, private_halves, typed
 
 PACKAGE = TOP / "command" / "vaqsider"
 # The files with the code that decides what is on disk, and when.
@@ -304,7 +307,7 @@ def only(names):
             yield from next(crash_everywhere(*it)[0] for it in CRASHES if it[0] == check)
         else:
             with folder():
-                yield from getattr(sys.modules[f"tests.{module}"], check)()
+                yield from getattr(sys.modules[f"tests.command.{module}"], check)()
 
 
 def main():

@@ -21,9 +21,9 @@ from pathlib import Path
 from unittest import mock
 
 from live.postgres import NAME, Postgres
-from tests import answering
-from tests.rolled import ZONE, World, living, shape
-from tests.typed import TOP, folder, typed
+from tests.command import answering
+from tests.command.rolled import ZONE, World, living, shape
+from tests.command.typed import TOP, folder, typed
 
 LIFETIMES = "ksk-lifetime 15d\nzsk-lifetime 6d\n"
 COUNTS = {"kills": 0, "ticks": 0}

@@ -2,8 +2,10 @@
 policy; ticks that are killed after each change on disk; two at once; clocks that jump; a full disk;
 hooks that hang or lie; policies with each word wrong; and what needs a person (attended.py).
 
-    python3 -m tests.rolling                  all of it
-    python3 -m tests.rolling --only NAME..    only these checks, as courses or killed
+    python3 -m tests.command.rolling
+            all of it
+    python3 -m tests.command.rolling --only NAME..
+            only these checks, as courses or killed
 
 What comes next a second reader says too (game/what_next.py): the program has to say the same, if it
 knows the word."""
@@ -30,10 +32,10 @@ from html.parser import HTMLParser
 from pathlib import Path
 from unittest import mock
 
-from tests import answering, attended, rolled
+from tests.command import answering, attended, rolled
+from tests.command.rolled import BEGIN, ZONE, Broken, World, lines, living, shape, tick
+from tests.command.typed import TOP, folder, typed
 from tests.oracle import what_next
-from tests.rolled import BEGIN, ZONE, Broken, World, lines, living, shape, tick
-from tests.typed import TOP, folder, typed
 
 COUNTS = {"ticks": 0, "rolls": 0, "kills": 0, "policies": 0, "commands": 0}
 DAY = 86400

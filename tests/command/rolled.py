@@ -23,9 +23,9 @@ import dns.rdata
 import dns.rdatatype
 import dns.rrset
 
-from tests import answering, testkeys
+from tests.command import answering, testkeys
+from tests.command.typed import typed
 from tests.oracle import what_next
-from tests.typed import typed
 from vaqsider import advice
 from vaqsider.errors import Failure
 

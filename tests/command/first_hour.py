@@ -1,10 +1,10 @@
 """Does what docs/first-hour.md says: the lines of its blocks run in a shell, in a folder of their
 own, with the command of this tree and real servers. The gate doesn't need these.
 
-    python3 -m tests.first_hour           runs the page, which takes two minutes
-    python3 -m tests.first_hour LINE..    leaves out each of these lines of the page, by its number,
-                                          or has other words in it, as NUMBER=WORDS. Each time
-                                          something has to be wrong
+    python3 -m tests.command.first_hour           runs the page, which takes two minutes
+    python3 -m tests.command.first_hour LINE..    leaves out each of these lines of the page, by its
+                                                  number, or has other words in it, as NUMBER=WORDS.
+                                                  Each time something has to be wrong
 
 Of root it makes `nobody`, as the page says that root isn't needed. So the command runs by Debian's
 Python, which everybody may run."""

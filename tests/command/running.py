@@ -1,8 +1,9 @@
 """Signers that run, by the real ones: PowerDNS, Knot DNS and named. The gate doesn't need them.
 
-    python3 -m tests.running [NAME..]    takes each through a course of rolls, with a crash before
-                                         each command. After each step it asks the server itself,
-                                         and compares what that gives with what is due
+    python3 -m tests.command.running [NAME..]    takes each through a course of rolls, with a crash
+                                                 before each command. After each step it asks the
+                                                 server itself, and compares what that gives with
+                                                 what is due
 
 The names are pdns, pdns-pgsql and pdns-api (also on PostgreSQL), knot, knot-pkcs11 (by SoftHSM) and
 bind-inline."""
@@ -27,8 +28,8 @@ import dns.query
 import dns.rdatatype
 
 from live.postgres import Postgres
-from tests import adaptors
-from tests.typed import folder
+from tests.command import adaptors
+from tests.command.typed import folder
 from vaqsider import keyfiles
 from vaqsider.errors import Failure
 from vaqsider.signers import Key, Sets, daemon
