@@ -99,15 +99,15 @@ clean: ## removes what was built
 
 # Every proof, wrong body, test and program. It prints when each step was done.
 test: modules has-mypy $(CALLERS) ## the gate: it ends with 'N passed, 0 failed'
-	@$(PYTHON) -m tests.gate
+	@$(PYTHON) -m tests.gate.gate
 
 # Before a release: CONTRIBUTING says what it takes.
 wrong: python ## tries the wrong bodies that the gate leaves out: make wrong CRATES='NAME ..'
-	@$(PYTHON) -m tests.wrong $(CRATES)
+	@$(PYTHON) -m tests.gate.wrong $(CRATES)
 
-# The table of changes is tests/mutants.txt.
+# The table of changes is tests/gate/mutants.txt.
 mutants: modules build ## changes a line of the command at a time: a test has to see it
-	@$(PYTHON) -m tests.mutants
+	@$(PYTHON) -m tests.gate.mutants
 
 signers: modules build ## signs by real tools, of files and of PowerDNS, Knot and named
 	@$(PYTHON) -m tests.command.signers
@@ -140,7 +140,7 @@ first-hour: python build ## does what docs/first-hour.md says, on real servers, 
 	@$(PYTHON) -m tests.command.first_hour
 
 docs: python ## compares what the documents print with the examples and the callers
-	@$(PYTHON) -m tests.docs
+	@$(PYTHON) -m tests.gate.docs
 
 memory: python has-cc build ## lets each request for memory fail in turn
 	@$(call prove,callers,run </dev/null)
@@ -165,7 +165,7 @@ fuzz: python has-clang made ## lets libFuzzer make RUNS texts: it needs clang wi
 
 # What mypy has to find stands in the test, and what it checks in pyproject.toml.
 types: modules has-mypy ## checks the types of the command and of the Python package by mypy
-	@$(PYTHON) -m tests.mistakes
+	@$(PYTHON) -m tests.gate.mistakes
 
 help: ## prints these lines
 	@sed -n 's/^\([a-z-]*\):.* ## /\1\t/p' Makefile | \

@@ -1,4 +1,4 @@
-"""The tests. Each is run at the top by its name, as `python3 -m tests.docs`."""
+"""The tests. Each is run at the top by its name, as `python3 -m tests.gate.docs`."""
 
 import sys
 from pathlib import Path

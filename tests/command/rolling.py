@@ -7,8 +7,8 @@ hooks that hang or lie; policies with each word wrong; and what needs a person (
     python3 -m tests.command.rolling --only NAME..
             only these checks, as courses or killed
 
-What comes next a second reader says too (game/what_next.py): the program has to say the same, if it
-knows the word."""
+What comes next a second reader says too (oracle/what_next.py): the program has to say the same, if
+it knows the word."""
 
 from __future__ import annotations
 

@@ -13,7 +13,7 @@ import tempfile
 import time
 from pathlib import Path
 
-from tests.tools import CRATES, TOP, Wrong, kit, run
+from tests.gate.tools import CRATES, TOP, Wrong, kit, run
 
 HERE = "x86_64"
 

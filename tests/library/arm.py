@@ -15,7 +15,7 @@ import tempfile
 import time
 from pathlib import Path
 
-from tests.tools import TOP, Wrong, run
+from tests.gate.tools import TOP, Wrong, run
 
 CC = "aarch64-linux-gnu-gcc"
 QEMU = "qemu-aarch64"

@@ -12,7 +12,7 @@ import tempfile
 from pathlib import Path
 
 from tables import answers
-from tests.tools import TOP, Wrong, run
+from tests.gate.tools import TOP, Wrong, run
 
 HERE = Path(__file__).parent
 STORED = TOP / "replay" / "scripts.txt"

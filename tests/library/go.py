@@ -15,7 +15,7 @@ from pathlib import Path
 
 from artefact import AARCH64, X86_64, Built, version
 from modules import stage_module
-from tests.tools import RUNNER, TOP, Wrong, run
+from tests.gate.tools import RUNNER, TOP, Wrong, run
 
 SCRIPTS = [TOP / "examples" / f"{name}.script" for name in ("algorithm-roll", "ksk-roll")]
 PROJECT = """\

@@ -20,8 +20,8 @@ from pathlib import Path
 
 from artefact import X86_64, Built
 from tarballs import pack_built
+from tests.gate.tools import CRATES, NOTED, SHOWN, STRICT, TOP, Wrong, run
 from tests.library import mishaps
-from tests.tools import CRATES, NOTED, SHOWN, STRICT, TOP, Wrong, run
 
 INSTALL = TOP / "packaging" / "install.py"
 VERSION = (TOP / "VERSION").read_text().strip()

@@ -26,11 +26,12 @@ from concurrent.futures import ThreadPoolExecutor
 from itertools import islice
 from pathlib import Path
 
-from tests import release
+from tests.gate import release
+from tests.gate.tools import (
+    C99, CC, EVERY, NOTED, PROGRAM, RUNNER, STATUS, STRICT, TOP, WRAPPED, Wrong, c_flags, kit, run,
+)
 from tests.library import install, noted, programs, rust, sessions
 from tests.scripts import long, malformed, words
-from tests.tools import C99, CC, EVERY, NOTED, PROGRAM, RUNNER, STATUS, STRICT, TOP, WRAPPED, Wrong
-from tests.tools import c_flags, kit, run
 
 HERE, LIBRARY = Path(__file__).parent, TOP / "library"
 STORED = TOP / "replay" / "scripts.txt"

@@ -10,7 +10,7 @@ import shutil
 import subprocess
 import sys
 
-from tests.tools import TOP, Wrong, run
+from tests.gate.tools import TOP, Wrong, run
 
 INSTALL = TOP / "packaging" / "install.py"
 LIST = "share/vaqsider/installed"

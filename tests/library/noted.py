@@ -6,8 +6,8 @@ import os
 import sys
 from pathlib import Path
 
+from tests.gate.tools import CC, C99, EVERY, NOTED, STRICT, TOP, WRAPPED, Wrong, c_flags, run
 from tests.scripts import notes
-from tests.tools import CC, C99, EVERY, NOTED, STRICT, TOP, WRAPPED, Wrong, c_flags, run
 
 LIBRARY = TOP / "library"
 ZONES = 12

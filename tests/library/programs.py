@@ -4,8 +4,8 @@ for."""
 
 import subprocess
 
+from tests.gate.tools import C99, CC, NOTED, PROGRAM, RUNNER, STRICT, TOP, Wrong, c_flags, run
 from tests.scripts import malformed, notes
-from tests.tools import C99, CC, NOTED, PROGRAM, RUNNER, STRICT, TOP, Wrong, c_flags, run
 
 
 def build(folder, room):

@@ -4,7 +4,7 @@ import os
 import subprocess
 from pathlib import Path
 
-from tests.tools import TOP, Wrong, run
+from tests.gate.tools import TOP, Wrong, run
 
 CRATE = TOP / "library" / "rust"
 PROJECT = """\

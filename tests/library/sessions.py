@@ -17,7 +17,7 @@ from pathlib import Path
 
 from jsonschema.validators import validator_for
 
-from tests.tools import EVERY, TOP, Wrong
+from tests.gate.tools import EVERY, TOP, Wrong
 
 SCHEMA = json.loads((TOP / "docs" / "status.schema.json").read_text())
 STORED = TOP / "replay" / "scripts.txt"

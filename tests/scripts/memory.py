@@ -19,7 +19,7 @@ import time
 from dataclasses import dataclass
 from pathlib import Path
 
-from tests.tools import CRATES, NOTES, PROGRAM, STATUS, STRICT, TOP, Wrong, run
+from tests.gate.tools import CRATES, NOTES, PROGRAM, STATUS, STRICT, TOP, Wrong, run
 
 CALLERS = CRATES / "callers" / "out" / "callers"
 STORED = TOP / "replay" / "scripts.txt"

@@ -15,12 +15,12 @@ import time
 from itertools import permutations
 
 from tables import ROLLS
+from tests.gate.tools import NOTES
 from tests.oracle import runbooks
 from tests.oracle.book import left_out, runbooks as book
 from tests.oracle.notes import Notes
 from tests.oracle.points import PAIRS, POINTS
 from tests.scripts import mistyped
-from tests.tools import NOTES
 
 # A script of three calls, and what is answered to notes beside it and a question.
 SCRIPT = """zone example.com

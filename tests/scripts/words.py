@@ -9,7 +9,7 @@ import subprocess
 from dataclasses import dataclass
 from typing import Iterator, Optional
 
-from tests.tools import CRATES, NOTED, PROGRAM, RUNNER, SHOWN, TOP, Wrong
+from tests.gate.tools import CRATES, NOTED, PROGRAM, RUNNER, SHOWN, TOP, Wrong
 
 VERSION = f"keyset {(TOP / 'VERSION').read_text().strip()}\n".encode()
 ANSWERS = SHOWN[0].with_suffix(".answers").read_bytes()

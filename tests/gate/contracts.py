@@ -1,6 +1,6 @@
 """Makes docs/contracts.txt: for each public function its contract, clause by clause with the
 definitions that it cites and their files, and where its proof stands.
-`tests/docs.py --write` writes it, and without `--write` it compares."""
+`tests/gate/docs.py --write` writes it, and without `--write` it compares."""
 
 import re
 
@@ -14,7 +14,7 @@ OF_THE_GATE = {"dnssec_tests", "callers"}
 HEAD = """\
 The contracts of public functions: the file of the function, then for each clause the definitions
 that it cites, each with its file in specs/. Below stands where the proof is, if it has lines of its
-own. Written by tests/docs.py --write.
+own. Written by tests/gate/docs.py --write.
 """
 # A public function with the clauses of its contract, up to its body.
 FUNCTION = re.compile(r"^ *pub fn (?P<name>\w+)\b(?P<head>.*?)^ *\{", re.MULTILINE | re.DOTALL)
@@ -77,4 +77,4 @@ def write():
 
 def differing():
     if not INDEX.is_file() or INDEX.read_text() != made():
-        yield "docs/contracts.txt isn't what tests/contracts.py makes"
+        yield "docs/contracts.txt isn't what tests/gate/contracts.py makes"

@@ -10,7 +10,7 @@ import sys
 import tempfile
 from pathlib import Path
 
-from tests.tools import TOP
+from tests.gate.tools import TOP
 
 LEFT = shutil.ignore_patterns(".git", "out", "must-fail")
 

@@ -1,7 +1,7 @@
 """Checks types by mypy: those of the command, and those of the Python package, as a caller does who
 has installed it.
 
-    python3 -m tests.mistakes
+    python3 -m tests.gate.mistakes
 
 The files that pyproject.toml names have no fault under `--strict`. In the program below each line
 with a comment has a mistake, and mypy has to name exactly these lines."""
@@ -16,7 +16,7 @@ import venv
 from importlib.util import find_spec
 from pathlib import Path
 
-from tests.tools import TOP, Wrong, run
+from tests.gate.tools import TOP, Wrong, run
 
 PACKAGE = TOP / "library" / "python" / "keyset"
 

@@ -1,6 +1,6 @@
 """Compiles the example of each docstring in crates/*/src, without a proof.
 
-    python3 -m tests.examples [-v]    with -v it shows the program if that doesn't compile
+    python3 -m tests.gate.examples [-v]    with -v it shows the program if that doesn't compile
 
 Each example becomes a function of a program that is made in a folder of its own. What an example
 takes for granted, as `alloc` or the key set `set`, is a parameter of that function. The program is
@@ -15,7 +15,7 @@ import tempfile
 import time
 from pathlib import Path
 
-from tests.tools import CRATES, TOP
+from tests.gate.tools import CRATES, TOP
 
 START = re.compile(r"\s*//[/!] ```(rust)?$")
 END = re.compile(r"\s*//[/!] ```$")

@@ -1,7 +1,7 @@
 """Lists the types of the crates that share a name with another one: a reader takes two types of one
-name for one thing. `tests/docs.py` fails if there are any.
+name for one thing. `tests/gate/docs.py` fails if there are any.
 
-    python3 -m tests.type_names    prints each name that several types have, with their files
+    python3 -m tests.gate.type_names    prints each name that several types have, with their files
 """
 
 import re

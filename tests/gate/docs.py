@@ -1,7 +1,8 @@
 """Compares what the documents print with its sources, without a build.
 
-    python3 -m tests.docs            compares, and fails with the place of each difference
-    python3 -m tests.docs --write    writes the answers, the stored examples and the blocks again
+    python3 -m tests.gate.docs            compares, and fails with the place of each difference
+    python3 -m tests.gate.docs --write    writes the answers, the stored examples and the blocks
+                                          again
 
 A fenced block that shows a script, answers or a source names its file after the language:
 
@@ -25,8 +26,8 @@ What is compared:
   script of this name in `replay/scripts.txt`: so the gate compares them with the program;
 - each link with the file and the heading that it leads to;
 - each name in docs/PROOF.md with the crates: some code or definition has it;
-- the pictures of `tests/pictures.py`, and the index of `tests/contracts.py`;
-- the types of the crates: each has a name of its own (`tests/type_names.py`).
+- the pictures of `tests/gate/pictures.py`, and the index of `tests/gate/contracts.py`;
+- the types of the crates: each has a name of its own (`tests/gate/type_names.py`).
 """
 
 import json
@@ -35,7 +36,8 @@ import sys
 
 from make_sample import examples
 from tables import answers
-from tests import TOP, contracts, pictures, type_names
+from tests import TOP
+from tests.gate import contracts, pictures, type_names
 from tests.oracle.page import command_lines, steps
 
 STORED = TOP / "replay" / "scripts.txt"

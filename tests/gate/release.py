@@ -1,7 +1,7 @@
 """Tests what a release says of itself, without a build.
 
-    python3 -m tests.release             compares, and fails with each difference
-    python3 -m tests.release --freeze    stores the scripts of a new release
+    python3 -m tests.gate.release             compares, and fails with each difference
+    python3 -m tests.gate.release --freeze    stores the scripts of a new release
 
 - `VERSION` has the number of the release, and each other file that names it has the same.
 - The newest release of `CHANGELOG.md` is this one.
@@ -178,7 +178,7 @@ def main():
         freeze(version)
     wrong = [*differing_names(version), *unlisted_changes(version), *misread_proofs()]
     if version not in frozen():
-        wrong.append(f"tests/frozen/{version} isn't there: python3 -m tests.release --freeze makes it")
+        wrong.append(f"tests/frozen/{version} isn't there: tests/gate/release.py --freeze makes it")
     for old in frozen():
         wrong += [*other_answers(old), *undated_words(old)]
     if wrong:

@@ -1,9 +1,9 @@
 """Changes one line of the command or of a package at a time, and runs the tests that have to
 see it.
 
-    python3 -m tests.mutants [--jobs N] [WORD..]    tries the changes of tests/mutants.txt, or those
-                                                    of files whose name has one of these words; so
-                                                    many tests run at once
+    python3 -m tests.gate.mutants [--jobs N] [WORD..]
+            tries the changes of tests/gate/mutants.txt, or those of files whose name has one of
+            these words; so many tests run at once
 
 A change is the lines `file:`, `old:` and `new:`, for a text that the file has once; `\\n` in it is
 a line feed. Then comes `seen by:` with the names of tests, or `survives:` with the reason. Each has
@@ -26,7 +26,7 @@ from pathlib import Path
 
 from tests import TOP
 
-TABLE = TOP / "tests" / "mutants.txt"
+TABLE = Path(__file__).with_name("mutants.txt")
 COPIED = ("command", "docs", "examples", "library", "replay", "tests", "VERSION", "LICENSE")
 NOT_COPIED = shutil.ignore_patterns("__pycache__", "target", "out", "frozen")
 PROGRAM = TOP / "crates" / "keyset" / "out" / "keyset"

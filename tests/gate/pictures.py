@@ -1,6 +1,6 @@
 """Makes the pictures of docs/pictures that show no roll: crates.svg, by crates.txt, and
-network.svg. The others are those of `vaqsider draw` for the example of their name. `tests/docs.py
---write` writes both, and without `--write` it compares them."""
+network.svg. The others are those of `vaqsider draw` for the example of their name.
+`tests/gate/docs.py --write` writes both, and without `--write` it compares them."""
 
 from html import escape
 
@@ -122,7 +122,7 @@ def differing():
     for name, made in PICTURES.items():
         path = HERE / name
         if not path.is_file() or path.read_text() != made():
-            yield f"docs/pictures/{name} isn't what tests/pictures.py makes"
+            yield f"docs/pictures/{name} isn't what tests/gate/pictures.py makes"
 
 
 def write():

@@ -17,7 +17,8 @@ from pathlib import Path
 
 import built
 import proved
-from tests import TOP, told
+from tests import TOP
+from tests.gate import told
 
 START = time.monotonic()
 STEPS = []
@@ -26,7 +27,7 @@ PRINTED = []
 # What the dearest proof takes of the memory, in bytes.
 MEMORY = 3_500_000_000
 # The tests that need no proof.
-FREE = ("oracle.runbooks", "oracle.networks", "examples", "mistakes")
+FREE = ("oracle.runbooks", "oracle.networks", "gate.examples", "gate.mistakes")
 # The priority of edits, as that of `nice`.
 LOW = 10
 # What it leaves out, for that needs servers, root or hours.
@@ -183,7 +184,7 @@ def prove(scripts):
 
 def main():
     for name in ("docs", "release"):
-        if subprocess.run([sys.executable, "-m", f"tests.{name}"], cwd=TOP).returncode:
+        if subprocess.run([sys.executable, "-m", f"tests.gate.{name}"], cwd=TOP).returncode:
             return 1
         note(name)
     # At low priority: each crate waits for the proofs of those below it.
