@@ -13,7 +13,7 @@ from dataclasses import dataclass
 from pathlib import Path
 from unittest import mock
 
-from tests.command.typed import STORED, folder, private_halves, typed
+from tests.command.terminal import STORED, folder, private_halves, typed
 
 NEW, OLD = True, False
 # A signer in front of the stub, which does more: $real is the stub's path.

@@ -17,7 +17,7 @@ from pathlib import Path
 from unittest import mock
 
 from tests.command import stores, testkeys
-from tests.command.typed import TOP, folder, typed
+from tests.command.terminal import TOP, folder, typed
 from vaqsider import keyfiles
 from vaqsider.errors import Failure
 from vaqsider.signers import DELETION, Key, Sets, daemon, inline, pdns_api

@@ -11,8 +11,8 @@ from collections.abc import Iterator
 from pathlib import Path
 from unittest import mock
 
-from tests.command.rolled import ZONE, Servers, World, lines, living, tick
-from tests.command.typed import TOP, folder, typed
+from tests.command.rolling_world import ZONE, Servers, World, lines, living, tick
+from tests.command.terminal import TOP, folder, typed
 
 DAY = 86400
 # The moment of a world whose keys have names with a month: 2027-01-15.

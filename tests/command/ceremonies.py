@@ -12,7 +12,7 @@ from cryptography.hazmat.primitives import hashes
 from cryptography.hazmat.primitives.asymmetric import ec, utils
 
 from tests.command import testkeys
-from tests.command.typed import folder, typed
+from tests.command.terminal import folder, typed
 
 DAY = 86400
 KSK, ZSKS = "Kexample.com.+013+64103", (46350, 10133)

@@ -13,7 +13,7 @@ import dns.dnssec
 import dns.rdata
 
 from tests.command import adaptors, stores, testkeys
-from tests.command.typed import STORED, folder, typed
+from tests.command.terminal import STORED, folder, typed
 from vaqsider import importing, keyfiles
 from vaqsider.errors import Failure
 from vaqsider.signers import Key

@@ -22,7 +22,7 @@ from tests.command.loopback import (
     SECOND, SILENT, Server, Set, ZONE, changed, coded, dnskey, ds, honest, in_bytes, no_authority,
     no_tcp, other_id, other_question, same_tag, soa, truncated, world,
 )
-from tests.command.typed import folder, typed
+from tests.command.terminal import folder, typed
 
 
 @dataclass(frozen=True)

@@ -22,8 +22,8 @@ from unittest import mock
 
 from live.postgres import NAME, Postgres
 from tests.command import answering
-from tests.command.rolled import ZONE, World, living, shape
-from tests.command.typed import TOP, folder, typed
+from tests.command.rolling_world import ZONE, World, living, shape
+from tests.command.terminal import TOP, folder, typed
 
 LIFETIMES = "ksk-lifetime 15d\nzsk-lifetime 6d\n"
 COUNTS = {"kills": 0, "ticks": 0}

@@ -7,8 +7,8 @@ import re
 from pathlib import Path
 from unittest import mock
 
-from tests.command.drawn import examples
-from tests.command.lengths import course
+from tests.command.roll_pictures import examples
+from tests.command.time_taken import course
 
 SEED, SCRIPTS, PART = 60, 30, 6
 # After it only the ZSK role of a CSK signs, with no roll in progress: no setter makes that.

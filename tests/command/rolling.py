@@ -1,6 +1,7 @@
-"""Zones that roll by themselves, in a world of this process (rolled.py): courses by each kind of
-policy; ticks that are killed after each change on disk; two at once; clocks that jump; a full disk;
-hooks that hang or lie; policies with each word wrong; and what needs a person (attended.py).
+"""Zones that roll by themselves, in a world of this process (rolling_world.py): courses by each
+kind of policy; ticks that are killed after each change on disk; two at once; clocks that jump; a
+full disk; hooks that hang or lie; policies with each word wrong; and what needs a person
+(attended.py).
 
     python3 -m tests.command.rolling
             all of it
@@ -32,9 +33,9 @@ from html.parser import HTMLParser
 from pathlib import Path
 from unittest import mock
 
-from tests.command import answering, attended, rolled
-from tests.command.rolled import BEGIN, ZONE, Broken, World, lines, living, shape, tick
-from tests.command.typed import TOP, folder, typed
+from tests.command import answering, attended, rolling_world
+from tests.command.rolling_world import BEGIN, ZONE, Broken, World, lines, living, shape, tick
+from tests.command.terminal import TOP, folder, typed
 from tests.oracle import what_next
 
 COUNTS = {"ticks": 0, "rolls": 0, "kills": 0, "policies": 0, "commands": 0}
@@ -149,7 +150,7 @@ def rest() -> Iterator[str]:
         after = {path: path.read_bytes() for path in Path().rglob("*") if path.is_file()}
         if status or before != after or "nothing is due before" not in said:
             yield f"at rest it ends with {status}: {said}"
-        Path(f"{ZONE}.zone").write_text(rolled.UNSIGNED + "www IN A 127.0.0.2\n")
+        Path(f"{ZONE}.zone").write_text(rolling_world.UNSIGNED + "www IN A 127.0.0.2\n")
         status, said = tick(world)
         if "published: the unsigned zone has changed" not in said:
             yield f"after a change of the zone it says {said}"
@@ -222,7 +223,7 @@ def again(world: World, made: str) -> Iterator[World]:
         shutil.copytree(made, copied, dirs_exist_ok=True)
         os.chdir(copied)
         twin = copy.deepcopy(world)
-        with living(twin, Path(f"{ZONE}.policy").read_text().removeprefix(rolled.POLICY)):
+        with living(twin, Path(f"{ZONE}.policy").read_text().removeprefix(rolling_world.POLICY)):
             yield twin
 
 

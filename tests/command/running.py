@@ -29,7 +29,7 @@ import dns.rdatatype
 
 from live.postgres import Postgres
 from tests.command import adaptors
-from tests.command.typed import folder
+from tests.command.terminal import folder
 from vaqsider import keyfiles
 from vaqsider.errors import Failure
 from vaqsider.signers import Key, Sets, daemon

@@ -15,7 +15,7 @@ import sys
 import time
 from pathlib import Path
 
-from tests.command.typed import TOP, folder, typed
+from tests.command.terminal import TOP, folder, typed
 
 TOOLS = ("dnssec-keygen", "dnssec-signzone", "dnssec-verify", "ldns-signzone", "ldns-verify-zone")
 # Its serial is above that of any day: each version has the next one.

@@ -1,7 +1,7 @@
 """Runs the command of an operator on stored transcripts, without a server.
 
     python3 -m tests.command.transcripts
-            compares what each line prints, asks facts.py, acts.py, adaptors.py, imports.py,
+            compares what each line prints, asks outputs.py, acts.py, adaptors.py, imports.py,
             ceremonies.py and liars.py, lets the command crash after each change of its files, and
             counts the lines of its code that ran
     python3 -m tests.command.transcripts --write
@@ -9,7 +9,7 @@
     python3 -m tests.command.transcripts --left
             shows which lines of its code did not run
     python3 -m tests.command.transcripts --only NAME..
-            only these: NAME.txt, crash.NAME, or a check as facts.plans
+            only these: NAME.txt, crash.NAME, or a check as outputs.plans
 
 A transcript, `tests/command/NAME.txt`, has lines that begin with `$ `. Below each is what it
 prints, then `? N` if it ends with a status that isn't 0. `NOW=N` in front of a line is the clock.
@@ -31,8 +31,8 @@ from pathlib import Path
 from unittest import mock
 
 from tests import TOP
-from tests.command import acts, adaptors, answering, ceremonies, facts, imports, liars, testkeys
-from tests.command.typed import STORED, folder, private_halves, typed
+from tests.command import acts, adaptors, answering, ceremonies, imports, liars, outputs, testkeys
+from tests.command.terminal import STORED, folder, private_halves, typed
 
 PACKAGE = TOP / "command" / "vaqsider"
 # The files with the code that decides what is on disk, and when.
@@ -321,7 +321,7 @@ def main():
         return 1 if faults else 0
     # Each part has folders of its own, and a process.
     with ProcessPoolExecutor() as pool:
-        looked_up = pool.submit(traced, facts.faults)
+        looked_up = pool.submit(traced, outputs.faults)
         acted = pool.submit(traced, acts.faults)
         adapted = pool.submit(traced, adaptors.faults)
         imported = pool.submit(traced, imports.faults)

@@ -1,9 +1,9 @@
 """The gate: the tests `docs` and `release`, then `rt ci`. Beside its first proofs run the tests
 that need none, and beside its edits those that take what it has built: `archive` builds the library
-for them. Then `told` compares the numbers of docs/tests.txt with what all of them have printed.
-Before the last line of `rt ci` it prints from which files each proof was made, as a release wants
-it, when each step was done, in minutes and seconds since the start, so that a rise is seen, and
-which tests it leaves out."""
+for them. Then `printed_numbers` compares the numbers of docs/tests.txt with what all of them have
+printed. Before the last line of `rt ci` it prints from which files each proof was made, as a
+release wants it, when each step was done, in minutes and seconds since the start, so that a rise is
+seen, and which tests it leaves out."""
 
 import contextlib
 import os
@@ -18,7 +18,7 @@ from pathlib import Path
 import built
 import proved
 from tests import TOP
-from tests.gate import told
+from tests.gate import printed_numbers
 
 START = time.monotonic()
 STEPS = []
@@ -222,8 +222,8 @@ def prove_and_test(free, folder):
             status, last = 1, fault
     wrong = []
     if status == 0:
-        told.compare("".join(PRINTED), wrong)
-        note("told")
+        printed_numbers.compare("".join(PRINTED), wrong)
+        note("printed_numbers")
     if wrong:
         print(*wrong, sep="\n")
         status, last = 1, f"docs/tests.txt has {len(wrong)} numbers that this gate hasn't printed\n"

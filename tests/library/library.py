@@ -30,8 +30,8 @@ from tests.gate import release
 from tests.gate.tools import (
     C99, CC, EVERY, NOTED, PROGRAM, RUNNER, STATUS, STRICT, TOP, WRAPPED, Wrong, c_flags, kit, run,
 )
-from tests.library import install, noted, programs, rust, sessions
-from tests.scripts import long, malformed, words
+from tests.library import install, programs, rust, session_notes, sessions
+from tests.scripts import long_scripts, malformed, words
 
 HERE, LIBRARY = Path(__file__).parent, TOP / "library"
 STORED = TOP / "replay" / "scripts.txt"
@@ -90,7 +90,7 @@ def test_accepted(folder, room):
 
 
 def test_notes(folder, room):
-    return run(noted.build(folder, room / "notes"), *NOTED).strip()
+    return run(session_notes.build(folder, room / "notes"), *NOTED).strip()
 
 
 def test_policies(folder, room):
@@ -108,7 +108,7 @@ def under_valgrind(folder, room):
     names = "sessions", "accepted"
     tests = library, *(build_sessions(folder, room / name, "-g") for name in names)
     told = [run(*before, test_of, STORED, STEP) for test_of in tests]
-    told.append(run(*before, noted.build(folder, room / "notes", "-g"), *NOTED, STEP))
+    told.append(run(*before, session_notes.build(folder, room / "notes", "-g"), *NOTED, STEP))
     told.append(run(*before, build_sessions(folder, room / "policies", "-g"), STEP))
     return "".join(told).strip()
 
@@ -119,7 +119,7 @@ def under_asan(folder, room):
         library = build_in_c(folder, room / "library", *flags)
         names = "sessions", "accepted"
         tests = library, *(build_sessions(folder, room / name, *flags) for name in names)
-        notes = noted.build(folder, room / "notes", *flags)
+        notes = session_notes.build(folder, room / "notes", *flags)
         policies = build_sessions(folder, room / "policies", *flags)
     except Wrong as wrong:
         text = f"{wrong}\nthe C compiler wants its runtime libraries of {flags[1]} here"
@@ -135,7 +135,7 @@ def elsewhere(folder, room):
     tests = [build_in_c(folder, room / "library"),
              *(build_sessions(folder, room / name) for name in names)]
     told = [run(*RUNNER, test_of, STORED, STEP) for test_of in tests]
-    notes = noted.build(folder, room / "notes")
+    notes = session_notes.build(folder, room / "notes")
     told.append(run(*RUNNER, notes, *NOTED, STEP))
     told.append(run(*RUNNER, build_sessions(folder, room / "policies"), STEP))
     for caller, flags in (("C", c_flags(folder)), ("C by the shared object", shared_flags(folder))):
@@ -328,9 +328,9 @@ def as_session(library, script):
 
 def test_long(folder, keyset):
     """Long scripts are answered whole: by the program, by the library, and by a session."""
-    library = sessions.Library(folder / "lib" / "libkeyset.so", 64 * long.MEGABYTE)
+    library = sessions.Library(folder / "lib" / "libkeyset.so", 64 * long_scripts.MEGABYTE)
     names = []
-    for name, script, answer in islice(long.scripts(), None if EVERY == 1 else 1):
+    for name, script, answer in islice(long_scripts.scripts(), None if EVERY == 1 else 1):
         names.append(name)
         for answerer, given in (
             ("program", as_program(script.encode())),
@@ -399,7 +399,7 @@ def test_python_caller(folder):
 
 def in_python(folder, _):
     """The tests in this Python, whose architecture the library is for."""
-    yield from tests_in_python(folder, noted.questions_of_operators())
+    yield from tests_in_python(folder, session_notes.questions_of_operators())
 
 
 def test(folder, room):
@@ -429,8 +429,8 @@ def short_tests(folder, room):
     yield "library", rust.test_project(folder, room)
     yield "library", rust.test_package(folder, room)
     yield "library", rust.test_build(folder, room)
-    questions = noted.questions_of_operators()
-    yield "library", noted.test_callers(folder, room, questions)
+    questions = session_notes.questions_of_operators()
+    yield "library", session_notes.test_callers(folder, room, questions)
     yield from tests_in_python(folder, questions)
     yield "install", install.test(folder)
 
@@ -440,7 +440,7 @@ def tests_in_python(folder, questions):
     yield "sessions", test_statuses(folder)
     yield "library", test_python_caller(folder)
     keyset = python_module(folder)
-    yield "library", noted.test_in_python(keyset, questions)
+    yield "library", session_notes.test_in_python(keyset, questions)
     yield "sessions", test_in_python(keyset)
     yield "sessions", test_status_program(keyset)
     yield "library", test_resumed(keyset)

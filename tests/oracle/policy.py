@@ -6,7 +6,7 @@ from collections.abc import Sequence
 from dataclasses import dataclass
 from typing import NamedTuple, Optional
 
-from tests.oracle.facts import Facts
+from tests.oracle.spread import Facts
 
 ALGORITHM, CSK = "algorithm-roll", "csk-roll"
 KSK_ROLLS, ZSK_ROLLS = ("ksk-roll", "ksk-double-ds-roll"), ("zsk-roll", "zsk-double-signature-roll")

@@ -10,8 +10,8 @@ from typing import Callable, NamedTuple, Optional, Union
 
 from judge import SPEAKS_OF, origin
 from tables import ROLLS, Key, KeySet
-from tests.oracle.facts import KINDS, LONGEST_TTL, Facts
 from tests.oracle.policy import ALGORITHM, Policy, Renewal, role_of
+from tests.oracle.spread import KINDS, LONGEST_TTL, Facts
 
 LAST_SECOND = 2**64 - 1
 AT_REST = "nothing: the zone is as the policy wants it"

@@ -26,10 +26,10 @@ from typing import Iterator, Optional, Sequence
 from judge import chain_line, has_chain, time as judged_time
 from keyset import programs
 from tables import ROLLS
-from tests.oracle.facts import Facts
 from tests.oracle.notes import Notes, Version, due
 from tests.oracle.policy import CSK, KSK_ROLLS, ZSK_ROLLS, Policy
 from tests.oracle.signer import Operator, Stuck
+from tests.oracle.spread import Facts
 from tests.oracle.what_next import AT_REST, View, next_of, shown
 from tests.oracle.zone import SECOND, SLOWEST, Broken, World
 

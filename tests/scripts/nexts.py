@@ -22,7 +22,7 @@ from keyset import programs
 from tables import KeySet
 from tests import TOP
 from tests.oracle import bad_days, what_next
-from tests.oracle.facts import KINDS
+from tests.oracle.spread import KINDS
 
 QUESTIONS, LAST, TTLS = 4000, 2**64 - 1, (0, 1, 60, 300, 3600, 2**31, 2**32 - 1)
 ROLLS = (("ksk-roll", "ksk-double-ds-roll"), ("zsk-roll", "zsk-double-signature-roll"))

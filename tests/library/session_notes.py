@@ -15,7 +15,7 @@ ZONES = 12
 
 def build(folder, program, *flags):
     """Builds the tests in C as a program."""
-    source = Path(__file__).with_name("noted.c")
+    source = Path(__file__).with_name("session_notes.c")
     run(CC, *STRICT, *WRAPPED, *flags, "-o", program, source, *c_flags(folder))
     return program
 

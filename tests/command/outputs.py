@@ -11,10 +11,10 @@ import time
 from pathlib import Path
 from unittest import mock
 
-from tests.command import drawn, pieces, printed, testkeys
-from tests.command.drawn import answers, examples
-from tests.command.lengths import lengths
-from tests.command.typed import TOP, folder, private_halves, typed
+from tests.command import page_commands, pieces, roll_pictures, testkeys
+from tests.command.roll_pictures import answers, examples
+from tests.command.terminal import TOP, folder, private_halves, typed
+from tests.command.time_taken import lengths
 
 # The calls of a roll, by the kinds of sets that its start and its two waits ask to watch.
 ROLLS = {
@@ -357,7 +357,7 @@ def metrics():
 def faults():
     """What the command says otherwise than it should."""
     with folder():
-        checks = (screens, refusals, plans, drawn.pictures, by_the_command, emergencies, metrics,
-                  helps, clocks, set_back, damaged, lengths, pieces.states, pieces.reports,
-                  printed.taken, printed.run)
+        checks = (screens, refusals, plans, roll_pictures.pictures, by_the_command, emergencies,
+                  metrics, helps, clocks, set_back, damaged, lengths, pieces.states, pieces.reports,
+                  page_commands.taken, page_commands.run)
         return [fault for check in checks for fault in check()]

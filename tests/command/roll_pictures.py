@@ -3,7 +3,7 @@
 import re
 import xml.dom.minidom
 
-from tests.command.typed import TOP, typed
+from tests.command.terminal import TOP, typed
 
 LABELS = {"ds": "DS", "dnskey": "DNSKEY", "signers": "signs DNSKEY", "zone": "signs zone"}
 SETS = ("DS ", "DNSKEY ", "signs ")

@@ -1,9 +1,10 @@
 """Compares the numbers of docs/tests.txt with what the parts of the gate print. The gate does so at
 its end, with its own output.
 
-    python3 -m tests.gate.told LOG            compares them with the output of a gate, or of some of
-                                              its parts
-    python3 -m tests.gate.told LOG --write    writes the numbers of that output in their place
+    python3 -m tests.gate.printed_numbers LOG
+            compares them with the output of a gate, or of some of its parts
+    python3 -m tests.gate.printed_numbers LOG --write
+            writes the numbers of that output in their place
 
 A line names its tests before a colon; indented lines say what they try. Each number of the line,
 with the word after it, has to be in a line that one of these tests has printed. Such a line begins
@@ -101,7 +102,7 @@ def main():
     figures = compare(Path(sys.argv[1]).read_text(), wrong)
     if sys.argv[2:] == ["--write"]:
         FIGURES.write_text(figures)
-    print(*wrong, f"told: {len(wrong)} differences", sep="\n")
+    print(*wrong, f"printed_numbers: {len(wrong)} differences", sep="\n")
     return 1 if wrong else 0
 
 

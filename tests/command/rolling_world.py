@@ -24,7 +24,7 @@ import dns.rdatatype
 import dns.rrset
 
 from tests.command import answering, testkeys
-from tests.command.typed import typed
+from tests.command.terminal import typed
 from tests.oracle import what_next
 from vaqsider import advice
 from vaqsider.errors import Failure

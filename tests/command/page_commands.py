@@ -5,7 +5,7 @@ import re
 import shlex
 from pathlib import Path
 
-from tests.command.typed import TOP, typed
+from tests.command.terminal import TOP, typed
 
 PAGES = sorted({*TOP.glob("*.md"), *TOP.glob("docs/*.md"), *TOP.glob("*/README.md")})
 PAGES = [it for it in PAGES if it.name != "CHANGELOG.md"]
@@ -75,7 +75,7 @@ def taken():
 def run():
     """README's first steps bring two new keys into a zone, and `init` prints the line of the first
     call. After them each line without a server's name is run: it is refused at most."""
-    from tests.command.facts import key_file
+    from tests.command.outputs import key_file
 
     (ksk, _), (zsk, _) = key_file(257, 1), key_file(256, 2)
     for key in (ksk, zsk):

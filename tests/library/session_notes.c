@@ -1,6 +1,6 @@
 /* Tests notes beside a session at the library's border, over the example of docs/REFERENCE.md:
 
-       noted INPUT ANSWERS [STEP]
+       session_notes INPUT ANSWERS [STEP]
 
    The calls and the notes of INPUT are handed in line by line, and each question is answered as the
    program keyset notes has answered it: in a buffer of each length (only every STEP lengths, if a
@@ -253,7 +253,7 @@ static void play_early(void)
 
 int main(int argc, char **argv)
 {
-    expect(argc > 2, "noted INPUT ANSWERS [STEP]", argv[0]);
+    expect(argc > 2, "session_notes INPUT ANSWERS [STEP]", argv[0]);
     step = argc > 3 ? strtoul(argv[3], NULL, 10) : 1;
     read_input(argv[1]);
     read_answers(argv[2]);
