@@ -11,13 +11,14 @@ ROLLS ?= 10000
 # Where make try-dist keeps its bare Debians.
 ROOM ?=
 
-# The Python of the tests: the first that has dnspython, cryptography and jsonschema. A Python that
-# isn't Debian's, as one of pyenv, doesn't see what apt-get installs.
+# What the tests import. Their Python is the first that has it: one that isn't Debian's, as one of
+# pyenv, doesn't see what apt-get installs.
+MODULES = dns, cryptography, jsonschema, pytest
 PYTHON ?= $(shell for python in python3 /usr/bin/python3; do \
-	if $$python -c 'import dns, cryptography, jsonschema' 2>/dev/null; then echo $$python; exit; fi; \
+	if $$python -c 'import $(MODULES)' 2>/dev/null; then echo $$python; exit; fi; \
 	done; echo python3)
 # Debian's packages that the gate needs, beside compilers.
-PACKAGES = python3-dnspython python3-cryptography python3-jsonschema mypy
+PACKAGES = python3-dnspython python3-cryptography python3-jsonschema python3-pytest mypy
 
 PROGRAM = crates/keyset/out/keyset
 # The program's crates: keyset and those that stand before it.
@@ -176,7 +177,7 @@ python:
 	@python3 -c 'import sys; sys.exit(sys.version_info < (3, 9))' || \
 		{ echo 'python3 is missing here: 3.9 or later is needed' >&2; exit 1; }
 modules: python
-	@$(PYTHON) -c 'import dns, cryptography, jsonschema' 2>/dev/null || \
+	@$(PYTHON) -c 'import $(MODULES)' 2>/dev/null || \
 		{ echo 'missing here, and needed: apt-get install $(PACKAGES)' >&2; exit 1; }
 packages:
 	@echo $(PACKAGES)

@@ -354,10 +354,12 @@ def metrics():
         yield f"the metrics are:\n{text}"
 
 
+CHECKS = (screens, refusals, plans, roll_pictures.pictures, by_the_command, emergencies, metrics,
+          helps, clocks, set_back, damaged, lengths, pieces.states, pieces.reports,
+          page_commands.taken, page_commands.run)
+
+
 def faults():
     """What the command says otherwise than it should."""
     with folder():
-        checks = (screens, refusals, plans, roll_pictures.pictures, by_the_command, emergencies,
-                  metrics, helps, clocks, set_back, damaged, lengths, pieces.states, pieces.reports,
-                  page_commands.taken, page_commands.run)
-        return [fault for check in checks for fault in check()]
+        return [fault for check in CHECKS for fault in check()]

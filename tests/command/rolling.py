@@ -3,10 +3,8 @@ kind of policy; ticks that are killed after each change on disk; two at once; cl
 full disk; hooks that hang or lie; policies with each word wrong; and what needs a person
 (attended.py).
 
-    python3 -m tests.command.rolling
-            all of it
-    python3 -m tests.command.rolling --only NAME..
-            only these checks, as courses or killed
+    pytest tests/command/test_rolling.py    all of it
+    pytest tests/command -k rolling.NAME    only this check, as courses or killed
 
 What comes next a second reader says too (oracle/what_next.py): the program has to say the same, if
 it knows the word."""
@@ -21,7 +19,6 @@ import re
 import resource
 import shutil
 import signal
-import sys
 import tempfile
 import threading
 import time
@@ -33,7 +30,7 @@ from html.parser import HTMLParser
 from pathlib import Path
 from unittest import mock
 
-from tests.command import answering, attended, rolling_world
+from tests.command import attended, rolling_world
 from tests.command.rolling_world import BEGIN, ZONE, Broken, World, lines, living, shape, tick
 from tests.command.terminal import TOP, folder, typed
 from tests.oracle import what_next
@@ -649,19 +646,6 @@ CHECKS = {it.__name__: it for it in (
 )}
 
 
-def main() -> int:
-    os.environ["PATH"] = f"{TOP / 'tests' / 'command' / 'bin'}:{os.environ['PATH']}"
-    answering.install()
-    names = sys.argv[2:] if sys.argv[1:2] == ["--only"] else list(CHECKS)
-    faults = []
-    for name in names:
-        begun = time.monotonic()
-        faults += [f"{name}: {fault}" for fault in CHECKS[name]()]
-        print(f"{name}: {time.monotonic() - begun:.1f} s", file=sys.stderr)
-    print(*faults, sep="\n", end="\n" if faults else "")
-    print("rolling: " + ", ".join(f"{count} {what}" for what, count in COUNTS.items()))
-    return 1 if faults else 0
-
-
-if __name__ == "__main__":
-    sys.exit(main())
+def numbers() -> str:
+    """What the zones have done so far."""
+    return ", ".join(f"{count} {what}" for what, count in COUNTS.items())

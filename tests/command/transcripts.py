@@ -8,8 +8,8 @@
             writes the transcripts again
     python3 -m tests.command.transcripts --left
             shows which lines of its code did not run
-    python3 -m tests.command.transcripts --only NAME..
-            only these: NAME.txt, crash.NAME, or a check as outputs.plans
+    pytest tests/command -k NAME
+            only this: NAME.txt, crash.NAME, or a check as outputs.plans
 
 A transcript, `tests/command/NAME.txt`, has lines that begin with `$ `. Below each is what it
 prints, then `? N` if it ends with a status that isn't 0. `NOW=N` in front of a line is the clock.
@@ -297,28 +297,11 @@ def coverage(results):
     return len(ran & lines), len(lines), sorted(lines - ran)
 
 
-def only(names):
-    """The faults of these transcripts, crashes and checks."""
-    for name in names:
-        module, _, check = name.partition(".")
-        if check == "txt":
-            yield from compare(False, name)[0]
-        elif module == "crash":
-            yield from next(crash_everywhere(*it)[0] for it in CRASHES if it[0] == check)
-        else:
-            with folder():
-                yield from getattr(sys.modules[f"tests.command.{module}"], check)()
-
-
 def main():
     os.environ["PATH"] = f"{STORED / 'bin'}:{os.environ['PATH']}"
     os.environ["PYTHON"] = sys.executable
     answering.install()
     write = "--write" in sys.argv[1:]
-    if sys.argv[1:2] == ["--only"]:
-        faults = list(only(sys.argv[2:]))
-        print(*faults, sep="\n")
-        return 1 if faults else 0
     # Each part has folders of its own, and a process.
     with ProcessPoolExecutor() as pool:
         looked_up = pool.submit(traced, outputs.faults)

@@ -93,11 +93,15 @@ class Edits(threading.Thread):
 
 
 class Beside(threading.Thread):
-    """A module of tests that runs beside `rt ci`, by its room and name."""
+    """A module of tests, by its room and name, that runs beside `rt ci`: by pytest, if it is named as
+    pytest wants it."""
 
     def __init__(self, module, *words, under=()):
-        super().__init__(daemon=True, name=module.rpartition(".")[2])
-        self.words = [*under, sys.executable, "-m", f"tests.{module}", *words]
+        room, name = module.split(".")
+        super().__init__(daemon=True, name=name)
+        by_pytest = "pytest", "-q", f"tests/{room}/{name}.py"
+        run = by_pytest if name.startswith("test_") else (f"tests.{module}", *words)
+        self.words = [*under, sys.executable, "-m", *run]
         self.test = None
         # What waits for it.
         self.later = []
@@ -208,7 +212,7 @@ def prove_and_test(free, folder):
         After("scripts.sets", after=["callers"]),
         After("scripts.notes", after=["keyset"]),
         After("command.transcripts", after=["keyset"]),
-        After("command.rolling", after=["keyset"]),
+        After("command.test_rolling", after=["keyset"]),
         After("scripts.nexts", after=["keyset"]),
         After("scripts.automatic", after=["keyset"]),
         archive,

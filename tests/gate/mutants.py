@@ -7,9 +7,8 @@ see it.
 
 A change is the lines `file:`, `old:` and `new:`, for a text that the file has once; `\\n` in it is
 a line feed. Then comes `seen by:` with the names of tests, or `survives:` with the reason. Each has
-to pass without a change, and to fail with it. A test is what `tests/command/transcripts.py --only`
-takes, `rolling.NAME`, a file of Python's tests, or `cargo.NAME`, which is tried if the library is
-built.
+to pass without a change, and to fail with it. A test is one that `pytest tests/command -k NAME`
+runs, a file of Python's tests, or `cargo.NAME`, which is tried if the library is built.
 """
 
 import argparse
@@ -27,7 +26,8 @@ from pathlib import Path
 from tests import TOP
 
 TABLE = Path(__file__).with_name("mutants.txt")
-COPIED = ("command", "docs", "examples", "library", "replay", "tests", "VERSION", "LICENSE")
+COPIED = ("command", "docs", "examples", "library", "replay", "tests", "VERSION", "LICENSE",
+          "pyproject.toml")
 NOT_COPIED = shutil.ignore_patterns("__pycache__", "target", "out", "frozen")
 PROGRAM = TOP / "crates" / "keyset" / "out" / "keyset"
 LIBRARY = TOP / "library" / "out" / "lib"
@@ -89,10 +89,10 @@ def environment(programs):
 
 def passes(tree, test, variables):
     """Whether a test passes in a copy."""
-    command = [sys.executable, "-m", "tests.command.transcripts", "--only", test]
-    if test.startswith("rolling."):
-        command = [sys.executable, "-m", "tests.command.rolling", "--only", test.partition(".")[2]]
-    elif test.endswith(".py"):
+    part = "rolling" if test.startswith("rolling.") else "command"
+    command = [sys.executable, "-m", "pytest", "-q"]
+    command += [f"tests/command/test_{part}.py::test_{part}[{test}]"]
+    if test.endswith(".py"):
         command = [sys.executable, tree / test]
     elif test.startswith("cargo."):
         _, _, name = test.partition(".")
