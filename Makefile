@@ -11,13 +11,14 @@ ROLLS ?= 10000
 # Where make try-dist keeps its bare Debians.
 ROOM ?=
 
-# The Python of the tests: the first that has dnspython, cryptography and jsonschema. A Python that
-# isn't Debian's, as one of pyenv, doesn't see what apt-get installs.
+# What the tests import. Their Python is the first that has it: one that isn't Debian's, as one of
+# pyenv, doesn't see what apt-get installs.
+MODULES = dns, cryptography, jsonschema, pytest
 PYTHON ?= $(shell for python in python3 /usr/bin/python3; do \
-	if $$python -c 'import dns, cryptography, jsonschema' 2>/dev/null; then echo $$python; exit; fi; \
+	if $$python -c 'import $(MODULES)' 2>/dev/null; then echo $$python; exit; fi; \
 	done; echo python3)
 # Debian's packages that the gate needs, beside compilers.
-PACKAGES = python3-dnspython python3-cryptography python3-jsonschema mypy
+PACKAGES = python3-dnspython python3-cryptography python3-jsonschema python3-pytest mypy
 
 PROGRAM = crates/keyset/out/keyset
 # The program's crates: keyset and those that stand before it.
@@ -69,7 +70,7 @@ noted:
 arm: made has-aarch64-linux-gnu-gcc ## builds the library and program for ARM: library/out-aarch64
 	@packaging/built.py library/out-aarch64 || $(MAKE) -j1 armed
 armed:
-	@tests/archive.py library/out-aarch64 aarch64
+	@$(PYTHON) -m tests.library.archive library/out-aarch64 aarch64
 	@mkdir -p library/out-aarch64/programs/keyset/out
 	@aarch64-linux-gnu-gcc -std=c99 -O2 -Wall -Wextra -Wl,-z,now -Ilibrary/out-aarch64/include \
 		-o library/out-aarch64/programs/keyset/out/keyset library/programs/*.c \
@@ -99,27 +100,27 @@ clean: ## removes what was built
 
 # Every proof, wrong body, test and program. It prints when each step was done.
 test: modules has-mypy $(CALLERS) ## the gate: it ends with 'N passed, 0 failed'
-	@$(PYTHON) tests/gate.py
+	@$(PYTHON) -m tests.gate.gate
 
 # Before a release: CONTRIBUTING says what it takes.
 wrong: python ## tries the wrong bodies that the gate leaves out: make wrong CRATES='NAME ..'
-	@tests/wrong.py $(CRATES)
+	@$(PYTHON) -m tests.gate.wrong $(CRATES)
 
-# The table of changes is tests/mutants.txt.
+# The table of changes is tests/gate/mutants.txt.
 mutants: modules build ## changes a line of the command at a time: a test has to see it
-	@$(PYTHON) tests/mutants.py
+	@$(PYTHON) -m tests.gate.mutants
 
 signers: modules build ## signs by real tools, of files and of PowerDNS, Knot and named
-	@$(PYTHON) tests/signers.py
-	@$(PYTHON) tests/running.py
+	@$(PYTHON) -m tests.command.signers
+	@$(PYTHON) -m tests.command.running
 
 # Each minute it says how far it has come.
 game: python build ## plays ROLLS rolls by what policies say, many zones at once
-	@tests/automatic.py $(ROLLS) 1000 $$(nproc)
+	@$(PYTHON) -m tests.scripts.automatic $(ROLLS) 1000 $$(nproc)
 
 # It needs Debian's postgresql and python3-psycopg.
 machines: modules build ## lets machines share zones over PostgreSQL, and kills them
-	@$(PYTHON) tests/machines.py
+	@$(PYTHON) -m tests.command.machines
 
 # It needs the packages that live/README.md names. Its parts run side by side, each to its end, and
 # it fails if one of them does.
@@ -137,35 +138,35 @@ by-itself: build ## lets zones roll by themselves for 20 minutes, on real name s
 
 # It needs Debian's nsd, bind9-utils and bind9-dnsutils, and the port that the page names.
 first-hour: python build ## does what docs/first-hour.md says, on real servers, in two minutes
-	@tests/first_hour.py
+	@$(PYTHON) -m tests.command.first_hour
 
 docs: python ## compares what the documents print with the examples and the callers
-	@tests/docs.py
+	@$(PYTHON) -m tests.gate.docs
 
 memory: python has-cc build ## lets each request for memory fail in turn
 	@$(call prove,callers,run </dev/null)
-	@tests/memory.py
+	@$(PYTHON) -m tests.scripts.memory
 
 test-lib: $(CALLERS) made ## tests the library, its callers and the install
-	@tests/library.py library/out
+	@$(PYTHON) -m tests.library.library library/out
 asan: python has-cc made ## tests the library in C under the address sanitizer
-	@tests/library.py library/out $@
+	@$(PYTHON) -m tests.library.library library/out $@
 valgrind: python has-cc has-valgrind made ## tests the library in C under valgrind
-	@tests/library.py library/out $@
+	@$(PYTHON) -m tests.library.library library/out $@
 
 test-arm: arm has-qemu-aarch64 has-go ## tests the library for ARM in C, Go and Python, under qemu
-	@tests/arm.py library/out-aarch64
+	@$(PYTHON) -m tests.library.arm library/out-aarch64
 
 test-go: python has-go has-cc made ## tests the module for Go
-	@tests/go.py library/out
+	@$(PYTHON) -m tests.library.go library/out
 
 # The library and a second reader have to agree on each text, and the tables on some.
 fuzz: python has-clang made ## lets libFuzzer make RUNS texts: it needs clang with its runtime
-	@tests/fuzz.py library/out $(RUNS)
+	@$(PYTHON) -m tests.library.fuzz library/out $(RUNS)
 
 # What mypy has to find stands in the test, and what it checks in pyproject.toml.
 types: modules has-mypy ## checks the types of the command and of the Python package by mypy
-	@$(PYTHON) tests/mistakes.py
+	@$(PYTHON) -m tests.gate.mistakes
 
 help: ## prints these lines
 	@sed -n 's/^\([a-z-]*\):.* ## /\1\t/p' Makefile | \
@@ -176,7 +177,7 @@ python:
 	@python3 -c 'import sys; sys.exit(sys.version_info < (3, 9))' || \
 		{ echo 'python3 is missing here: 3.9 or later is needed' >&2; exit 1; }
 modules: python
-	@$(PYTHON) -c 'import dns, cryptography, jsonschema' 2>/dev/null || \
+	@$(PYTHON) -c 'import $(MODULES)' 2>/dev/null || \
 		{ echo 'missing here, and needed: apt-get install $(PACKAGES)' >&2; exit 1; }
 packages:
 	@echo $(PACKAGES)

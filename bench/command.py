@@ -20,10 +20,10 @@ import tempfile
 from pathlib import Path
 
 TOP = Path(__file__).resolve().parent.parent
-sys.path.append(str(TOP / "tests"))
+sys.path.append(str(TOP))
 
-from lengths import course  # noqa: E402
 from programs import OF_SECONDS, Faults  # noqa: E402
+from tests.command.time_taken import course  # noqa: E402
 
 ROLLS = 0, 312, 625, 1250
 LIBRARY = TOP / "library" / "out" / "lib" / "libkeyset.so"

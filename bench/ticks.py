@@ -4,8 +4,8 @@ of 1,000 zones in the midst of their rolls. And a year of a zone, which nobody t
 
     python3 bench/ticks.py [ZONES BUSY]    10000 1000
 
-Servers, signer and keys are those of tests/rolled.py, in this process. What comes next the library
-says, or the program if that isn't there: its time is counted too."""
+Servers, signer and keys are those of tests/command/rolling_world.py, in this process. What comes
+next the library says, or the program if that isn't there: its time is counted too."""
 
 from __future__ import annotations
 
@@ -22,12 +22,12 @@ from pathlib import Path
 
 sys.dont_write_bytecode = True
 TOP = Path(__file__).resolve().parent.parent
-sys.path.insert(0, str(TOP / "tests"))
+sys.path.append(str(TOP))
 
-import answering  # noqa: E402
-from rolled import ZONE, World, living  # noqa: E402
-from rolling import played  # noqa: E402
-from typed import folder, typed  # noqa: E402
+from tests.command import answering  # noqa: E402
+from tests.command.rolling_world import ZONE, World, living  # noqa: E402
+from tests.command.rolling import played  # noqa: E402
+from tests.command.terminal import folder, typed  # noqa: E402
 from vaqsider import resting as kept  # noqa: E402
 
 DAY, NOW, DUE, FIRST = 86400, 1_800_000_000, 10, 100

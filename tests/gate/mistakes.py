@@ -1,0 +1,128 @@
+"""Checks types by mypy: those of the command, and those of the Python package, as a caller does who
+has installed it.
+
+    python3 -m tests.gate.mistakes
+
+The files that pyproject.toml names have no fault under `--strict`. In the program below each line
+with a comment has a mistake, and mypy has to name exactly these lines."""
+
+import re
+import shutil
+import subprocess
+import sys
+import tempfile
+import time
+import venv
+from importlib.util import find_spec
+from pathlib import Path
+
+from tests.gate.tools import TOP, Wrong, run
+
+PACKAGE = TOP / "library" / "python" / "keyset"
+
+PROGRAM = '''\
+import keyset
+from keyset import Due, Error, KeySet, Locked, Role, RollType, Wait, open_session, status
+
+roll = RollType.KSK_ROLL
+with KeySet.open("example.com.script", allow_refused=True) as keys:
+    keys.add_key_ksk("K1", "K1.private", algorithm=13, key_tag=1, creation=0, available=False)
+    keys.add_key_ksk("K1", algorthm=13, key_tag=1)  # a name of an argument
+    keys.add_key_ksk("K1", algorithm=13)  # an argument is missing
+    keys.add_key_zsk("Z1", algorithm=13, key_tag="1")  # a text for a number
+    keys.add_public_key("P1", "P1.private", algorithm=13, key_tag=1)  # it has no private part
+    keys.start_roll(roll, old=["K1"], new=("K2",), now=9)
+    keys.start_roll(roll, old="K1")  # a text for a list
+    keys.start_roll(roll, new=5)  # a number for a list
+    keys.start_roll("ksk-roll")  # a text for a kind of roll
+    number: int = keys.propagation1_complete(roll, 3600).number
+    keys.propagation1_complete(roll, "3600")  # a text for a TTL
+    first = keys.start_roll(roll)[0].value
+    keys.keys()["K1"].stamps["visible"]
+    keys.keys()["K1"].stamps["vizible"]  # a stamp that isn't there
+    keys.rolls()[roll].waits_for == "caches"
+    keys.rolls()[roll].waits_for == "cache"  # nobody is called so
+    keys.status()["keys"][0]["roles"][0]["state"] == "leaving"
+    keys.status()["keys"][0]["roles"][0]["state"] == "retried"  # a state that isn't there
+    keys.status()["kyes"]  # a member that isn't there
+    keys.published.ds[0].lower()
+    keys.published.cds  # a set that isn't there
+    due: "list[Due]" = keys.due(1)
+    due[0].ttl + 1  # it may have none
+    keys.verdict().at  # there may be none
+    Role("ksk", "active", False, True, True, True).available  # a member that isn't there
+session = open_session("zone example.com")
+session.call("delete K1").upper()
+session.call(b"delete K1")  # bytes for a text
+session.calls + 1
+session.told()  # a question that isn't there
+status(["zone example.com"])["chain"]["safe"]
+keyset.run(["zone example.com"])[0].upper()
+keyset.runs(["zone example.com"])  # a function that isn't there
+try:
+    pass
+except (Locked, Wait) as error:
+    caught: Error = error
+'''
+
+
+def mypy(*words, **how):
+    """What mypy writes: a line for each fault, and then how many files it has checked."""
+    words = ["mypy", "--strict", "--no-pretty", *map(str, words)]
+    done = subprocess.run(words, capture_output=True, text=True, **how)
+    if done.returncode not in (0, 1):
+        raise Wrong(f"mypy ends with {done.returncode}: {done.stdout}{done.stderr}")
+    return done.stdout.splitlines()
+
+
+def installed(room):
+    """The Python of a new environment that has the package in it."""
+    place = room / "environment"
+    venv.create(place, symlinks=True)
+    python = place / "bin" / "python3"
+    words = "import sysconfig; print(sysconfig.get_path('purelib'))"
+    packages = Path(run(python, "-c", words).strip())
+    shutil.copytree(PACKAGE, packages / "keyset")
+    return python
+
+
+def test_sources(cache):
+    """No file of the command and of the package has a fault."""
+    said = mypy("--cache-dir", cache, "--python-executable", sys.executable, cwd=TOP)
+    clean = re.fullmatch(r"Success: no issues found in (\d+) source files", said[-1])
+    if not clean:
+        raise Wrong("\n".join(said))
+    lacks = "" if find_spec("psycopg") else "; psycopg isn't here, so nothing is known of its types"
+    return f"{clean[1]} files have no fault under --strict{lacks}"
+
+
+def test_mistakes(room, cache):
+    """mypy finds each mistake of a caller, and no other."""
+    (room / "program.py").write_text(PROGRAM)
+    python = installed(room)
+    faults = mypy("--cache-dir", cache, "--python-executable", python, "program.py", cwd=room)
+    places = (re.match(r"program\.py:(\d+): error", fault) for fault in faults)
+    found = {int(place[1]) for place in places if place}
+    wanted = {n for n, line in enumerate(PROGRAM.splitlines(), start=1) if "  # " in line}
+    if found != wanted:
+        differ = f"not found: {sorted(wanted - found)}, and found: {sorted(found - wanted)}"
+        raise Wrong("\n".join([differ, *faults]))
+    return f"mypy finds {len(wanted)} mistakes of a caller"
+
+
+def main():
+    began = time.monotonic()
+    with tempfile.TemporaryDirectory() as room:
+        room = Path(room)
+        try:
+            print(f"mistakes: {test_sources(room / 'cache')}")
+            print(f"mistakes: {test_mistakes(room, room / 'cache')}")
+        except Wrong as wrong:
+            print(f"mistakes: {wrong}")
+            return 1
+    print(f"mistakes: {time.monotonic() - began:.0f} s")
+    return 0
+
+
+if __name__ == "__main__":
+    sys.exit(main())

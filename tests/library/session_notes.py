@@ -1,0 +1,97 @@
+"""Tests notes beside sessions of the library: in C at the border, in Python over what operators of
+`tests/oracle/runbooks.py` note, and the callers that say which reports are due. Each answer has to
+be that of the program `keyset notes` for the same lines."""
+
+import os
+import sys
+from pathlib import Path
+
+from tests.gate.tools import CC, C99, EVERY, NOTED, STRICT, TOP, WRAPPED, Wrong, c_flags, run
+from tests.scripts import notes
+
+LIBRARY = TOP / "library"
+ZONES = 12
+
+
+def build(folder, program, *flags):
+    """Builds the tests in C as a program."""
+    source = Path(__file__).with_name("session_notes.c")
+    run(CC, *STRICT, *WRAPPED, *flags, "-o", program, source, *c_flags(folder))
+    return program
+
+
+def answered(text):
+    """What keyset notes answers."""
+    done = notes.asked(text)
+    if done.returncode:
+        raise Wrong(f"keyset notes ends with {done.returncode}: {done.stderr}")
+    return done.stdout
+
+
+def questions_of_operators():
+    """What operators who keep notes ask at their reports."""
+    wrong = []
+    questions, _ = notes.played(notes.some_orders()[: -(-ZONES // EVERY)], wrong)
+    if wrong:
+        raise Wrong(wrong[0])
+    return questions
+
+
+def test_in_python(keyset, questions):
+    """The session of a zone goes on from question to question: it takes the new calls, and then the
+    new notes. A copy of it gives the same answer."""
+    answers = answered(notes.text_of(questions)).split("\n\n")
+    if len(answers) != len(questions):
+        raise Wrong(f"{len(questions)} questions have {len(answers)} answers")
+    script, noted, zones = [], [], 0
+    for question, wanted in zip(questions, answers):
+        lines, more = question.script.splitlines(), question.notes.splitlines()
+        if not script or lines[: len(script)] != script or more[: len(noted)] != noted:
+            session, script, noted = keyset.open_session(lines[0]), lines[:1], []
+            zones += 1
+        for line in lines[len(script) :]:
+            session.call(line)
+        for line in more[len(noted) :]:
+            session.note(line)
+        script, noted = lines, more
+        for one in (session, session.copy()):
+            if one.due(question.moment).rstrip("\n") != wanted.rstrip("\n"):
+                raise Wrong(f"a session in Python doesn't answer {wanted}")
+    for text, fault in notes.ANSWERS.items():
+        expect_fault(keyset, text.splitlines(), fault)
+    return (
+        f"{zones} sessions in Python go on with their notes, and answer {len(questions)} questions"
+        f" and {len(notes.ANSWERS)} notes as keyset notes"
+    )
+
+
+def expect_fault(keyset, lines, fault):
+    """A session takes these notes, or refuses one of them as keyset notes does."""
+    zone, *calls = notes.SCRIPT.splitlines()
+    session, told = keyset.open_session(zone), ""
+    for line in calls:
+        session.call(line)
+    try:
+        for line in lines:
+            session.note(line)
+        told = session.due(9).rstrip("\n")
+    except keyset.Malformed as malformed:
+        told = f"notes: line {malformed.line}: {malformed.reason}"
+    if told != fault:
+        raise Wrong(f"a session in Python answers {told!r} to {lines}, and not {fault!r}")
+
+
+def test_callers(folder, room, questions):
+    """The three callers that say which reports are due. (cargo builds its own with its tests.)"""
+    run(CC, *STRICT, *C99, "-o", room / "due", LIBRARY / "c" / "due.c", *c_flags(folder))
+    made = {**os.environ, "KEYSET_LIBRARY": str(folder / "lib" / "libkeyset.so")}
+    callers = {
+        "C": [room / "due"],
+        "Rust": [room / "rust" / "debug" / "examples" / "due"],
+        "Python": [sys.executable, "-B", LIBRARY / "python" / "due.py"],
+    }
+    for text in (NOTED[0].read_text(), notes.text_of(questions)):
+        for caller, command in callers.items():
+            if run(*command, input=text.encode(), env=made) != answered(text):
+                raise Wrong(f"the caller in {caller} doesn't answer as keyset notes")
+    return f"the callers in {', '.join(callers)} say which reports are due as keyset notes does"

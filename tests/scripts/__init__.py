@@ -1,0 +1,1 @@
+"""What the program answers to scripts, their notes and policies."""

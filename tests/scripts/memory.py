@@ -1,0 +1,213 @@
+"""Lets each request for memory fail in turn: those of names, of a stored script's record, of copies
+of its keys and its key set, and of a judge. It also checks that the audit by the definition makes
+none. (In `tests/library/library.c` the requests for a script's answers fail, and in
+`tests/library/sessions.c` those of each call.)
+
+It runs the program `callers`, which `rt ci` has made by then, once for each request of each of
+these works, with `tests/scripts/memory.c` in place of the C library's allocator. The requests of
+the program `keyset` fail in the same way, with each of its words. Of `keyset notes` it checks by
+the number of requests that a further question doesn't run the script again. If nothing is read,
+there is no request.
+"""
+
+import os
+import re
+import subprocess
+import sys
+import tempfile
+import time
+from dataclasses import dataclass
+from pathlib import Path
+
+from tests.gate.tools import CRATES, NOTES, PROGRAM, STATUS, STRICT, TOP, Wrong, run
+
+CALLERS = CRATES / "callers" / "out" / "callers"
+STORED = TOP / "replay" / "scripts.txt"
+
+# The scripts that the works begin with.
+SCRIPTS = ("rolls-beside-many-keys", "public-keys-published-one-by-one")
+
+# What the letters of the program's input stand for.
+INPUT, RECORD, DEFINITION, WINDOW = "i", "v", "d", "w"
+NAMES = "n"
+WORKS = {
+    NAMES: "names",
+    RECORD: "a record",
+    "k": "copies of its keys",
+    "s": "a copy of its key set",
+    DEFINITION: "its audit by the definition",
+    WINDOW: "its audit by a judge",
+}
+# Each work begins with one whose requests don't fail: a record, or only its input.
+BEGINNINGS = {NAMES: INPUT, RECORD: INPUT}
+
+MADE = re.compile(r"(?P<said>.*)requests: (?P<made>\d+)\n", re.DOTALL)
+
+# A script with a roll that waits for its first reports, and notes.
+BEGUN = """\
+zone example.com
+add-ksk K1 - 13 1 0 yes
+add-zsk Z1 - 13 2 0 yes
+start algorithm-roll - K1,Z1 0
+"""
+NOTED = """
+before 1 1 1
+published dnskey 3 5 9
+everywhere dnskey 10
+due 90
+"""
+ADDS = "".join(f"add-zsk A{tag} - 13 {tag} 0 yes\n" for tag in range(3, 99))
+# The program with its words, and what it is asked.
+ASKED = {(PROGRAM,): BEGUN, STATUS: BEGUN, NOTES: BEGUN + NOTED}
+# Words with which it reads nothing.
+UNREAD = ("--version", "--help", "none")
+# How it refuses a call for lack of memory.
+OUT_OF_MEMORY = "refused: out of memory"
+# What it says of a request that fails.
+LACKED = re.compile(r"((script|notes): )?out of memory\n")
+
+
+@dataclass
+class Outcome:
+    """What the program wrote and said, how it ended, and how many requests it made."""
+
+    written: str
+    said: str
+    status: int
+    made: int
+
+
+def build(folder):
+    """Builds the allocator."""
+    allocator, source = Path(folder, "memory.so"), Path(__file__).with_name("memory.c")
+    run("cc", *STRICT, "-shared", "-fPIC", "-o", allocator, source)
+    return allocator
+
+
+def outcome_of(allocator, command, text, failing):
+    """The outcome of a program on this input if its request of this number fails. None does if it
+    is 0."""
+    made = {**os.environ, "LD_PRELOAD": str(allocator), "FAILING_REQUEST": str(failing)}
+    ran = subprocess.run(command, input=text, capture_output=True, text=True, env=made)
+    told = MADE.fullmatch(ran.stderr)
+    if not told:
+        raise Wrong(f"{command}: request {failing}: status {ran.returncode}\n{ran.stderr}")
+    return Outcome(ran.stdout, told["said"], ran.returncode, int(told["made"]))
+
+
+def in_turn(allocator, letter, script):
+    """Lets each request of a work fail. Gives how many failed, and how many of them made it refuse
+    a call."""
+    work = WORKS[letter]
+    first = with_ample(allocator, BEGINNINGS.get(letter, RECORD), script)
+    made = range(first + 1, with_ample(allocator, letter, script) + 1)
+    refused = 0
+    for failing in made:
+        outcome = outcome_of(allocator, [CALLERS], letter + script, failing)
+        if outcome.made < failing:
+            raise Wrong(f"{work}: request {failing} was not made: {outcome}")
+        refused += is_refused(f"{work}: request {failing}", outcome)
+    if letter == DEFINITION and made:
+        raise Wrong(f"{work} asks for memory")
+    if letter == WINDOW and refused < len(made):
+        raise Wrong(f"{work} has a verdict though a request was refused")
+    if letter != DEFINITION and refused == 0:
+        raise Wrong(f"{work}: no call was refused for lack of memory")
+    print(f"{work}: {len(made)} requests for memory failed in turn, {refused} of a call")
+    return len(made)
+
+
+def with_ample(allocator, letter, script):
+    """How many requests a work makes if none fails."""
+    outcome = outcome_of(allocator, [CALLERS], letter + script, 0)
+    if outcome.status or outcome.said or outcome.written != "ample\n":
+        raise Wrong(f"{letter}: it doesn't go well with ample memory: {outcome}")
+    return outcome.made
+
+
+def is_refused(where, outcome):
+    """Whether the program says that a call was refused. It checks by itself that the call is
+    accepted when it is made again."""
+    if outcome.status or outcome.said or outcome.written not in ("ample\n", "refused\n"):
+        raise Wrong(f"{where}: {outcome}")
+    return outcome.written == "refused\n"
+
+
+def in_turn_of_program(allocator, command, text):
+    """Lets each request of the program fail. It then says so and answers nothing, or asks for less
+    and answers as with ample memory. Without a word it may also refuse one call. Gives how many
+    failed."""
+    name = " ".join([PROGRAM.name, *command[1:]])
+    ample = outcome_of(allocator, command, text, 0)
+    if ample.status or ample.said or not ample.written or not ample.made:
+        raise Wrong(f"{name}: it doesn't go well with ample memory: {ample}")
+    refused = 0
+    for failing in range(1, ample.made + 1):
+        outcome = outcome_of(allocator, command, text, failing)
+        is_refused = outcome.status == 3 and not outcome.written and LACKED.fullmatch(outcome.said)
+        is_ample = (outcome.status, outcome.written, outcome.said) == (0, ample.written, "")
+        is_of_call = len(command) == 1 and refuses_call(outcome, ample)
+        if not (is_refused or is_ample or is_of_call):
+            raise Wrong(f"{name}: request {failing}: {outcome}")
+        refused += bool(is_refused)
+    print(f"{name}: {ample.made} requests for memory failed in turn, {refused} ended it")
+    return ample.made
+
+
+def refuses_call(outcome, ample):
+    """Whether the program answers each call, and refuses one for lack of memory."""
+    lines, wanted = outcome.written.splitlines(), ample.written.splitlines()
+    is_answered = (outcome.status, outcome.said, len(lines)) == (0, "", len(wanted))
+    return is_answered and lines.count(OUT_OF_MEMORY) == 1
+
+
+def expect_none(allocator):
+    """The program makes no request if it reads nothing."""
+    for word in UNREAD:
+        if made := outcome_of(allocator, [PROGRAM, word], "", 0).made:
+            raise Wrong(f"keyset {word}: {made} requests for memory")
+
+
+def run_once(allocator):
+    """A further question makes as many requests for memory after a long script as after a short
+    one."""
+    made = [
+        [outcome_of(allocator, NOTES, script + NOTED + more, 0).made for more in ("", "due 91\n")]
+        for script in (BEGUN, BEGUN + ADDS)
+    ]
+    (short, short_more), (long, long_more) = made
+    if short_more - short != long_more - long:
+        raise Wrong(f"keyset notes: a further question runs the script again: {made} requests")
+
+
+def stored_script(name):
+    """The lines of a stored script."""
+    part = STORED.read_text().split(f"\n== {name}\n")[1]
+    return part.split("-- answers\n")[0]
+
+
+def main():
+    began, total = time.monotonic(), 0
+    try:
+        with tempfile.TemporaryDirectory() as folder:
+            allocator = build(folder)
+            total += in_turn(allocator, NAMES, "")
+            for name in SCRIPTS:
+                for letter in [*WORKS][1:]:
+                    total += in_turn(allocator, letter, stored_script(name))
+            programs = sum(in_turn_of_program(allocator, *asked) for asked in ASKED.items())
+            expect_none(allocator)
+            run_once(allocator)
+    except Wrong as wrong:
+        print(wrong)
+        return 1
+    seconds = time.monotonic() - began
+    print(
+        f"memory: {total} requests of calls and {programs} requests of the program failed in turn,"
+        f" {seconds:.0f} s"
+    )
+    return 0
+
+
+if __name__ == "__main__":
+    sys.exit(main())
