@@ -82,10 +82,6 @@ OVERRIDES = """\
 # README names it.
 {name}: extra-license-file *LICENSE*
 """
-HELP = """\
-# The command prints this text: it is no document.
-vaqsider: package-contains-documentation-outside-usr-share-doc *help.txt*
-"""
 
 
 @dataclass(frozen=True)
@@ -119,7 +115,7 @@ PACKAGES = (
         "step of a roll may be made. No list of calls that keeps its rules leaves\n"
         "resolvers without a chain of trust: that is proved.",
         (("postinst", POSTINST), ("prerm", PRERM), ("postrm", POSTRM)),
-        OVERRIDES + HELP,
+        OVERRIDES,
     ),
     Package(
         LIBRARY, "libs", ("library",), re.compile(rf".*/{re.escape(shared())}$"),

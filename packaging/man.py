@@ -199,12 +199,12 @@ def body(document, is_first):
 def words():
     """What the command prints as its help: of all, with the exit statuses, and of each word."""
     sys.path.insert(0, str(TOP / "command"))
-    from vaqsider.cli import HELP, WORD, main
+    from vaqsider.cli import main
+    from vaqsider.parsers import MODULES
 
     os.environ["COLUMNS"] = "76"
     yield ".SH WORDS AND OPTIONS"
-    names = [word["name"] for word in WORD.finditer(HELP.read_text(encoding="ascii"))]
-    for title, *word in [("All words, and the exit statuses",), *zip(names, names)]:
+    for title, *word in [("All words, and the exit statuses",), *zip(MODULES, MODULES)]:
         printed = io.StringIO()
         with contextlib.redirect_stdout(printed), contextlib.suppress(SystemExit):
             main([*word, "--help"])
