@@ -170,9 +170,8 @@ def body(document, is_first):
     path, *sections = document.split("#")
     is_left_out = bool(sections)
     for block in blocks((TOP / path).read_text(encoding="utf-8")):
-        first = block[0]
-        if first.startswith("#"):
-            marks, _, title = first.partition(" ")
+        marks, _, title = block[0].partition(" ")
+        if marks.startswith("#"):
             if sections and len(marks) < 3:
                 is_left_out = title not in sections
             elif not sections:
@@ -181,19 +180,24 @@ def body(document, is_first):
             if not is_left_out and not is_title:
                 big = len(marks) < 3
                 yield f".{'SH' if big else 'SS'} {inline(title.upper() if big else title)}"
-        elif is_left_out:
-            continue
-        elif first.startswith("```"):
-            yield from verbatim(block[1:])
-        elif first.startswith("    "):
-            yield from verbatim([line[4:] for line in block])
-        elif first.startswith("|"):
-            yield from table(block)
-        elif ITEM.fullmatch(first):
-            yield from listed(block)
-        elif INLINE.sub("", " ".join(block)).strip():
-            yield ".PP"
-            yield filled(" ".join(block))
+        elif not is_left_out:
+            yield from shown(block)
+
+
+def shown(block):
+    """A block that is no heading."""
+    first = block[0]
+    if first.startswith("```"):
+        yield from verbatim(block[1:])
+    elif first.startswith("    "):
+        yield from verbatim([line[4:] for line in block])
+    elif first.startswith("|"):
+        yield from table(block)
+    elif ITEM.fullmatch(first):
+        yield from listed(block)
+    elif INLINE.sub("", " ".join(block)).strip():
+        yield ".PP"
+        yield filled(" ".join(block))
 
 
 def words():
