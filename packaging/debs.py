@@ -82,10 +82,6 @@ OVERRIDES = """\
 # README names it.
 {name}: extra-license-file *LICENSE*
 """
-HELP = """\
-# The command prints this text: it is no document.
-vaqsider: package-contains-documentation-outside-usr-share-doc *help.txt*
-"""
 
 
 @dataclass(frozen=True)
@@ -119,7 +115,7 @@ PACKAGES = (
         "step of a roll may be made. No list of calls that keeps its rules leaves\n"
         "resolvers without a chain of trust: that is proved.",
         (("postinst", POSTINST), ("prerm", PRERM), ("postrm", POSTRM)),
-        OVERRIDES + HELP,
+        OVERRIDES,
     ),
     Package(
         LIBRARY, "libs", ("library",), re.compile(rf".*/{re.escape(shared())}$"),
@@ -232,20 +228,28 @@ def control(folder, package, built: Built):
     lines = [f"{key}: {text}\n" for key, text in fields.items() if text is not None]
     (about / "control").write_text("".join(lines))
     if package.name == LIBRARY:
-        (about / "shlibs").write_text(f"libkeyset {interface()} {LIBRARY} (>= {version()})\n")
-        symbols = "".join(f" {name}@Base {version()}\n" for name in sorted(functions()))
-        head = f"{shared()} {LIBRARY} #MINVER#\n* Build-Depends-Package: libkeyset-dev\n"
-        (about / "symbols").write_text(head + symbols)
-        (about / "triggers").write_text("activate-noawait ldconfig\n")
+        exports(about)
     for name, script in package.scripts:
         (about / name).write_text(script)
         (about / name).chmod(0o755)
-    inside = (path for path in entries(folder) if path.is_file() and not path.is_symlink())
-    sums = (
-        f"{hashlib.md5(path.read_bytes()).hexdigest()}  {path.relative_to(folder)}\n"
-        for path in inside if about not in path.parents
-    )
-    (about / "md5sums").write_text("".join(sums))
+    (about / "md5sums").write_text("".join(sums(folder)))
+
+
+def exports(about):
+    """Writes which version of the library a program needs that calls its functions."""
+    (about / "shlibs").write_text(f"libkeyset {interface()} {LIBRARY} (>= {version()})\n")
+    symbols = "".join(f" {name}@Base {version()}\n" for name in sorted(functions()))
+    head = f"{shared()} {LIBRARY} #MINVER#\n* Build-Depends-Package: libkeyset-dev\n"
+    (about / "symbols").write_text(head + symbols)
+    (about / "triggers").write_text("activate-noawait ldconfig\n")
+
+
+def sums(folder):
+    """A line for each file that dpkg installs, with its digest."""
+    for path in entries(folder):
+        place = path.relative_to(folder)
+        if path.is_file() and not path.is_symlink() and place.parts[0] != "DEBIAN":
+            yield f"{hashlib.md5(path.read_bytes()).hexdigest()}  {place}\n"
 
 
 def set_times(folder):

@@ -170,9 +170,8 @@ def body(document, is_first):
     path, *sections = document.split("#")
     is_left_out = bool(sections)
     for block in blocks((TOP / path).read_text(encoding="utf-8")):
-        first = block[0]
-        if first.startswith("#"):
-            marks, _, title = first.partition(" ")
+        marks, _, title = block[0].partition(" ")
+        if marks.startswith("#"):
             if sections and len(marks) < 3:
                 is_left_out = title not in sections
             elif not sections:
@@ -181,30 +180,35 @@ def body(document, is_first):
             if not is_left_out and not is_title:
                 big = len(marks) < 3
                 yield f".{'SH' if big else 'SS'} {inline(title.upper() if big else title)}"
-        elif is_left_out:
-            continue
-        elif first.startswith("```"):
-            yield from verbatim(block[1:])
-        elif first.startswith("    "):
-            yield from verbatim([line[4:] for line in block])
-        elif first.startswith("|"):
-            yield from table(block)
-        elif ITEM.fullmatch(first):
-            yield from listed(block)
-        elif INLINE.sub("", " ".join(block)).strip():
-            yield ".PP"
-            yield filled(" ".join(block))
+        elif not is_left_out:
+            yield from shown(block)
+
+
+def shown(block):
+    """A block that is no heading."""
+    first = block[0]
+    if first.startswith("```"):
+        yield from verbatim(block[1:])
+    elif first.startswith("    "):
+        yield from verbatim([line[4:] for line in block])
+    elif first.startswith("|"):
+        yield from table(block)
+    elif ITEM.fullmatch(first):
+        yield from listed(block)
+    elif INLINE.sub("", " ".join(block)).strip():
+        yield ".PP"
+        yield filled(" ".join(block))
 
 
 def words():
     """What the command prints as its help: of all, with the exit statuses, and of each word."""
     sys.path.insert(0, str(TOP / "command"))
-    from vaqsider.cli import HELP, WORD, main
+    from vaqsider.cli import main
+    from vaqsider.parsers import MODULES
 
     os.environ["COLUMNS"] = "76"
     yield ".SH WORDS AND OPTIONS"
-    names = [word["name"] for word in WORD.finditer(HELP.read_text(encoding="ascii"))]
-    for title, *word in [("All words, and the exit statuses",), *zip(names, names)]:
+    for title, *word in [("All words, and the exit statuses",), *zip(MODULES, MODULES)]:
         printed = io.StringIO()
         with contextlib.redirect_stdout(printed), contextlib.suppress(SystemExit):
             main([*word, "--help"])

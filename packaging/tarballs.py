@@ -50,4 +50,3 @@ def pack_built(folder, built: Built):
         write_sums(Path(room))
         pack(Path(room), archive, f"{name}/")
     return archive
-

@@ -246,9 +246,9 @@ test -z "$(find /usr/local -name '*.new')"
 /srv/vaqsider-*/install.sh --uninstall /usr/local
 test -z "$(ls -A /usr/local)"
 """),
-    Trial("vaqsider_*_@DEBIAN@.deb", "dpkg, without python3", (), f"""
+    Trial("vaqsider_*_@DEBIAN@.deb", "dpkg, without python3", (), """
 refused dpkg -i /dist/libkeyset[0-9]*_@DEBIAN@.deb /dist/vaqsider_*_@DEBIAN@.deb
-test "$(dpkg-query -W -f '${{db:Status-Status}}' vaqsider)" = unpacked
+test "$(dpkg-query -W -f '${db:Status-Status}' vaqsider)" = unpacked
 """),
     Trial("vaqsider_*_@DEBIAN@.deb", "dpkg, over an older release", ("python3",), f"""
 dpkg-deb -R /dist/libkeyset[0-9]*_@DEBIAN@.deb /srv/library

@@ -135,50 +135,67 @@ def by_number(line):
     return " ".join(fields)
 
 
+def is_meant(answer, refused):
+    """Whether this is the original's answer to a call that it refuses so, or accepts."""
+    return answer == refused or not refused and answer.startswith("ok")
+
+
+class Comparison:
+    """A comparison of the original's answers with the port's, line by line. `seen` has the intended
+    differences by their words, `same` says how many answers were compared. After the first
+    difference the two don't go `together` any more."""
+
+    def __init__(self, there):
+        self.seen = {LONGEST for line in there if line.startswith("#") and ENDED not in line}
+        self.there = [line for line in there if not line.startswith("#")]
+        self.told = iter(self.there)
+        self.keyset, self.together, self.same = KeySet(), True, 0
+
+    def of_line(self, line, here):
+        """The finding in the answers to a line, or None."""
+        difference = intended(self.keyset, line) if self.together else None
+        answer = self.keyset.call(line)
+        is_asked = self.together and not is_early_end(line)
+        original = next(self.told) if is_asked else None
+        if difference:
+            words, refused = difference
+            self.together = False
+            self.seen.add(words)
+            if is_asked and not is_meant(original, refused):
+                return f"{line}\n  original: {original}\n  meant to be: {refused}"
+        elif is_asked and original != here:
+            both = f"  original: {original}\n  port: {here}"
+            return f"{line}\n{both}\n  by the tables: {answer}"
+        if here != answer:
+            return f"{line}\n  port: {here}\n  by the tables: {answer}"
+        self.same += is_asked and self.together
+        return None
+
+    def of_end(self, here, verdict):
+        """The finding in the published sets and the verdict, or None."""
+        sets, chain = self.keyset.published(), chain_line(self.keyset.record)
+        if self.together and self.there[-1] != here:
+            return f"published sets\n  original: {self.there[-1]}\n  port: {here}"
+        if here != sets:
+            return f"published sets\n  port: {here}\n  by the tables: {sets}"
+        if verdict != chain:
+            return f"verdict\n  port: {verdict}\n  by the definition: {chain}"
+        return None
+
+
 def compare(original, port, script):
     """The intended differences that a script shows, by their words; how many answers were
     compared; and the finding or None."""
-    seen, there, same = set(), [], 0
     lines, status = run(original, for_original(script))
     if status not in (0, 5):
-        return seen, same, f"the original ends with status {status}"
-    for line in lines:
-        if not line.startswith("#"):
-            there.append(line)
-        elif ENDED not in line:
-            seen.add(LONGEST)
+        return set(), 0, f"the original ends with status {status}"
+    both = Comparison(lines)
     here, status = run(port, script)
     if status != 0 or len(here) != len(script) + 1:
-        return seen, same, f"the port ends with status {status} after {len(here)} answers"
-    keyset, together, told = KeySet(), True, iter(there)
-    for index, line in enumerate(script[1:]):
-        difference = intended(keyset, line) if together else None
-        answer = keyset.call(line)
-        is_asked = together and not is_early_end(line)
-        original_says = next(told) if is_asked else None
-        if difference:
-            together = False
-            seen.add(difference[0])
-            refused = difference[1]
-            if is_asked and original_says != refused and (
-                refused or not original_says.startswith("ok")
-            ):
-                both = f"  original: {original_says}\n  meant to be: {refused}"
-                return seen, same, f"{line}\n{both}"
-        elif is_asked and original_says != here[index]:
-            both = f"  original: {original_says}\n  port: {here[index]}"
-            return seen, same, f"{line}\n{both}\n  by the tables: {answer}"
-        if here[index] != answer:
-            return seen, same, f"{line}\n  port: {here[index]}\n  by the tables: {answer}"
-        same += is_asked and together
-    sets, chain = keyset.published(), chain_line(keyset.record)
-    if together and there[-1] != here[-2]:
-        return seen, same, f"published sets\n  original: {there[-1]}\n  port: {here[-2]}"
-    if here[-2] != sets:
-        return seen, same, f"published sets\n  port: {here[-2]}\n  by the tables: {sets}"
-    if here[-1] != chain:
-        return seen, same, f"verdict\n  port: {here[-1]}\n  by the definition: {chain}"
-    return seen, same, None
+        return both.seen, 0, f"the port ends with status {status} after {len(here)} answers"
+    found = (both.of_line(line, answer) for line, answer in zip(script[1:], here))
+    finding = next(filter(None, found), None) or both.of_end(*here[-2:])
+    return both.seen, both.same, finding
 
 
 def smallest(original, port, script):
@@ -193,7 +210,7 @@ def smallest(original, port, script):
     return script, compare(original, port, script)[2]
 
 
-def main():
+def asked():
     parser = argparse.ArgumentParser()
     parser.add_argument("--original", required=True)
     parser.add_argument("--port", default="")
@@ -201,23 +218,24 @@ def main():
     parser.add_argument("--count", type=int, default=1000)
     parser.add_argument("--early-ends", action="store_true")
     parser.add_argument("--file")
-    given = parser.parse_args()
+    return parser.parse_args()
+
+
+def main():
+    given = asked()
     original = [*shlex.split(given.original), "--canon", "--alts"]
     port = shlex.split(given.port)
     if given.file:
         scripts = read_scripts(Path(given.file).read_text())
     else:
         scripts = {**by_hand(), **generated(given.seed, given.count, given.early_ends)}
-    tally, findings, compared = collections.Counter(), [], 0
     with ThreadPoolExecutor(3) as pool:
-        results = pool.map(lambda lines: compare(original, port, lines), scripts.values())
-        for name, (seen, same, finding) in zip(scripts, results):
-            compared += same
-            tally.update(seen or ["no difference"])
-            if finding:
-                findings.append(name)
+        results = [*pool.map(lambda lines: compare(original, port, lines), scripts.values())]
+    tally = collections.Counter(it for seen, _, _ in results for it in seen or ["no difference"])
+    findings = [name for name, (_, _, finding) in zip(scripts, results) if finding]
     calls = sum(len(lines) - 1 for lines in scripts.values())
     print(f"{len(scripts)} scripts with {calls} calls, {len(findings)} with a finding")
+    compared = sum(same for _, same, _ in results)
     print(f"{compared} answers are those of the original, all others those of the tables")
     for words, count in sorted(tally.items()):
         print(f"{count:7}  {words}")

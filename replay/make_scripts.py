@@ -236,25 +236,30 @@ class Script:
         new = self.named(kinds, "!old !present !signer !at_parent")[:1]
         if not new:
             new = [self.add(kinds[0], 13, cause != "unavailable")]
+        old, new = self.with_fault(cause, kinds, old, new)
+        self.causes.add(cause)
+        self.call("start", roll, ",".join(old) or "-", ",".join(new) or "-", self.now)
+
+    def with_fault(self, cause, kinds, old, new):
+        """The old and new keys of a start, with the fault of this name."""
         if cause == "unknown":
             self.random.choice([old, new]).append("nobody")
         elif cause == "kind":
             wrong = [kind for kind in ("ksk", "zsk", "csk", "public") if kind not in kinds]
             self.random.choice([old, new]).insert(0, self.add(self.random.choice(wrong)))
         elif cause == "repeated":
-            new += new
+            new = new + new
         elif cause == "used":
-            new += self.named(kinds, "present | old")[:1]
+            new = new + self.named(kinds, "present | old")[:1]
         elif cause == "both":
-            old += new
+            old = old + new
         elif cause == "unavailable":
             new = [self.add(kinds[-1], 13, False)]
         elif cause == "algorithm":
             new = [self.add(kinds[0], 8)]
         elif cause == "nothing":
             old, new = self.random.choice([([], []), (old, new), (old, [])])
-        self.causes.add(cause)
-        self.call("start", roll, ",".join(old) or "-", ",".join(new) or "-", self.now)
+        return old, new
 
     def set_flag(self):
         word = self.random.choice(FLAGS)

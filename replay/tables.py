@@ -304,26 +304,36 @@ class KeySet:
             return "wrong roll state for operation"
         if any(other not in rule["tolerates"].split() for other in self.phases):
             return "conflicting roll is in progress"
+        if cause := self.list_refusal(rule["kinds"].split(), old, new):
+            return cause
+        algorithms = [{self.keys[name].algorithm for name in names} for names in (old, new)]
+        if rule["same algorithms"] and algorithms[0] != algorithms[1]:
+            return "algorithm set mismatch for non-algorithm key roll"
+        return None if self.is_suited(rule, old, new) else NOT_SUITED
+
+    def list_refusal(self, kinds, old, new):
+        """What is wrong with the first key of a start that may not be listed, else None."""
         listed = set()
         for number, name in enumerate(old + new):
             key = self.keys.get(name)
             if key is None:
                 return "key not found"
-            if key.kind not in rule["kinds"].split():
+            if key.kind not in kinds:
                 return "key has the wrong type"
             fresh = key.available and not any(key.states)
             if number >= len(old) and (not fresh or name in listed):
                 return WRONG_STATE
             listed.add(name)
-        algorithms = [{self.keys[name].algorithm for name in names} for names in (old, new)]
-        if rule["same algorithms"] and algorithms[0] != algorithms[1]:
-            return "algorithm set mismatch for non-algorithm key roll"
+        return None
+
+    def is_suited(self, rule, old, new):
+        """Whether the zone would have what it needs after this start. Nothing changes."""
         before = {name: [set(state) for state in self.keys[name].states] for name in old + new}
         self.mark(rule, old, new, None)
         suited = all(self.picked(*wanted) for wanted in rule["suited"])
         for name, states in before.items():
             self.keys[name].states = states
-        return None if suited else NOT_SUITED
+        return suited
 
     def mark(self, rule, old, new, now):
         """Marks the keys of a start; without a moment only their flags."""
@@ -352,16 +362,7 @@ class KeySet:
         """Does what an accepted line says, and gives its answer."""
         word, *fields = line.split(" ")
         if word.startswith("add-"):
-            name, *private, algorithm, tag, creation, available = fields
-            kind = "include" if word == "add-public" else word[4:]
-            self.keys[name] = Key(
-                kind,
-                None if private in ([], ["-"]) else private[0],
-                number_of(algorithm),
-                int(tag),
-                int(creation),
-                available == "yes",
-            )
+            self.add(word[4:], fields)
         elif word == "delete":
             del self.keys[fields[0]]
             self.forget(fields[0])
@@ -376,6 +377,17 @@ class KeySet:
         else:
             return self.step(word, fields[0], fields[1:])
         return "ok"
+
+    def add(self, kind, fields):
+        name, *private, algorithm, tag, creation, available = fields
+        self.keys[name] = Key(
+            "include" if kind == "public" else kind,
+            None if private in ([], ["-"]) else private[0],
+            number_of(algorithm),
+            int(tag),
+            int(creation),
+            available == "yes",
+        )
 
     def set(self, word, key, fields):
         flag = word[4:].replace("-", "_")

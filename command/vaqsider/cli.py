@@ -2,18 +2,18 @@
 
 from __future__ import annotations
 
-import argparse
 import errno
 import os
 import re
 import sys
 from argparse import Namespace
 from pathlib import Path
-from typing import TYPE_CHECKING, Any, Callable, Iterable, NoReturn, Sequence, Tuple
+from typing import TYPE_CHECKING, Callable, Iterable, Sequence, Tuple
 
 from . import arguments
 from .arguments import clock
-from .errors import BROKEN, FAULTY, OK, STATUSES, UNPRINTED, USAGE, Failure, failure_of
+from .errors import BROKEN, FAULTY, OK, UNPRINTED, Failure, failure_of
+from .parsing import parsed
 
 if TYPE_CHECKING:
     from keyset import Status
@@ -25,7 +25,6 @@ if TYPE_CHECKING:
 Outcome = Tuple[int, Iterable[str], object]
 
 STDERR = 2
-HELP = Path(__file__).with_name("help.txt")
 
 
 def progress(text: str) -> None:
@@ -292,119 +291,25 @@ def _said(error: BaseException) -> Failure:
 
 # The words for one zone, or for a folder, that several machines may share.
 OF_STORE = ("call", "roll", "next", "zones")
-# A word in help.txt: a line, a paragraph, and its arguments, each as `NAME  what it is`.
-WORD = re.compile(r"(?P<name>\w+): (?P<says>.*)\n\n(?P<about>(?:.+\n)*)\n(?P<arguments>(?:.+\n)*)")
-ARGUMENT = re.compile(r"^(\S+)(?: (\S+(?: \S+)*))?  (.*(?:\n .*)*)", re.MULTILINE)
-# How an argument is read, by its name there.
-READ_AS: dict[str, dict[str, Any]] = {
-    "--start": {"type": arguments.moment},
-    "--since": {"type": arguments.moment},
-    "--until": {"type": arguments.moment},
-    "--port": {"type": arguments.port},
-    "SECONDS": {"type": arguments.span},
-    "NUMBER": {"type": arguments.number},
-    "SYSTEM": {"choices": ("bind", "knot", "pdns", "pdns-api", "opendnssec", "dnst")},
-    "2|4..": {"type": int, "choices": (2, 4)},
-    "DS DNSKEY ZONE": {
-        "type": arguments.number, "nargs": 3, "metavar": ("DS", "DNSKEY", "ZONE"),
-    },
-    "DO": {"choices": ("check", "show")},
-    "copy": {"choices": ("copy",)},
-    "WORDS": {"type": arguments.words},
-    "ROLE": {"choices": ("ksk", "zsk", "csk")},
-    "text|json": {"choices": ("text", "json"), "default": "text"},
-    "[KEYFILE..]": {"nargs": "*"},
-    "SCRIPT..": {"nargs": "+"},
+# What each word does.
+DOES: dict[str, Callable[[Namespace], Outcome]] = {
+    "init": on_init,
+    "import": on_import,
+    "call": on_call,
+    "status": on_status,
+    "check": on_check,
+    "plan": on_plan,
+    "draw": on_draw,
+    "act": on_act,
+    "ceremony": on_ceremony,
+    "watch": on_watch,
+    "zones": on_zones,
+    "policy": on_policy,
+    "tick": on_tick,
+    "store": on_store,
+    "roll": on_roll,
+    "next": on_next,
 }
-DEFAULTS = {
-    "port": 53, "every": 10, "lifetime": 30 * 86400, "reload_within": 60, "span": 90 * 86400,
-}
-
-
-class Version(argparse.Action):
-    """Prints the release of the key set."""
-
-    def __call__(self, *_: object) -> None:
-        import keyset
-
-        print(f"vaqsider {keyset.__version__}")
-        sys.exit()
-
-
-class Parser(argparse.ArgumentParser):
-    """A parser that ends with the status that the table gives for a wrong command line."""
-
-    def error(self, message: str) -> NoReturn:
-        self.exit(USAGE, f"{self.prog}: {message}; '{self.prog} --help' shows what it takes\n")
-
-
-def parser(only: str | None = None) -> Parser:
-    """The parser of the command line, as help.txt has it: of one word, or of all."""
-    as_it_is = argparse.RawDescriptionHelpFormatter
-    top = Parser(
-        prog="vaqsider",
-        description="Keys and rolls of DNSSEC zones, by a proved key set: the library for C,\n"
-        "or the program if the library isn't there.",
-        epilog=None if only else _epilog(),
-        formatter_class=as_it_is,
-    )
-    top.add_argument("--version", action=Version, nargs=0, help="print the version")
-    subparsers = top.add_subparsers(dest="word", required=True, metavar="WORD", parser_class=Parser)
-    for found in WORD.finditer(HELP.read_text(encoding="ascii")):
-        name, says, about, arguments_of = found.groups()
-        if only not in (None, name):
-            continue
-        about = f"{says.capitalize()}.\n\n{about}"
-        word = subparsers.add_parser(name, help=says, description=about, formatter_class=as_it_is)
-        for argument in ARGUMENT.finditer(f"{arguments_of}--json  print JSON"):
-            _add(word, *argument.groups())
-        word.set_defaults(does=globals()[f"on_{name}"], **DEFAULTS)
-    return top
-
-
-def _epilog() -> str:
-    from keyset.lines import FORMS
-
-    statuses = "\n".join(f"  {number:3}  {says}" for number, (says, _) in STATUSES.items())
-    forms = "\n".join(f"  {word} {form}" for word, form in FORMS.items())
-    return f"exit statuses:\n{statuses}\n\nlines of a script:\n{forms}"
-
-
-def parsed(given: Sequence[str]) -> Namespace:
-    """The arguments of a command line. Files may stand before and after options."""
-    if (wrong := arguments.not_utf8(given)) is not None:
-        Parser(prog="vaqsider").error(f"an argument isn't UTF-8: {os.fsencode(wrong)!r}")
-    top = parser(given[0] if given and f"on_{given[0]}" in globals() else None)
-    args, more = top.parse_known_args(given)
-    files = vars(args).get("KEYFILE", vars(args).get("SCRIPT"))
-    options = [it for it in more[: more.index("--") if "--" in more else None] if it[:1] == "-"]
-    if more and (options or not isinstance(files, list)):
-        top.error(f"unrecognized arguments: {' '.join(options or more)}")
-    if more:
-        files += (it for it in more if it != "--")
-    return args
-
-
-def _add(word: argparse.ArgumentParser, name: str, value: str | None, says: str) -> None:
-    """Adds an argument. One that ends in .. may be given several times."""
-    is_option, says = name.startswith("--"), " ".join(says.split())
-    if is_option and value is None:
-        word.add_argument(name, action="store_true", help=says)
-        return
-    shown = (value or name).strip("[].")
-    settings: dict[str, Any] = {"metavar": shown, "help": says, **READ_AS.get(value or name, {})}
-    settings.update(READ_AS.get(name, {}))
-    if name == "ROLL":
-        from keyset.lines import ROLLS
-
-        settings["choices"] = ROLLS
-    if name == "--serial":
-        from .serial import POLICIES
-
-        settings.update(choices=POLICIES, default=POLICIES[0])
-    if is_option:
-        settings["action"] = "append" if str(value).endswith("..") else "store"
-    word.add_argument(name if is_option else shown, **settings)
 
 
 def main(given: Sequence[str] | None = None) -> int:
@@ -422,7 +327,7 @@ def main(given: Sequence[str] | None = None) -> int:
 def _done(args: Namespace) -> Outcome:
     """Does what a word asks for. Lines of a zone that several machines share are committed to the
     store before they are in its files."""
-    does: Callable[[Namespace], Outcome] = args.does
+    does = DOES[args.word]
     if args.word not in OF_STORE or not args.store:
         return does(args)
     from . import shared

@@ -59,30 +59,42 @@ def picture(
 ) -> Iterator[str]:
     """The lines of an SVG file: a row for each roll, then a row for each key in each set, of those
     that the page shows."""
-    at, y = Scale(made, now, since), ROW
+    at = Scale(made, now, since)
     rows = {label: [*filter(at.shows, of)] for label, of in {**made.phases, **made.rows}.items()}
     rows = {label: of for label, of in rows.items() if of}
-    has_now = at.begin <= now <= at.end
-    yield (
-        f'<svg xmlns="http://www.w3.org/2000/svg" width="{at.left + WIDTH + 20}" '
-        f'height="{ROW * (len(rows) + 5)}" font-family="sans-serif" font-size="12">'
-    )
-    yield f'<title>{escape(zone)}</title><desc><pre xmlns="http://www.w3.org/1999/xhtml">'
-    of_now = {"now": [Bar(now, now, word="now")]} if has_now else {}
-    yield from (escape(line) for line in _letters({**rows, **of_now}, at))
-    yield f"</pre></desc><defs>{HATCH}</defs>"
-    yield '<rect width="100%" height="100%" fill="white"/>'
+    of_now = {"now": [Bar(now, now, word="now")]} if at.begin <= now <= at.end else {}
+    yield from _head(zone, ROW * (len(rows) + 5), {**rows, **of_now}, at)
+    y = ROW
     for label, bars in rows.items():
         yield _text(8, y + BAR - 1, label)
         yield from (part for bar in bars for part in _bar(bar, at, y))
         yield from _names([bar for bar in bars if bar.word], at, y)
         y += ROW
     yield from _axis(at, y)
-    if has_now:
-        how = f'x1="{at(now)}" y1="14" x2="{at(now)}" y2="{y}" stroke-dasharray="3 3"'
-        yield f'<line class="now" data-at="{now}" {how} stroke="black"/>'
-        yield _text(at(now), 10, "now", f'text-anchor="middle" {SMALL}')
+    if of_now:
+        yield from _now(now, at, y)
     yield "</svg>"
+
+
+def _head(
+    zone: str, height: int, rows: Mapping[str, Sequence[Bar]], at: Scale
+) -> Iterator[str]:
+    """How the file begins: its size, the rows in letters, and a white page."""
+    yield (
+        f'<svg xmlns="http://www.w3.org/2000/svg" width="{at.left + WIDTH + 20}" '
+        f'height="{height}" font-family="sans-serif" font-size="12">'
+    )
+    yield f'<title>{escape(zone)}</title><desc><pre xmlns="http://www.w3.org/1999/xhtml">'
+    yield from (escape(line) for line in _letters(rows, at))
+    yield f"</pre></desc><defs>{HATCH}</defs>"
+    yield '<rect width="100%" height="100%" fill="white"/>'
+
+
+def _now(now: float, at: Scale, y: int) -> Iterator[str]:
+    """A line through all rows, down to the axis."""
+    how = f'x1="{at(now)}" y1="14" x2="{at(now)}" y2="{y}" stroke-dasharray="3 3"'
+    yield f'<line class="now" data-at="{now}" {how} stroke="black"/>'
+    yield _text(at(now), 10, "now", f'text-anchor="middle" {SMALL}')
 
 
 def _spans(bar: Bar) -> Iterator[tuple[str, float, float | None]]:

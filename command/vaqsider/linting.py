@@ -16,6 +16,7 @@ from keyset.lines import NAMES
 from . import plan, signers, words
 from .check import Finding
 from .errors import OK, WARNING, Failure
+from .parsing import parsed
 from .policies import Policy
 from .signers import Planned
 
@@ -149,21 +150,17 @@ def planned(policy: Policy, script: str | Path, zone: str) -> Planned | None:
 
 
 def _args_of_act(policy: Policy, script: str | Path) -> Namespace:
-    from . import cli
-
-    return cli.parsed(policy.for_act(script))
+    return parsed(policy.for_act(script))
 
 
 def _of_words(policy: Policy) -> list[Finding]:
     """What the words that publish and look don't take."""
-    from . import cli
-
     found = []
     for line in (policy.for_act("example.com.script"), policy.for_watch("example.com.script")):
         said = io.StringIO()
         try:
             with contextlib.redirect_stderr(said):
-                cli.parsed(line)
+                parsed(line)
         except SystemExit:
             found.append(_wrong(said.getvalue().partition("; ")[0].strip()))
     return found

@@ -17,7 +17,7 @@ from keyset import Notes, WrongArgument
 from keyset.lines import Line
 from keyset.notes import Seen
 
-from . import act, advice, calling, cli, hooks, linting, parents, plan, policies, resting
+from . import act, advice, calling, hooks, linting, parents, parsing, plan, policies, resting
 from . import shortnames, signers, status, watching, words
 from .advice import Said
 from .ending import PARENT_LACKS, REFUSED, RUN_LOW, STUCK, Clock, Deed, Done, End, Log
@@ -416,7 +416,7 @@ class Tick:
 def parsed(given: list[str]) -> Namespace:
     """The arguments of another word of this command. Standard error says what is wrong with one."""
     try:
-        return cli.parsed(given)
+        return parsing.parsed(given)
     except SystemExit:
         text = f"the policy has what '{given[0]}' doesn't take"
         raise Failure(f"{text}: 'vaqsider policy check SCRIPT' says what") from None

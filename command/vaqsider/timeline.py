@@ -10,7 +10,7 @@ from __future__ import annotations
 from bisect import bisect_left
 from dataclasses import dataclass, field
 from itertools import accumulate
-from typing import Iterable, Sequence
+from typing import Iterable, Mapping, Sequence
 
 from .history import Call, History
 
@@ -61,35 +61,55 @@ def timeline(lines: Sequence[str], notes: Iterable[str] = ()) -> Timeline:
     """The timeline of a script with its notes."""
     history = History(lines)
     moments = [call.moment for call in history.calls if call.line.word in PHASES] or [0]
-    bars: dict[str, dict[str, list[Bar]]]
-    made, bars = Timeline(moments[0], max(moments), moments[0]), {name: {} for name in SETS}
-    shown: dict[str, set[str]]
-    going: dict[str | None, list[tuple[str, Bar]]]
-    held, shown, going = Held(history, notes), {name: set() for name in SETS}, {}
+    made, bars = Timeline(moments[0], max(moments), moments[0]), Bars(Held(history, notes))
     for call, state in history.states():
-        published = state.published
         if call.line.word == "start":
-            made.last = made.last if going else call.moment
-            going[call.line.roll] = []
-        for name, (_, kind) in SETS.items():
-            before, shown[name] = shown[name], set(published[name])
-            for key in shown[name] - before:
-                bars[name].setdefault(key, []).append(Bar(call.moment, line=call.number))
-            for bar in (bars[name][key][-1] for key in before - shown[name]):
-                bar.end, bar.gone = call.moment, held.until(kind, bar.line, call)
-                if bar.gone is None and call.line.roll in going:
-                    going[call.line.roll].append((kind, bar))
-                elif bar.gone is None:
-                    bar.gone = held.at_least(kind, call)
+            made.last = made.last if bars.going else call.moment
+            bars.going[call.line.roll] = []
+        bars.follow(call, state.published)
         if call.line.word in ("done", "abort"):
-            for kind, bar in going.pop(call.line.roll, ()):
-                bar.gone = held.at_least(kind, call)
+            bars.end(call)
         _phase(made.phases, call)
     for name, (label, _) in SETS.items():
-        made.rows.update({f"{label} {key}": of for key, of in sorted(bars[name].items())})
+        made.rows.update({f"{label} {key}": of for key, of in sorted(bars.of[name].items())})
     known = (bar.gone for of in made.rows.values() for bar in of)
     made.end = max([made.end, *filter(None, known)])
     return made
+
+
+class Bars:
+    """The bars of each set by key, call by call. `going` has those of which only the end of a roll
+    will say until when caches may hold the key, by roll, with the kind of set."""
+
+    of: dict[str, dict[str, list[Bar]]]
+    shown: dict[str, set[str]]
+    going: dict[str | None, list[tuple[str, Bar]]]
+
+    def __init__(self, held: Held) -> None:
+        self.held, self.going = held, {}
+        self.of, self.shown = {name: {} for name in SETS}, {name: set() for name in SETS}
+
+    def follow(self, call: Call, published: Mapping[str, Iterable[str]]) -> None:
+        """Begins bars of the keys that a call brings in, and ends those of the keys that it takes
+        out."""
+        for name, (_, kind) in SETS.items():
+            before, self.shown[name] = self.shown[name], set(published[name])
+            for key in self.shown[name] - before:
+                self.of[name].setdefault(key, []).append(Bar(call.moment, line=call.number))
+            for key in before - self.shown[name]:
+                self._take_out(self.of[name][key][-1], kind, call)
+
+    def _take_out(self, bar: Bar, kind: str, call: Call) -> None:
+        bar.end, bar.gone = call.moment, self.held.until(kind, bar.line, call)
+        if bar.gone is None and call.line.roll in self.going:
+            self.going[call.line.roll].append((kind, bar))
+        elif bar.gone is None:
+            bar.gone = self.held.at_least(kind, call)
+
+    def end(self, call: Call) -> None:
+        """Ends the roll of a call."""
+        for kind, bar in self.going.pop(call.line.roll, ()):
+            bar.gone = self.held.at_least(kind, call)
 
 
 class Held:

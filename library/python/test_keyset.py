@@ -302,10 +302,8 @@ class Files(unittest.TestCase):
             self.assertEqual(keys.keys(), {})
             os.rmdir(self.path)
 
-    def test_notes_are_those_of_the_example(self):
-        # docs/REFERENCE.md shows them.
-        stored = (Path(__file__).parents[2] / "examples/lowered-ttl.notes").read_text().splitlines()
-        wanted = [line for line in stored if line.startswith(("before", "published", "everywhere"))]
+    def note_the_example(self):
+        """Makes the notes of a TTL that is lowered."""
         Notes.create(self.path, [3600, 43200, 43200])
         first = Notes(self.path)
         first.publish(3, {"dnskey": 43200, "zone": 43200}, 10.5)
@@ -318,6 +316,12 @@ class Files(unittest.TestCase):
         Notes(self.path).everywhere({"dnskey": 7200}, 46950)
         Notes(self.path).publish(10, {"dnskey": None}, 47005)
         Notes(self.path).everywhere({"dnskey": 7200}, 47060)
+
+    def test_notes_are_those_of_the_example(self):
+        # docs/REFERENCE.md shows them.
+        stored = (Path(__file__).parents[2] / "examples/lowered-ttl.notes").read_text().splitlines()
+        wanted = [line for line in stored if line.startswith(("before", "published", "everywhere"))]
+        self.note_the_example()
         self.assertEqual(Notes(self.path).lines, wanted)
         # At 47060 caches may hold the set with 12 hours until 46950 + 43200.
         held = [Seen(wanted, moment).ttls["dnskey"] for moment in (90150, 90151)]

@@ -266,19 +266,23 @@ def emergencies():
 
 
 def helps():
-    """`--help` of each word says all that help.txt has of it; and a wrong word is refused."""
-    text = (TOP / "command" / "vaqsider" / "help.txt").read_text()
-    for block in text.split("\n\n\n"):
-        word, _, says = block.partition(": ")
-        shown, status = typed([word, "--help"])
+    """`--help` of each word says all that it takes; and a wrong word is refused."""
+    from vaqsider import parsers
+
+    listed = typed(["--help"])[0]
+    for name in parsers.MODULES:
+        word = parsers.word(name)
+        shown, status = typed([name, "--help"])
         # Lines are folded anew, also after a hyphen.
-        plain, parts = "".join(shown.split()), re.split(r"  +|\n\n|\n(?! )", says)
-        missing = [it for it in ("".join(part.split()) for part in parts[1:])
-                   if it.strip("[].").split("..")[0] not in plain]
+        plain, parts = "".join(shown.split()), [word.about]
+        for it in word.arguments:
+            shape = it.metavar if isinstance(it.metavar, tuple) else [it.metavar or ""]
+            parts += [f"{it.name} {' '.join(shape)}" if it.name[:2] == "--" else it.name, it.help]
+        missing = [part for part in parts if "".join(part.split()) not in plain]
         if status or missing:
-            yield f"{word} --help doesn't say {missing}"
-        if word not in typed(["--help"])[0]:
-            yield f"--help doesn't say {word}"
+            yield f"{name} --help doesn't say {missing}"
+        if not re.search(rf"^ +{name} +{re.escape(word.says)}$", listed, re.MULTILINE):
+            yield f"--help doesn't say {name}"
     for words in ([], ["wait"], ["check"], ["plan", "S", "zsk-rol", "-", "-"]):
         if typed(words)[1] != 64:
             yield f"{words} is taken"

@@ -29,7 +29,8 @@ def lines():
         found = [*IN_BLOCK.findall(text), *INLINE.findall(text)]
         for line in (part for it in found for part in re.split(r"; (?=vaqsider )", it)):
             yield page.name, " ".join(line.split()).removeprefix("vaqsider ")
-    for file in sorted((TOP / "command" / "vaqsider").glob("*.*")):
+    package = TOP / "command" / "vaqsider"
+    for file in sorted([*package.glob("*.py"), *package.glob("parsers/*.py")]):
         for line in QUOTED.findall(file.read_text(encoding="utf-8")):
             yield file.name, line.removeprefix("vaqsider ")
 

@@ -160,9 +160,9 @@ def expect_contents(folder):
         word = line.split()[0]
         expect(word in text, f"keyset.1 doesn't have {word}")
     text = (folder / "vaqsider.1").read_text().replace("\\", "")
-    helped = (TOP / "command" / "vaqsider" / "help.txt").read_text()
-    words = re.findall(r"^(\w+): .*\n\n", helped, re.M)
-    expect(len(words) > 5, "the words aren't found in help.txt")
+    table = (TOP / "command" / "vaqsider" / "parsers" / "__init__.py").read_text()
+    words = re.findall(r'^    "(\w+)": "\w+",$', table, re.M)
+    expect(len(words) > 5, "the words aren't found in the table of their modules")
     for word in words:
         used = f".SS {word}\n.PP\n.RS 4\n.nf\nusage: vaqsider {word} "
         expect(used in text, f"vaqsider.1 doesn't have the options of {word}")

@@ -10,7 +10,7 @@ from typing import Any, Iterator
 
 from ..errors import UNAVAILABLE, Failure
 from . import SAID, Key, Sets
-from .daemon import Step, said
+from .daemon import Step
 
 # For how many seconds the command may work on one verb.
 PATIENCE = 3600

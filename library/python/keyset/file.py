@@ -74,8 +74,8 @@ def _let_go() -> None:
 os.register_at_fork(after_in_child=_let_go)
 
 
-# Who has to have a line before the file of this path has it, as a store that several machines share:
-# it is handed the line's number and the line. If it raises, the file is left as it is.
+# Who has to have a line before the file of this path has it, as a store that several machines
+# share: it is handed the line's number and the line. If it raises, the file is left as it is.
 WITNESSES: Dict[str, Callable[[int, str], None]] = {}
 
 

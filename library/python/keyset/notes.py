@@ -9,7 +9,7 @@ import math
 import os
 import re
 from pathlib import Path
-from typing import Callable, Dict, Iterable, Iterator, List, Mapping, Sequence
+from typing import Callable, Dict, Iterator, List, Mapping, Sequence
 
 from . import engine, file
 from .bounds import Bounds, Reported
