@@ -1,5 +1,5 @@
-"""Each transcript, crash and check of the command by its name, as act.txt, crash.act or acts.rows, in
-a folder of its own. (transcripts.py runs them side by side.)"""
+"""Each transcript, crash and check of the command by its name, as act.txt, crash.act or acts.rows,
+in a folder of its own. (transcripts.py runs them side by side.)"""
 
 from functools import partial
 

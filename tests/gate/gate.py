@@ -93,8 +93,8 @@ class Edits(threading.Thread):
 
 
 class Beside(threading.Thread):
-    """A module of tests, by its room and name, that runs beside `rt ci`: by pytest, if it is named as
-    pytest wants it."""
+    """A module of tests, by its room and name, that runs beside `rt ci`: by pytest, if it is named
+    as pytest wants it."""
 
     def __init__(self, module, *words, under=()):
         room, name = module.split(".")
