@@ -43,6 +43,7 @@ GIVEN = {
     "steps": "mut steps: Steps",
     "moments": "moments: Moments",
     "last_waits": "mut last_waits: LastWaits",
+    "by_hand": "mut by_hand: FirstByHand",
     "at": "mut at: usize",
     "origins": "origins: Origins",
     "before": "before: Before",

@@ -30,7 +30,7 @@ from tests.oracle.notes import Notes, Version, due
 from tests.oracle.policy import CSK, KSK_ROLLS, ZSK_ROLLS, Policy
 from tests.oracle.signer import Operator, Stuck
 from tests.oracle.spread import Facts
-from tests.oracle.what_next import AT_REST, View, next_of, shown
+from tests.oracle.what_next import AT_REST, View, answer_of, shown
 from tests.oracle.zone import SECOND, SLOWEST, Broken, World
 
 ROLLS_OF_A_ZONE, ROLLS_IN_THE_GATE = 12, 240
@@ -149,8 +149,8 @@ class Follower(Operator):
         nothing was noted, the program is asked only now and then."""
         self.tell()
         now = self.rounded_down()
-        view = View(self.keyset, self.lasts, self.facts, now)
-        wanted = shown(self.policy, next_of(self.policy, view))
+        view = View(self.keyset, self.lasts, None, self.facts, now)
+        wanted = shown(self.policy, answer_of(self.policy, view))
         if self.last == (wanted, self.sent) and self.dice.random() > AGAIN:
             return wanted
         self.last = wanted, self.sent

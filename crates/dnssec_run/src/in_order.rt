@@ -15,8 +15,8 @@ use std::collections::HashMap;
 /// If there is no memory.
 ///
 /// ```rust
-/// for (reference, key) in keys_in_order(alloc, keyset.keys())? {
-///     println!("{reference}: {:?}", key.keytype());
+/// for (reference, _) in keys_in_order(alloc, keyset.keys())? {
+///     perform(reference);
 /// }
 /// ```
 pub fn keys_in_order(
