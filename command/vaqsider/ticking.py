@@ -43,8 +43,8 @@ TAKEN = "Key tag already present"
 @dataclass
 class Tick:
     """A tick of a script by its policy. `acted` are the acts of this tick, by the number of lines,
-    their options, and the unsigned zone; `stood` is what it has read of the signed file; and
-    `is_cds_out` says that no server gives CDS any more."""
+    their options, and the unsigned zone; `stood` is what it has read of the signed file;
+    `is_cds_out` says that no server gives CDS any more; and `deeds` is how many it has done."""
 
     script: Path
     policy: Policy
@@ -57,6 +57,7 @@ class Tick:
     told: Status = field(default_factory=dict)  # type: ignore[assignment]
     acted: set[tuple[int, tuple[str, ...], Unsigned]] = field(default_factory=set)
     is_cds_out: bool = False
+    deeds: int = 0
     stood: tuple[list[int] | None, Standing | None] | None = None
 
     # ---- the loop
@@ -137,6 +138,7 @@ class Tick:
 
     def say(self, deed: str, texts: list[str]) -> None:
         for text in texts:
+            self.deeds += 1
             self.log(Deed(int(self.clock()), self.zone, deed, text))
 
     # ---- what stands in place
