@@ -25,6 +25,7 @@ PACKAGES = {
     "dnssec-settime": "bind9-utils",
     "rndc": "bind9-utils",
     "keymgr": "knot",
+    "ldns-keygen": "ldnsutils",
     "ldns-signzone": "ldnsutils",
     "pdns_recursor": "pdns-recursor",
     "pdns_server": "pdns-server",

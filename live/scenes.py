@@ -5,6 +5,7 @@ from typing import Callable, NamedTuple
 
 import by_command
 import by_itself
+import by_words
 import commanded
 import emergencies
 import from_bind
@@ -40,6 +41,7 @@ SCENES = [
     *(Scene(name, play, "A", False, most=by_itself.MOST)
       for name, play in by_itself.HONEST.items()),
     *(Scene(name, play, "A", False) for name, play in by_itself.OF_SIGNERS.items()),
+    *(Scene(name, play, "A", False) for name, play in by_words.HONEST.items()),
     Scene("resolvers-restarted", one_signer.restarted, "A", False),
     *(Scene(name, play, "A", False) for name, play in one_signer.LONG.items()),
     *(Scene(name, play, "AB", False) for name, play in two_signers.HONEST.items()),
@@ -90,6 +92,7 @@ ONLY_WHOLE = {
     "from-bind-serial-by-date",
     *running.HONEST,
     *by_itself.OF_SIGNERS,
+    *by_words.HONEST,
     *takeovers.HONEST,
     *offline.HONEST,
     "server-without-address",

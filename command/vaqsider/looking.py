@@ -84,6 +84,12 @@ class Look:
             for text in comparing.lacks(self.due, type_, answer, self.now)
         )
 
+    def cds_left(self) -> list[Lack]:
+        """Which servers may give CDS still, if that was asked for, and all of the parent's have the
+        DS set."""
+        is_asked = any(kind == "cds" for kind, _, _ in self.answers)
+        return self.lacking(["cds"]) if is_asked and not self.lacking(["ds"]) else []
+
     def ttl(self, kind: str) -> int:
         """The highest TTL of this kind that was seen."""
         return max((it.ttl for (of, _, _), it in self.answers.items() if of == kind), default=0)

@@ -43,8 +43,8 @@ TAKEN = "Key tag already present"
 @dataclass
 class Tick:
     """A tick of a script by its policy. `acted` are the acts of this tick, by the number of lines,
-    whether CDS was to be in, and the unsigned zone; `stood` is what it has read of the signed file;
-    and `is_cds_out` says that no server gives CDS any more."""
+    their options, and the unsigned zone; `stood` is what it has read of the signed file;
+    `is_cds_out` says that no server gives CDS any more; and `deeds` is how many it has done."""
 
     script: Path
     policy: Policy
@@ -55,8 +55,9 @@ class Tick:
     lines: list[str] = field(default_factory=list)
     # (It says nothing until it is read.)
     told: Status = field(default_factory=dict)  # type: ignore[assignment]
-    acted: set[tuple[int, bool, Unsigned]] = field(default_factory=set)
+    acted: set[tuple[int, tuple[str, ...], Unsigned]] = field(default_factory=set)
     is_cds_out: bool = False
+    deeds: int = 0
     stood: tuple[list[int] | None, Standing | None] | None = None
 
     # ---- the loop
@@ -137,6 +138,7 @@ class Tick:
 
     def say(self, deed: str, texts: list[str]) -> None:
         for text in texts:
+            self.deeds += 1
             self.log(Deed(int(self.clock()), self.zone, deed, text))
 
     # ---- what stands in place
@@ -230,25 +232,20 @@ class Tick:
         """Publishes what is said. Of a DS set an act notes that it is due, and publishes CDS."""
         self.publish(said.line)
 
-    def publish(self, why: str) -> None:
-        """An act. If it was made in this tick and is still due, a person has to see why."""
-        made = len(self.lines), self.wants_cds(), Unsigned.of(self.places.unsigned)
+    def publish(self, why: str, *options: str) -> None:
+        """An act, with these options. If it was made in this tick and is still due, a person has to
+        see why."""
+        made = len(self.lines), options, Unsigned.of(self.places.unsigned)
         if made in self.acted:
             raise Done(WARNING, f"it was published, and still {why}: what does the signer do?")
         self.acted.add(made)
         self.journal.begin(self.clock(), made[2])
-        did, _ = act.perform(parsed(self.policy.for_act(self.script)), self.clock)
+        did, _ = act.perform(parsed([*self.policy.for_act(self.script), *options]), self.clock)
         if self.policy.reload:
             hooks.run(hooks.filled(self.policy.reload, self.zone))
         self.journal.end(self.clock())
         cds = ", with CDS" if did.has_cds else ""
         self.say("published", [f"{why}: {words.listed(self.told['published']['dnskey'])}{cds}"])
-
-    def wants_cds(self) -> bool:
-        """Whether an act puts CDS in now: the DS set is asked for, and not seen everywhere."""
-        if not status.is_asked(self.told, "CreateCdsRrset"):
-            return False
-        return not act.has_spread(act.step_of(self.lines), self.notes.lines, self.clock())
 
     def call(self, said: Said) -> None:
         """Makes the call that is said. Before a report of the DS set, or the end of a roll that
@@ -312,28 +309,34 @@ class Tick:
     # ---- looks
 
     def eyes(self, kinds: list[str]) -> watching.Watcher:
-        """What all servers give of these kinds; what all give is noted."""
+        """What all servers give of these kinds. What all give is noted, and a DS set only if no
+        server of the zone gives CDS."""
         eyes = watching.Watcher(parsed(self.policy.for_watch(self.script)), self.clock, str)
-        eyes.notes, eyes.lines = self.notes, self.lines
+        eyes.notes, eyes.lines = Notes(self.script), self.lines
+        known = len(eyes.notes.lines)
         try:
             look = eyes.ask(self.told, kinds)
-            parents.note(self.notes, self.lines, self.told, look)
-            eyes.judge(look, kinds)
+            parents.note(eyes.notes, self.lines, self.told, look)
+            left = look.cds_left()
+            eyes.judge(look, [kind for kind in kinds if not (left and kind == "ds")])
+            eyes.lacking += left
         except WrongArgument:
             raise
         except Failure as failure:
             raise Done(DUE, f"servers can't be asked: {failure}") from None
+        self.say("noted", Notes(self.script).lines[known:])
         return eyes
 
     def watch(self, said: Said) -> None:
-        """Looks whether all servers have it. If nothing is new, the zone waits for them."""
+        """Looks whether all servers have it, and CDS is out after a DS set. If nothing is new, the
+        zone waits for them."""
         kind, known = said.fields[0], len(self.notes.lines)
         kinds = {kind, *(it for of in self.kinds().values() for it in of)}
-        eyes = self.eyes(sorted(kinds))
-        noted = Notes(self.script).lines[known:]
-        self.say("noted", noted)
-        if not noted:
-            self.wait_for(kind, [str(it) for it in sorted(eyes.lacking) if it.kind != "cds"])
+        lacking = self.eyes(sorted(kinds)).lacking
+        if kind == "ds" and {it.kind for it in lacking} & {"ds", "cds"} == {"cds"}:
+            self.take_cds_out()
+        if len(Notes(self.script).lines) == known:
+            self.wait_for(kind, [str(it) for it in sorted(lacking) if it.kind != "cds"])
 
     def wait_for(self, kind: str, lacking: list[str]) -> None:
         """Servers lack it still. What the parent has to publish is handed to it by the policy."""
@@ -362,10 +365,10 @@ class Tick:
         stands in place, or else by what servers give."""
         stands = self.standing()
         if stands is not None and stands.has_cds:
-            self.publish("CDS goes out")
+            self.publish("CDS goes out", "--no-cds")
         lacking = self.eyes(["ds"]).lacking
         if stands is None and any(it.kind == "cds" for it in lacking):
-            self.publish("CDS goes out")
+            self.publish("CDS goes out", "--no-cds")
             lacking = self.eyes(["ds"]).lacking
         if lacking:
             raise Done(DUE, "; ".join(map(str, sorted(lacking))))

@@ -55,8 +55,10 @@ def tick(script: str | Path, clock: Clock, log: Log, most: int = DEEDS,
         with journal.alone(path) as lines:
             policy, fault = _policy(path)
             made = Tick(path, policy.by(commands), clock, log, lines, most)
-            since = kept.since if kept is not None and kept.status else int(clock())
-            end = fault or made.of_signatures(_in_time(made, _ended(made), since))
+            ended = fault or _ended(made)
+            before = kept if kept is not None and kept.status and not made.deeds else None
+            since = int(clock()) if before is None else before.since
+            end = fault or made.of_signatures(_in_time(made, ended, since))
             _keep(made, end, kept, since)
             return end
     except Locked as error:

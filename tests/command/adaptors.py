@@ -367,6 +367,7 @@ def hooks():
 
 
 OK = "HTTP/1.1 200 OK\r\nContent-Length: {}\r\n\r\n{}"
+FAULT = OK.replace("200 OK", "500 x")
 # What comes over the wire, and what is said of it.
 WIRES = (
     (OK.format(2, "[]"), "has no zone"), (OK.format(9, "[]"), "IncompleteRead"), ("", "Remote end"),
@@ -515,24 +516,55 @@ echo >>runs
 echo "Error: $2 (5)" >&2
 exit 1
 """
-# How often a command fails, what it says then, and how often it runs at least and at most.
-LOCKS = ((2, daemon.LOCKED, 3, 3), (9, daemon.LOCKED, 2, 4), (9, "no such key", 1, 1))
+# What PowerDNS says if SQLite is locked in the midst of a change.
+UNSAID = "Internal Server Error"
+# What fails, how often, what it says then, and how often it runs at least and at most: a command, or
+# a request by this method.
+LOCKS = (
+    ("tool", 2, daemon.LOCKED, 3, 3), ("tool", 9, daemon.LOCKED, 2, 4),
+    ("tool", 9, "no such key", 1, 1), ("PATCH", 2, UNSAID, 3, 3), ("PATCH", 9, UNSAID, 2, 4),
+    ("POST", 9, UNSAID, 1, 1), ("POST", 2, daemon.LOCKED, 3, 3),
+)
 
 
 def locked():
-    """A command runs again if another program has locked its database, until its time is over."""
-    for fails, says, least, most in LOCKS:
-        with folder(), mock.patch.object(daemon, "PAUSE", 0.25):
-            Path("tool").write_text(TOOL)
-            Path("tool").chmod(0o755)
-            fault = ""
-            try:
-                daemon.said(["./tool", str(fails), says], seconds=1)
-            except Failure as failure:
-                fault = str(failure)
-            runs = len(Path("runs").read_text())
-            if not least <= runs <= most or (says in fault) != (fails > most):
-                yield f"{says} {fails} times: {runs} runs, and {fault}"
+    """What failed runs again if another program has locked the database, until its time is over."""
+    for what, fails, says, least, most in LOCKS:
+        with folder(), mock.patch.object(daemon, "PAUSE", 0.25), \
+                mock.patch.multiple(pdns_api, PAUSE=0.25, SECONDS=1):
+            runs, fault = _by_tool(fails, says) if what == "tool" else _by_api(what, fails, says)
+        if not least <= runs <= most or (says in fault) != (fails > most):
+            yield f"{what}: {says} {fails} times: {runs} runs, and {fault}"
+
+
+def _by_tool(fails: int, says: str) -> tuple[int, str]:
+    """How often a command runs, and what is said in the end."""
+    Path("tool").write_text(TOOL)
+    Path("tool").chmod(0o755)
+    fault = _said(lambda: daemon.said(["./tool", str(fails), says], seconds=1))
+    return len(Path("runs").read_text()), fault
+
+
+def _by_api(method: str, fails: int, says: str) -> tuple[int, str]:
+    """The same of a request to an API."""
+    Path("secret").write_text("of-a-test\n")
+    runs: list[int] = []
+
+    def answers() -> None:
+        with contextlib.suppress(TimeoutError):
+            while True:
+                is_over = len(runs) >= fails
+                _answer(server, OK.format(2, "[]") if is_over else FAULT.format(len(says), says))
+                runs.append(len(runs))
+
+    with socket.create_server(("127.0.0.1", 0)) as server:
+        server.settimeout(1)
+        thread = threading.Thread(target=answers)
+        thread.start()
+        store = Api(ZONE, f"http://127.0.0.1:{server.getsockname()[1]}", "secret")
+        fault = _said(lambda: store.ask(method, "/zones"))
+        thread.join()
+    return len(runs), fault
 
 
 def _notes() -> str:

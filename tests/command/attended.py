@@ -74,6 +74,17 @@ def silent() -> Iterator[str]:
                 yield f"with {off} again it comes to {lines()[-1]}"
 
 
+def late() -> Iterator[str]:
+    """A parent that takes too long: a person is told that, and not of what is published after it."""
+    world = World(reads_cds=False, believes=False)
+    with folder(), living(world, "parent hook\non-ds registrar\npatience 10min\non-event tell\n"):
+        list(passing(world, 3600))
+        world.believes = True
+        list(passing(world, 3600))
+        if events(world) != ["parent lacks"] or lines()[-1] != "done algorithm-roll":
+            yield f"after a late parent it comes to {lines()[-1]}, and tells {events(world)}"
+
+
 def commands() -> Iterator[str]:
     """Commands of the command line go before those of the policy."""
     world = World(reads_cds=False)
@@ -336,5 +347,5 @@ def analyzed(*words: str) -> subprocess.CompletedProcess[str]:
                           stderr=subprocess.STDOUT)
 
 
-CHECKS = (low, silent, commands, clock, fast, changed, purge, older, goes_on, unread, names,
+CHECKS = (low, silent, late, commands, clock, fast, changed, purge, older, goes_on, unread, names,
           running, unable, page, units)

@@ -37,8 +37,9 @@ from tests.oracle import what_next
 
 COUNTS = {"ticks": 0, "rolls": 0, "kills": 0, "policies": 0, "commands": 0}
 DAY = 86400
-# The reports of DS sets: no server gives CDS any more then.
-OF_DS = re.compile(r"called: report(1 ksk-double-ds-roll|2 (ksk|csk|algorithm)-roll) ")
+# The notes and the reports of DS sets: no server gives CDS any more then.
+OF_DS = re.compile(r"noted: everywhere ds |"
+                   r"called: report(1 ksk-double-ds-roll|2 (ksk|csk|algorithm)-roll) ")
 
 
 # ---- courses

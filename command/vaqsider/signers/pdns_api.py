@@ -5,6 +5,7 @@ from __future__ import annotations
 
 import http.client
 import json
+import time
 import urllib.error
 import urllib.parse
 import urllib.request
@@ -13,12 +14,14 @@ from typing import Any, Iterator, Mapping
 
 from ..errors import UNAVAILABLE, USAGE, Failure
 from . import Key
-from .daemon import SECONDS, Step
+from .daemon import LOCKED, PAUSE, SECONDS, Step
 from .pdns import Held, PowerDns, Record, presigned
 
 FLAGS = {"activate": {"active": True}, "deactivate": {"active": False},
          "publish": {"published": True}, "unpublish": {"published": False}}
 PATHS = "/api/v1/servers/localhost"
+# All that it says if PowerDNS can't do its work now, as if another program has locked its database.
+UNSAID = b"Internal Server Error"
 
 
 class Stays(urllib.request.HTTPRedirectHandler):
@@ -32,7 +35,25 @@ OPENER = urllib.request.build_opener(Stays, urllib.request.ProxyHandler({}))
 
 
 def exchange(method: str, url: str, secret: str, body: bytes | None) -> tuple[int, bytes]:
-    """What the API answers: its status, and a text."""
+    """What the API answers: its status, and a text. While another program has locked its database
+    it is asked again after a pause, until its time is over."""
+    end = time.monotonic() + SECONDS
+    while True:
+        status, text = _answer(method, url, secret, body)
+        if not _is_locked(method, status, text) or time.monotonic() + PAUSE > end:
+            return status, text
+        time.sleep(PAUSE)
+
+
+def _is_locked(method: str, status: int, text: bytes) -> bool:
+    """Whether an answer may mean that the database is locked, and the request can be made once
+    more. (One that adds a key might add two, if it isn't said that nothing has changed.)"""
+    is_again = method != "POST" and text.strip() == UNSAID
+    return status == 500 and (is_again or LOCKED.encode() in text)
+
+
+def _answer(method: str, url: str, secret: str, body: bytes | None) -> tuple[int, bytes]:
+    """One answer, whatever its status is."""
     asked = urllib.request.Request(url, body, method=method, headers={
         "X-API-Key": secret, "Content-Type": "application/json"})
     try:
@@ -70,6 +91,8 @@ class Api(PowerDns):
         made = None if body is None else json.dumps(body).encode()
         status, text = exchange(method, f"{self.url}{PATHS}{path}", self.secret, made)
         where = f"{method} {self.url}{PATHS}{path}: {status}"
+        if text.strip() == UNSAID:
+            raise Failure(f"{where}: {UNSAID.decode()}: its log says why", UNAVAILABLE)
         try:
             told = json.loads(text) if text.strip() else None
         except ValueError:
