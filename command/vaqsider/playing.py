@@ -103,11 +103,11 @@ class Play:
                 self.there[kind] = self.moment + self.delays[kind]
 
     def _see(self, kind: str) -> None:
-        """All servers have it. After a DS set CDS goes out, and that has to be there too."""
+        """All servers have it. Before that is noted of a DS set CDS goes out everywhere."""
         self.moment = max(self.moment, self.there.get(kind, self.moment))
-        self.notes.append(f"everywhere {kind} {self.moment}")
         if kind == "ds":
             self.moment += self.delays["zone"]
+        self.notes.append(f"everywhere {kind} {self.moment}")
 
 
 def invented(zone: str) -> list[str]:
