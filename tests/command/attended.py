@@ -100,14 +100,14 @@ def commands() -> Iterator[str]:
 
 def clock() -> Iterator[str]:
     """A clock that is wrong by what the policy allows: each wait is longer by that, and a tick
-    waits until the last moment is over."""
+    waits until the last moment is over. A report of a DS set counts the DNSKEY set too."""
     world = World(ahead=5)
     with folder(), living(world, SPLIT + "clock 5s\n"):
         worst = max(passing(world, DAY))
         if worst[0] > 1:
             yield f"with a maker of keys that is ahead it ends with {worst}"
         ttls = {int(found[1]) for found in map(REPORT.match, lines()) if found}
-        if ttls != {71, 72}:
+        if ttls != {71, 132}:
             yield f"reports have the TTLs {ttls}"
         moments = re.findall(r" (\d+)$", Path(f"{ZONE}.notes").read_text(), re.MULTILINE)
         last = max(map(int, moments))

@@ -572,7 +572,7 @@ def early_ends() -> Iterator[str]:
             typed(["call", f"{ZONE}.script", f"abort {roll}"], world.now)
             calls = len(lines()) - 1
             said = tick(world)[1]
-            *_, (_, status, last) = played(world, world.now + DAY)
+            *_, (_, status, last) = played(world, world.now + 3600)
             wanted = (2, calls, True, True)
             if (status, len(lines()) - 1, "published" in said,
                     f"call {calls} was made by hand" in last) != wanted:
