@@ -6,6 +6,7 @@ runs: its database is compared with the status after each roll.
 Those with files have servers that fail, so they are played by their names only."""
 
 import asyncio
+import contextlib
 import itertools
 import json
 import os
@@ -202,7 +203,9 @@ class Unattended(Running):
             if self.dice.random() < 0.5:
                 end(process, signal.SIGKILL)
             else:
-                process.kill()
+                # (By `kill` of the process, which looks for its end, asyncio may lose that.)
+                with contextlib.suppress(ProcessLookupError):
+                    os.kill(process.pid, signal.SIGKILL)
 
     async def jumping(self):
         """The clock jumps, within what the policy allows."""
