@@ -43,7 +43,7 @@ class Operator:
         return {
             **said, "PATH": PATHS, "PYTHONPATH": f"{COMMAND}:{LOOKING_UP}",
             "LOOKING_UP": UNBOUND, "LOOKING_UP_PORT": port, "LOOKING_UP_FAILS": self.not_found,
-            "PYTHONDONTWRITEBYTECODE": "1",
+            "PYTHONPYCACHEPREFIX": str(self.zone.world.folder / "compiled"),
         }
 
     async def type(self, *words, ends=(OK,)):
