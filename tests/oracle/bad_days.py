@@ -76,8 +76,12 @@ def with_another_signer() -> Day:
     return at_rest().calls("add-public P1 13 90 1200 yes", "set-present P1 yes 1200").at(1200)
 
 
-def days() -> Iterator[tuple[str, Day, str]]:
-    """What has happened, and what is said then."""
+# What has happened, the day, and what is said on it.
+Row = tuple[str, Day, str]
+
+
+def touched() -> Iterator[Row]:
+    """Rolls that a person ended early, and keys whose flags or times he set."""
     on_demand = POLICY[0]
     early = in_a_roll("publish").calls("abort zsk-roll")
     yield "a roll ended early, and is due", early, by_hand(early, "abort zsk-roll")
@@ -93,6 +97,10 @@ def days() -> Iterator[tuple[str, Day, str]]:
     calls = ("set-stale Z9", "add-zsk Z50 - 13 50 11001 yes", "set-present Z50 yes 11001")
     day = in_a_roll("until").calls(*calls)
     yield "a new key set by hand", day, by_hand(day, calls[0])
+
+
+def shared() -> Iterator[Row]:
+    """Keys of another signer."""
     other = with_another_signer()
     yield "another signer's key", other, f"until {RENEWED}"
     yield "another signer's key beside a roll", other.but(*POLICY).at(RENEWED), "key zsk 13"
@@ -100,18 +108,32 @@ def days() -> Iterator[tuple[str, Day, str]]:
         f"until {RENEWED}")
     stale = other.calls("set-stale P1")
     yield "another signer's key set stale", stale, by_hand(stale, "set-stale P1")
-    lost = at_rest().but(on_demand, "zsk-once 2000").at(2000)
+
+
+def lost() -> Iterator[Row]:
+    """Private halves that are gone."""
+    lost = at_rest().but(POLICY[0], "zsk-once 2000").at(2000)
     yield "a lost ZSK", lost, "key zsk 13"
     yield "a lost ZSK, with another", lost.calls("add-zsk Z9 - 13 9 2000 yes"), (
         "start zsk-roll Z2 Z9 2000")
     unusable = lost.calls("add-zsk Z9 - 13 9 2000 no")
     yield "a lost ZSK, with another that is lost too", unusable, "key zsk 13"
+
+
+def timed() -> Iterator[Row]:
+    """Clocks that were set back, and TTLs that no report can have, or no wait."""
     yield "a clock set back at rest", at_rest().at(500), f"until {RENEWED}"
     yield "a clock set back before a report", in_a_roll("report1").at(500), "watch dnskey"
     yield "a clock set back in a wait", in_a_roll("until").at(500), "until 11061"
     yield "a clock set back before the end", in_a_roll("done").at(500), "watch dnskey"
-    endless = Day([on_demand], notes=[f"before {TTL} {2**32 - 1} {TTL}"]).follows("until")
+    endless = Day([POLICY[0]], notes=[f"before {TTL} {2**32 - 1} {TTL}"]).follows("until")
     yield "a TTL past 32 bits", endless, f"until {BEGIN + 1}"
-    late = Day([on_demand, "ksk-lifetime 995", "zsk-lifetime 930"], now=2**64 - 1000)
+    late = Day([POLICY[0], "ksk-lifetime 995", "zsk-lifetime 930"], now=2**64 - 1000)
     yield "a wait without end, beside a lifetime", late.follows("nothing"), (
         "nothing: the wait of zsk-roll ends after all time")
+
+
+def days() -> Iterator[Row]:
+    """All of them."""
+    for rows in (touched, shared, lost, timed):
+        yield from rows()
