@@ -12,9 +12,11 @@ use Rattle.dnssec_run.specs.declared.record.{Published.Published, PublishedKey.P
 use Rattle.dnssec_run.specs.{declared.running.Recorder.Recorder, Published.Id, Published.id_of}
 use Rattle.dnssec_run.{specs.Recorder.HasSameKeys, specs.Recorder.Records, proofs.Grow.at_end}
 use Rattle.dnssec_judge.specs.Judge.{IsPublishedNext}
-use Rattle.dnssec_run.specs.Origins.{set_at, set_in}
+use Rattle.dnssec_run.proofs.Around.{keeps-kind}
+use Rattle.dnssec_run.specs.Frames.{KeepsFrames, KeepsSet, frames_in}
+use Rattle.dnssec_run.specs.Origins.{CachedSet, set_at, set_in}
 use Rattle.dnssec_judge.specs.declared.{judging.Judge.Judge, verdict.Broken.Broken}
-use Rattle.dnssec_judge.specs.{Judge.ComesNext, Judge.Knows, Verdict.IsVerdict}
+use Rattle.dnssec_judge.specs.{Judge.ComesNext, Judge.KeepsLast, Judge.Knows, Verdict.IsVerdict}
 use Rattle.dnssec_script.specs.Inner.Statement.{Makes, statement_says}
 use Rattle.dnssec_script.specs.declared.statement.Statement.{Statement}
 use Rattle.dnssec_record.proofs.Made.{HasMade, all_made, one_made}
@@ -128,13 +130,30 @@ next_comes name calls entries r s outcome news so kept handed = record {
     by false kept kind = told_held (entry_of outcome s.published) kind
         ∙ ap (set_in kind) (kept refl) ∙ last_held name calls entries r so kind
 
+-- and keeps the frames of the changes
+next_keeps : (name : List ℕ) (calls : List Call) (entries : List Entry) (r s : Recorder)
+    (outcome : Outcome) (news : Option Published) → Records name calls entries r
+    → (outcome.may_publish ≡ true → KeepsFrames outcome.frames r.published s.published)
+    → news ≡ (if outcome.may_publish then Some s.published else None)
+    → KeepsLast entries outcome.frames news
+next_keeps name calls entries r s outcome news so keeps handed =
+    subst (KeepsLast entries outcome.frames) (sym handed) (by outcome.may_publish keeps)
+  where
+    by : (b : Bool) → (b ≡ true → KeepsFrames outcome.frames r.published s.published)
+        → KeepsLast entries outcome.frames (if b then Some s.published else None)
+    by true keeps kind =
+        subst (λ (set : CachedSet). KeepsSet (frames_in kind outcome.frames) set
+        (set_in kind s.published)) (last_held name calls entries r so kind)
+        (keeps-kind outcome.frames r.published s.published kind (keeps refl))
+    by false keeps kind = tt
+
 -- after one more call
 pub one_follows : (name : List ℕ) (calls : List Call) (entries : List Entry) {says : _}
     (r q : Recorder) (j k : Judge) (outcome : Outcome)
     (news : Option Published) → Follows name calls entries r j → (m : Makes says r q outcome)
     → news ≡ (if outcome.may_publish then Some q.published else None)
     → ((entries : List Entry) (e : Entry) → ComesNext entries e outcome.mark outcome.moment news
-    → Knows entries j → Knows (entries ++ e ∷ []) k)
+    → KeepsLast entries outcome.frames news → Knows entries j → Knows (entries ++ e ∷ []) k)
     → Follows name (calls ++ m.call ∷ []) (entries ++ entry_of outcome q.published ∷ []) q k
 one_follows name calls entries r q j k outcome news so m handed judged =
     let e = entry_of outcome q.published in
@@ -143,7 +162,8 @@ one_follows name calls entries r q j k outcome news so m handed judged =
           (record { ds = refl; dnskey = refl; dnskey_signers = refl; zone_signers = refl })
           so.records;
       knows = judged entries e
-          (next_comes name calls entries r q outcome news so.records m.kept handed) so.knows;
+          (next_comes name calls entries r q outcome news so.records m.kept handed)
+          (next_keeps name calls entries r q outcome news so.records m.frames handed) so.knows;
       shown = ap sets_text (last_of entries e);
     }
 
@@ -160,7 +180,7 @@ pub one_more : {script : List ℕ} {all left rest : List Statement} {s : Stateme
     → left ≡ s ∷ rest → m + 1 ≡ n → Makes (statement_says s) r q outcome
     → news ≡ (if outcome.may_publish then Some q.published else None)
     → ((entries : List Entry) (e : Entry) → ComesNext entries e outcome.mark outcome.moment news
-    → Knows entries j → Knows (entries ++ e ∷ []) k)
+    → KeepsLast entries outcome.frames news → Knows entries j → Knows (entries ++ e ∷ []) k)
     → after ≡ text ++ reply_text outcome.reply ++ codes "\n"
     → HasMade script all rest m (Answered after q k)
 one_more text after r q j k outcome news h next one makes handed judged wrote =

@@ -8,7 +8,7 @@ use Rattle.dnssec_run.specs.declared.call.Call.{Call}
 use Rattle.dnssec_run.specs.declared.record.{Entry.Entry, Outcome.Outcome, Published.Published}
 use Rattle.dnssec_run.specs.declared.record.Reply.{Reply}
 use Rattle.std.specs.Prelude.{codes}
-use Rattle.dnssec_judge.specs.Judge.{ComesNext, Knows}
+use Rattle.dnssec_judge.specs.Judge.{ComesNext, KeepsLast, Knows}
 use Rattle.dnssec_record.specs.Courses.{Listed, as_listed, ended_after, ended_by, listed_after}
 use Rattle.dnssec_record.specs.Courses.{listed_by, turn_after, turn_of, turns}
 use Rattle.dnssec_record.specs.Inner.Statement.{TakesOn}
@@ -50,7 +50,7 @@ pub advances : (name : List ℕ) (calls : List Call) (entries : List Entry) {say
     → StandsAfter name calls entries old → (m : Makes says old.recorder new.recorder outcome)
     → news ≡ (if outcome.may_publish then Some new.recorder.published else None)
     → ((entries : List Entry) (e : Entry) → ComesNext entries e outcome.mark outcome.moment news
-    → Knows entries old.judge → Knows (entries ++ e ∷ []) new.judge)
+    → KeepsLast entries outcome.frames news → Knows entries old.judge → Knows (entries ++ e ∷ []) new.judge)
     → (turn : Turn) → turn ≡ turn_after (turn_of m.call) outcome.reply
     → map as_listed new.courses.listed.items
     ≡ listed_after (map as_listed old.courses.listed.items) turn

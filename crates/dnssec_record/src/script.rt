@@ -138,7 +138,8 @@ fn answer_to(alloc: Global, script: &[u8]) -> Result<String, ScriptFault>
             return Err(ScriptFault::OutOfMemory);
         };
         let news = recorder.news(&outcome);
-        let Ok(()) = judge.note(alloc, outcome.mark, outcome.moment, news) else {
+        let noted = judge.note_changes(alloc, outcome.mark, outcome.moment, news, &outcome.frames);
+        let Ok(()) = noted else {
             return Err(ScriptFault::OutOfMemory);
         };
         push_answer(&mut text, &outcome.reply)?;

@@ -259,7 +259,10 @@ impl Session {
             return Err(AllocError);
         };
         let news = self.recorder.news(&outcome);
-        let Ok(()) = self.judge.note(alloc, outcome.mark, outcome.moment, news) else {
+        let noted = self
+            .judge
+            .note_changes(alloc, outcome.mark, outcome.moment, news, &outcome.frames);
+        let Ok(()) = noted else {
             return Err(AllocError);
         };
         self.courses.take(alloc, turn.after(&outcome.reply))?;

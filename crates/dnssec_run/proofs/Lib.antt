@@ -12,6 +12,7 @@
 -- | `read_sets`, `ok`         | `reads-all`                   | Positions                    |
 -- | `Recorder::advance`, `ok` | `leaves`                      | Asked                        |
 -- | `renew_key`, `read`       | `renewed`                     | OneKey                       |
+-- | `KeepsFrames`             | `keeps-with` and the like     | Around                       |
 -- | `starts_suffice`          | `starts-suffice`              | Starts                       |
 -- | `whole_runs_stay_safe`    | `chain-holds`, `each-holds`   | Chain                        |
 -- | the premise of plain lists| `plain-by-sets`               | Premise                      |
@@ -21,6 +22,7 @@
 -- | `keys_in_order`           | `put_in_order`                | InOrder                      |
 pub mod Since
 pub mod Positions
+pub mod Around
 pub mod OneKey
 pub mod Next
 pub mod Grow

@@ -1,6 +1,7 @@
 pub mod Asked
 pub mod ByAlgorithm
 pub mod EarlyEnds
+pub mod Frames
 pub mod Moments
 pub mod Origins
 pub mod Plain

@@ -6,6 +6,7 @@
 
 mod caches;
 mod call;
+mod frames;
 mod in_order;
 mod moments;
 mod places;
@@ -17,6 +18,7 @@ mod steps;
 
 pub use caches::{SetKind, retires};
 pub use call::Call;
+pub use frames::{Frame, Frames};
 pub use in_order::keys_in_order;
 pub use moments::Moments;
 pub use plain::{each_chain_is_one, starts_suffice, whole_runs_stay_safe};

@@ -3,17 +3,20 @@ ghost use Rattle.std.specs.Prelude.{◌≡◌, ◌≢◌, map, IfOk, IfErr, OnOk
 ghost use Rattle.std.specs.BTreeMap as tree;
 ghost use Rattle.std.specs.Option.{option_map};
 ghost use Rattle.dnssec_base.specs.declared.error.Error.TheVariants.{OutOfMemory};
+ghost use Rattle.dnssec_run.specs.Frames.{KeepsFrame, KeepsFrames};
 ghost use Rattle.dnssec_run.specs.Published.{IsPublished, World, id_of};
 ghost use Rattle.dnssec_run.specs.Recorder.{Agrees, ChangesAt, HasSameKeys, IsAscending, Leaves};
 ghost use Rattle.dnssec_run.specs.Recorder.{SetsPlace, position_shown, shows};
 
+use crate::frames::{Frame, Frames};
 use crate::record::{Published, PublishedKey, Touched};
 use crate::sets::Shown;
 use dnssec_keyset::{Error, Key, KeySet};
 use std::alloc::Global;
 use std::collections::BTreeMap;
 
-/// Renews what is published of one key, and says whether that has changed.
+/// Renews what is published of one key, and says whether that has changed. Notes the frames of the
+/// changes.
 pub(crate) fn renew_key(
     alloc: Global,
     keyset: &KeySet,
@@ -21,9 +24,11 @@ pub(crate) fn renew_key(
     sets: &mut Published,
     touched: Touched<'_>,
     reference: &str,
+    frames: &mut Frames,
 ) -> Result<bool, Error>
     ensures kept { IfOk result (λ changed. changed ≡ false → sets.new ≡ sets.old) }
     ensures changed { IfOk result (λ changed. changed ≡ true → ¬ HasSameKeys sets.old sets.new) }
+    ensures frames { OnOk result (KeepsFrames frames.new sets.old sets.new) }
     ensures read { OnOk result ((v w : World) → IsPublished sets.old v → Leaves touched.entry v w →
         ChangesAt reference.now v w → Agrees keyset.now (tree.get_by_text added.now) w →
         IsPublished sets.new w) }
@@ -32,15 +37,26 @@ pub(crate) fn renew_key(
     let key = keyset.keys().get(reference);
     let at = added.get(reference).copied();
     let to = position(Shown::Ds, key, at);
-    let ds = renew_place(alloc, touched.ds, &mut sets.ds, to, reference)?;
+    let frame = &mut frames.ds;
+    let ds = renew_place(alloc, touched.ds, &mut sets.ds, to, reference, frame)?;
     let to = position(Shown::Dnskey, key, at);
-    let dnskey = renew_place(alloc, touched.dnskey, &mut sets.dnskey, to, reference)?;
+    let frame = &mut frames.dnskey;
+    let dnskey = renew_place(
+        alloc,
+        touched.dnskey,
+        &mut sets.dnskey,
+        to,
+        reference,
+        frame,
+    )?;
     let to = position(Shown::DnskeySigners, key, at);
     let keys = &mut sets.dnskey_signers;
-    let signers = renew_place(alloc, touched.dnskey, keys, to, reference)?;
+    let frame = &mut frames.dnskey_signers;
+    let signers = renew_place(alloc, touched.dnskey, keys, to, reference, frame)?;
     let to = position(Shown::ZoneSigners, key, at);
     let keys = &mut sets.zone_signers;
-    let zone = renew_place(alloc, touched.zone_signers, keys, to, reference)?;
+    let frame = &mut frames.zone_signers;
+    let zone = renew_place(alloc, touched.zone_signers, keys, to, reference, frame)?;
     Ok(ds | dnskey | signers | zone)
 }
 
@@ -62,10 +78,13 @@ fn renew_place(
     keys: &mut Vec<PublishedKey>,
     at: Option<usize>,
     reference: &str,
+    frame: &mut Frame,
 ) -> Result<bool, Error>
     ensures kept { IfOk result (λ changed. changed ≡ false → keys.new ≡ keys.old) }
     ensures changed { IfOk result (λ changed. changed ≡ true →
         length keys.old.items ≢ length keys.new.items) }
+    ensures frame { OnOk result (KeepsFrame frame.new (map id_of keys.old.items)
+        (map id_of keys.new.items)) }
     ensures ok { OnOk result (is_touched ≡ true → IsAscending (map id_of keys.old.items) →
         SetsPlace reference.now at (map id_of keys.old.items) (map id_of keys.new.items)) }
     ensures left { OnOk result (is_touched ≡ false →
@@ -73,28 +92,36 @@ fn renew_place(
     ensures err { IfErr result (λ e. e ≡ OutOfMemory) }
 {
     if !is_touched {
+        *frame = Frame::of(false, keys.len());
         return Ok(false);
     }
-    set_place(alloc, keys, at, reference)
+    set_place(alloc, keys, at, reference, frame)
 }
 
 /// Puts a key into a set at its position, or takes it out if it has none. Says whether the set has
-/// changed.
+/// changed, and notes what stands around the place of the key.
 fn set_place(
     alloc: Global,
     keys: &mut Vec<PublishedKey>,
     at: Option<usize>,
     reference: &str,
+    frame: &mut Frame,
 ) -> Result<bool, Error>
     ensures kept { IfOk result (λ changed. changed ≡ false → keys.new ≡ keys.old) }
     ensures changed { IfOk result (λ changed. changed ≡ true →
         length keys.old.items ≢ length keys.new.items) }
+    ensures frame { OnOk result (KeepsFrame frame.new (map id_of keys.old.items)
+        (map id_of keys.new.items)) }
     ensures ok { OnOk result (IsAscending (map id_of keys.old.items) →
         SetsPlace reference.now at (map id_of keys.old.items) (map id_of keys.new.items)) }
     ensures err { IfErr result (λ e. e ≡ OutOfMemory) }
 {
     match keys.binary_search_by(|key| key.reference.as_str().cmp(reference)) {
         Ok(place) => {
+            *frame = Frame {
+                front: place,
+                back: keys.len() - place - 1,
+            };
             if at.is_some() {
                 return Ok(false);
             }
@@ -102,6 +129,10 @@ fn set_place(
             Ok(true)
         }
         Err(place) => {
+            *frame = Frame {
+                front: place,
+                back: keys.len() - place,
+            };
             let Some(added) = at else {
                 return Ok(false);
             };

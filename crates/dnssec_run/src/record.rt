@@ -8,6 +8,7 @@ ghost use Rattle.dnssec_run.specs.Published.{id_of};
 ghost use Rattle.dnssec_run.specs.Safe.{Ds, Dnskey, ZoneSigners, kind_of};
 
 use crate::caches::SetKind;
+use crate::frames::Frames;
 use dnssec_keyset::{Action, Error, KeySet, RollType, UnixTime};
 use std::alloc::Global;
 
@@ -169,6 +170,8 @@ pub struct Outcome {
     /// Whether the call may have changed what is published: its reply asks to publish a set, or it
     /// set a key by hand and so changed a set. If not, the sets are those of the position before.
     pub may_publish: bool,
+    /// What stands around the changes of the sets, if the call may have changed them.
+    pub frames: Frames,
 }
 
 /// A key set after its calls, with one entry for each: `entries[i]` is that of position `i + 1`.

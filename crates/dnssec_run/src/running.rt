@@ -6,6 +6,7 @@ ghost use Rattle.std.specs.Prelude.{true, false, IsSome, Some, None, if◌then�
 ghost use Rattle.dnssec_base.specs.declared.error.Error.TheVariants.{OutOfMemory};
 ghost use Rattle.dnssec_run.specs.Asked.{ChangesAsAsked, RetiresAsAsked, asks_to_publish};
 ghost use Rattle.dnssec_run.specs.EarlyEnds.{UndoesStarts};
+ghost use Rattle.dnssec_run.specs.Frames.{KeepsFrames};
 ghost use Rattle.dnssec_run.specs.WholeRolls.{GoesOn, NeverMissesStamp, RollsFinish};
 ghost use Rattle.dnssec_run.specs.WholeRolls.{SettlesBetweenRolls, WaitsExactly};
 ghost use Rattle.dnssec_run.specs.Plain.{StaysSafe};
@@ -18,6 +19,7 @@ ghost use Rattle.dnssec_run.specs.declared.call.Call.{Call};
 ghost use Rattle.dnssec_run.specs.declared.record.Entry.{Entry};
 
 use crate::call::{Call, KeyChange};
+use crate::frames::Frames;
 use crate::record::{Entry, Mark, Outcome, Published, Reply, Run};
 use crate::sets::{WalkOrder, copy_sets, renew};
 use dnssec_base::Name;
@@ -60,7 +62,8 @@ fn note(
 /// let mut recorder = Recorder::new(alloc, name);
 /// for call in calls {
 ///     let outcome = recorder.advance(alloc, call)?;
-///     judge.note(alloc, outcome.mark, outcome.moment, recorder.news(&outcome))?;
+///     let news = recorder.news(&outcome);
+///     judge.note_changes(alloc, outcome.mark, outcome.moment, news, &outcome.frames)?;
 /// }
 /// ```
 #[derive(Drop)]
@@ -113,6 +116,8 @@ impl Recorder {
             outcome.may_publish ≡ asks_to_publish outcome.reply) }
         ensures by_hand { IfOk result (λ outcome. IsSome (reference_set (call_of call.entry)) →
             outcome.may_publish ≡ true → ¬ HasSameKeys self.old.published self.new.published) }
+        ensures frames { IfOk result (λ outcome. outcome.may_publish ≡ true →
+            KeepsFrames outcome.frames self.old.published self.new.published) }
         ensures err { IfErr result (λ e. e ≡ OutOfMemory) }
     {
         let Some(at) = self.at.checked_add(1) else {
@@ -130,10 +135,12 @@ impl Recorder {
                 moment,
                 mark: Mark::Other,
                 may_publish: false,
+                frames: Frames::NONE,
             });
         }
         self.order.is_stale |= note(&mut self.added, change, at)?;
         let touched = reply.touched(by_hand);
+        let mut frames = Frames::NONE;
         let may_publish = renew(
             alloc,
             &self.keyset,
@@ -141,12 +148,14 @@ impl Recorder {
             &mut self.order,
             &mut self.published,
             touched,
+            &mut frames,
         )?;
         Ok(Outcome {
             reply,
             moment,
             mark,
             may_publish,
+            frames,
         })
     }
 

@@ -5,10 +5,12 @@ ghost use Rattle.std.specs.BTreeMap as tree;
 ghost use Rattle.std.specs.HashMap as hash;
 ghost use Rattle.std.specs.Option.{option_map};
 ghost use Rattle.dnssec_base.specs.declared.error.Error.TheVariants.{OutOfMemory};
+ghost use Rattle.dnssec_run.specs.Frames.{KeepsFrames};
 ghost use Rattle.dnssec_run.specs.Published.{IsPublished, World, id_of};
 ghost use Rattle.dnssec_run.specs.Recorder.{Agrees, AreFound, ChangesOnly, HasSameKeys, Leaves};
 ghost use Rattle.dnssec_run.specs.Recorder.{ids_read, shown_once, shows};
 
+use crate::frames::{Frame, Frames};
 use crate::places::renew_key;
 use crate::record::{Published, PublishedKey, Touched};
 use dnssec_keyset::{Error, Key, KeySet, KeyType};
@@ -278,12 +280,20 @@ fn read_sets(
     order: &mut WalkOrder,
     sets: &mut Published,
     touched: Touched<'_>,
+    frames: &mut Frames,
 ) -> Result<(), Error>
+    ensures frames { OnOk result (KeepsFrames frames.new sets.old sets.new) }
     ensures ok { OnOk result ((v w : World) → IsPublished sets.old v → Leaves touched.entry v w →
         Agrees keyset.now (tree.get_by_text added.now) w → IsPublished sets.new w) }
     ensures err { IfErr result (λ e. e ≡ OutOfMemory) }
 {
     let keys = keyset.keys();
+    *frames = Frames {
+        ds: Frame::of(touched.ds, sets.ds.len()),
+        dnskey: Frame::of(touched.dnskey, sets.dnskey.len()),
+        dnskey_signers: Frame::of(touched.dnskey, sets.dnskey_signers.len()),
+        zone_signers: Frame::of(touched.zone_signers, sets.zone_signers.len()),
+    };
     let mut ds = Renewal::new(alloc, &mut sets.ds, touched.ds);
     let mut dnskey = Renewal::new(alloc, &mut sets.dnskey, touched.dnskey);
     let mut dnskey_signers = Renewal::new(alloc, &mut sets.dnskey_signers, touched.dnskey);
@@ -307,7 +317,7 @@ fn read_sets(
 }
 
 /// Renews the sets that a call has touched, and says whether there are any. After a setter it looks
-/// only at that key, and says whether they have changed.
+/// only at that key, and says whether they have changed. Notes the frames of the changes.
 pub(crate) fn renew(
     alloc: Global,
     keyset: &KeySet,
@@ -315,7 +325,10 @@ pub(crate) fn renew(
     order: &mut WalkOrder,
     sets: &mut Published,
     touched: Touched<'_>,
+    frames: &mut Frames,
 ) -> Result<bool, Error>
+    ensures frames { IfOk result (λ changed. changed ≡ true →
+        KeepsFrames frames.new sets.old sets.new) }
     ensures kept { IfOk result (λ changed. changed ≡ false → sets.new ≡ sets.old) }
     ensures walked { IfOk result (λ changed. touched.entry.only ≡ None → changed
         ≡ (touched.entry.ds || touched.entry.dnskey || touched.entry.zone_signers)) }
@@ -336,9 +349,9 @@ pub(crate) fn renew(
         Touched {
             only: Some(reference),
             ..
-        } => renew_key(alloc, keyset, added, sets, touched, reference),
+        } => renew_key(alloc, keyset, added, sets, touched, reference, frames),
         Touched { only: None, .. } => {
-            read_sets(alloc, keyset, added, order, sets, touched)?;
+            read_sets(alloc, keyset, added, order, sets, touched, frames)?;
             Ok(true)
         }
     }

@@ -193,3 +193,85 @@ stand-end t (n ∷ ns) = (λ e. absurd (no e), λ h. absurd (cc))
   where
     no : (suc (length ns) == 0) ≡ true → ⊥
     no e = grind arith
+
+-- numbers stand for one list
+pub stand-once : (t : Numbers) (ns : List ℕ) (ks ls : List Id) → StandFor t ns ks → StandFor t ns ls
+    → ks ≡ ls
+stand-once t ns ks ls h g = same-some ks ls (sym h ∙ g)
+  where
+    same-some : (ks ls : List Id) → map {B = Option Id} Some ks ≡ map Some ls → ks ≡ ls
+    same-some [] [] e = refl
+    same-some [] (l ∷ ls) e = absurd (cc)
+    same-some (k ∷ ks) [] e = absurd (cc)
+    same-some (k ∷ ks) (l ∷ ls) e =
+        let one : k ≡ l = cc in
+        let rest : map {B = Option Id} Some ks ≡ map Some ls = cc in
+        let more = same-some ks ls rest in
+        λ i. one i ∷ more i
+
+-- two lists after each other
+pub stand-both : (t : Numbers) (ns ms : List ℕ) (ks ls : List Id) → StandFor t ns ks
+    → StandFor t ms ls → StandFor t (ns ++ ms) (ks ++ ls)
+stand-both t ns ms ks ls h g =
+    map-append (key_at t) ns ms ∙ (λ i. h i ++ g i)
+    ∙ sym (map-append {A = Id} {B = Option Id} Some ks ls)
+
+-- ---- parts of lists
+
+-- a list whose image falls into two parts falls into two parts
+pub record InTwo {A B : Type 0} (f : A → B) (xs : List A) (ys zs : List B) : Type 0 where
+  pub one : List A
+  pub two : List A
+  pub whole : xs ≡ one ++ two
+  pub is_one : map f one ≡ ys
+  pub is_two : map f two ≡ zs
+
+pub in-two : {A B : Type 0} (f : A → B) (xs : List A) (ys zs : List B) → map f xs ≡ ys ++ zs
+    → InTwo f xs ys zs
+in-two f xs [] zs e = record { one = []; two = xs; whole = refl; is_one = refl; is_two = e }
+in-two f [] (y ∷ ys) zs e = absurd (cc)
+in-two {A} {B} f (x ∷ xs) (y ∷ ys) zs e =
+    let first : f x ≡ y = cc in
+    let rest : map f xs ≡ ys ++ zs = cc in
+    let more = in-two f xs ys zs rest in
+    record {
+      one = x ∷ more.one;
+      two = more.two;
+      whole = λ i. x ∷ more.whole i;
+      is_one = λ i. first i ∷ more.is_one i;
+      is_two = more.is_two;
+    }
+
+-- and into three
+pub record InThree {A B : Type 0} (f : A → B) (xs : List A) (ys zs us : List B) : Type 0 where
+  pub one : List A
+  pub two : List A
+  pub three : List A
+  pub whole : xs ≡ one ++ (two ++ three)
+  pub is_one : map f one ≡ ys
+  pub is_two : map f two ≡ zs
+  pub is_three : map f three ≡ us
+
+pub in-three : {A B : Type 0} (f : A → B) (xs : List A) (ys zs us : List B)
+    → map f xs ≡ ys ++ (zs ++ us) → InThree f xs ys zs us
+in-three f xs ys zs us e =
+    let begin = in-two f xs ys (zs ++ us) e in
+    let end = in-two f begin.two zs us begin.is_two in
+    record {
+      one = begin.one;
+      two = end.one;
+      three = end.two;
+      whole = begin.whole ∙ ap (λ more. begin.one ++ more) end.whole;
+      is_one = begin.is_one;
+      is_two = end.is_one;
+      is_three = end.is_two;
+    }
+
+-- the numbers of a list that falls into three parts fall into three parts
+pub stand-three : (t : Numbers) (ns : List ℕ) (whole ks ls ms : List Id)
+    → whole ≡ ks ++ (ls ++ ms) → StandFor t ns whole
+    → InThree (key_at t) ns (map Some ks) (map Some ls) (map Some ms)
+stand-three t ns whole ks ls ms is h =
+    in-three (key_at t) ns (map Some ks) (map Some ls) (map Some ms)
+    (h ∙ ap (map {B = Option Id} Some) is ∙ map-append {B = Option Id} Some ks (ls ++ ms)
+    ∙ ap (λ more. map {B = Option Id} Some ks ++ more) (map-append {B = Option Id} Some ls ms))

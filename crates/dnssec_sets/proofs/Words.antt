@@ -6,12 +6,12 @@ use Rattle.std.proofs.lemmas.Bool.{cases_lt, ltb-false, true≢false}
 use Rattle.std.proofs.lemmas.Bool.Decides.{Decides-and, Decides-eqb, Decides-like, Decides-not}
 use Rattle.std.proofs.lemmas.Bool.Decides.{nat_tests}
 use Rattle.std.proofs.lemmas.Nat.Bits.{bit_at-lt, bit_at-zero, bit_at_and, bit_at-trailing_zeros}
-use Rattle.std.proofs.lemmas.Nat.Bits.{bit_at_set_same, bit_at_set_other, bit_at_xor}
+use Rattle.std.proofs.lemmas.Nat.Bits.{bit_at_set_same, bit_at_set_other}
 use Rattle.std.proofs.lemmas.List.{get_or-set_same, get_or-set_other, take_all, take_more}
 use Rattle.std.proofs.lemmas.Option.{get_or_from_slice_get, slice_get_within}
 use Rattle.std.specs.{Bool.Decides, Int.bit_at, Int.w64, Int.trailing_zeros, Int.Bits.bit_and}
-use Rattle.std.specs.Int.Bits.{bit_or, bit_xor}
-use Rattle.std.specs.Prelude.{◌&&◌, ◌||◌, ◌^◌, ◌*◌, ◌+◌, if◌then◌else◌, get_or, min, nat_eq, not}
+use Rattle.std.specs.Int.Bits.{bit_or}
+use Rattle.std.specs.Prelude.{◌&&◌, ◌||◌, ◌^◌, ◌*◌, ◌+◌, if◌then◌else◌, get_or, min, nat_eq}
 use Rattle.std.specs.Prelude.{◌-◌, Some, nat_lt, set, slice_get}
 use Rattle.dnssec_sets.specs.Bits.{HasSome, Share, ShareAll, all_at, any_below, common_at, end_of}
 use Rattle.dnssec_sets.specs.Bits.{has_bit, has_none, meet, meet_three, word_at}

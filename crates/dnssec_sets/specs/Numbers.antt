@@ -31,11 +31,10 @@ Grows old new = (n : ℕ) (k : Id) → key_at old n ≡ Some k → key_at new n 
 abbrev pub StandFor : Numbers → List ℕ → List Id → Type 0
 StandFor t numbers keys = map (key_at t) numbers ≡ map Some keys
 
--- a list was read: it has these numbers; or it is the one of before
-abbrev pub IsRead : Numbers → Numbers → List ℕ → List Id → Option (List ℕ) → Type 0
-IsRead old new before keys None = StandFor old before keys
-IsRead old new before keys (Some numbers) = StandFor new numbers keys
-    × ((ks : List Id) → StandFor old before ks → same_ids ks keys ≡ false)
+-- a list was read after another: it has these numbers; or it is that one
+abbrev pub IsRead : Numbers → List Id → List Id → Option (List ℕ) → Type 0
+IsRead t was keys None = was ≡ keys
+IsRead t was keys (Some numbers) = StandFor t numbers keys × (same_ids was keys ≡ false)
 
 -- the bits are those of the keys of a list
 pub record Means (t : Numbers) (words : List ℕ) (keys : List Id) : Type 0 where

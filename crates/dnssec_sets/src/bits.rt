@@ -93,10 +93,10 @@ impl Bits {
             ≡ get_or self.old.rest.items i 0) }
         ensures err { IfErr result (λ e. e ≡ OutOfMemory) }
     {
-        let Some(more) = len.checked_sub(self.rest.len()) else {
+        if len <= self.rest.len() {
             return Ok(());
-        };
-        self.rest.reserve_exact(more)?;
+        }
+        self.rest.reserve_exact(len - self.rest.len())?;
         self.rest.resize(len, 0)?;
         Ok(())
     }

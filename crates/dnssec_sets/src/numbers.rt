@@ -1,14 +1,16 @@
 //! The keys of a record as small numbers.
 ghost use Rattle.std.specs.Prelude.{◌↔◌};
 ghost use Rattle.std.specs.Prelude.{◌≡◌, ◌≤◌, ◌-◌, ℕ, false, true, Option, None, Some, map, nat_eq};
-ghost use Rattle.std.specs.Prelude.{IfOk, IfErr, IfSome, IsSome, OnOk, slice_get, vec_len};
+ghost use Rattle.std.specs.Prelude.{◌++◌, IfOk, IfErr, IfSome, IsSome, List, OnOk, length, slice_get};
+ghost use Rattle.std.specs.Prelude.{vec_len};
 ghost use Rattle.std.specs.{HashMap.get, Option.option_copied, Option.option_map};
 ghost use Rattle.dnssec_base.specs.declared.error.Error.TheVariants.{OutOfMemory};
+ghost use Rattle.dnssec_run.specs.Frames.{KeepsFrame};
 ghost use Rattle.dnssec_run.specs.Published.{Id, id_of};
 ghost use Rattle.dnssec_sets.specs.Numbers.{Grows, IsRead, IsTable, StandFor, key_at, key_in};
 
 use dnssec_keyset::Error;
-use dnssec_run::PublishedKey;
+use dnssec_run::{Frame, PublishedKey};
 use std::alloc::Global;
 use std::collections::HashMap;
 
@@ -64,31 +66,36 @@ impl Numbers {
         })
     }
 
-    /// The numbers of the keys of a list, or `None` if it is the list of before. Most keys stand
-    /// where they stood before.
+    /// The numbers of the keys of a list, or `None` if it is the list of before. It reads only what
+    /// may have changed, and there most keys stand where they stood before.
     pub fn read(
         &mut self,
         alloc: Global,
         list: &[PublishedKey],
         before: &[usize],
+        frame: Frame,
     ) -> Result<Option<Vec<usize>>, Error>
-        ensures ok { IfOk result (λ numbers. IsTable self.old →
-            IsRead self.old self.new before.now (map id_of list.now)
-            (option_map (λ ns. ns.items) numbers)) }
+        ensures ok { IfOk result (λ numbers. (was : List Id) → IsTable self.old →
+            StandFor self.old before.now was → KeepsFrame frame was (map id_of list.now) →
+            IsRead self.new was (map id_of list.now) (option_map (λ ns. ns.items) numbers)) }
         ensures table { OnOk result (IsTable self.old → IsTable self.new) }
         ensures grows { OnOk result (IsTable self.old → Grows self.old self.new) }
         ensures err { IfErr result (λ e. e ≡ OutOfMemory) }
     {
-        if self.are(before, list) {
+        let (front, middle, back) = parts(before, frame);
+        let (_, changed, _) = parts(list, frame);
+        if self.are(middle, changed) {
             return Ok(None);
         }
         let mut numbers = Vec::with_capacity(alloc, list.len())?;
-        let mut rest = before;
-        for key in list {
+        numbers.extend_from_slice(front)?;
+        let mut rest = middle;
+        for key in changed {
             let (number, others) = self.next_number(rest, key)?;
             numbers.push(number)?;
             rest = others;
         }
+        numbers.extend_from_slice(back)?;
         Ok(Some(numbers))
     }
 
@@ -299,6 +306,18 @@ impl Numbers {
             None => false,
         }
     }
+}
+
+/// A list in three parts: what stands in front of a change, what may have changed, and what stands
+/// behind it.
+fn parts<T>(list: &[T], frame: Frame) -> (&[T], &[T], &[T])
+    ensures { (front middle back : List T) → list.now ≡ front ++ (middle ++ back) →
+        length front ≡ frame.front → length back ≡ frame.back →
+        (result.0.now ≡ front) × (result.1.now ≡ middle) × (result.2.now ≡ back) }
+{
+    let (front, rest) = list.split_at(frame.front.min(list.len()));
+    let (middle, back) = rest.split_at(rest.len().saturating_sub(frame.back));
+    (front, middle, back)
 }
 
 /// Notes a number with its key, or that no key has it.

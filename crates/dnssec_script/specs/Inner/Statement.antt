@@ -5,6 +5,7 @@ use Rattle.dnssec_run.specs.declared.call.Call.{Call}
 use Rattle.dnssec_run.specs.declared.record.Entry.{Entry}
 use Rattle.dnssec_run.specs.declared.record.Outcome.{Outcome}
 use Rattle.dnssec_run.specs.declared.running.Recorder.{Recorder}
+use Rattle.dnssec_run.specs.Frames.{KeepsFrames}
 use Rattle.dnssec_run.specs.Recorder.{HasSameKeys, Records, TellsOutcome}
 use Rattle.dnssec_script.specs.Script.{Value, References, Roll, Moment, call_says, trait_values}
 use Rattle.dnssec_script.specs.declared.forms.KeyTraits.{KeyTraits}
@@ -72,6 +73,8 @@ pub record Makes (says : Word × List Value) (old new : Recorder) (outcome : Out
       Records name calls entries old →
       Records name (calls ++ call ∷ []) (entries ++ entry ∷ []) new
   pub kept : outcome.may_publish ≡ false → new.published ≡ old.published
+  pub frames : outcome.may_publish ≡ true →
+      KeepsFrames outcome.frames old.published new.published
 
 -- the same, and this is its entry
 pub record MakesEntry (says : Word × List Value) (old new : Recorder) (entry : Entry)

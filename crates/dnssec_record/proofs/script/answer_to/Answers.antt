@@ -18,13 +18,13 @@ pub loop-statement-preserved : goal.loop-statement-preserved
 loop-statement-preserved c =
     one_more _ _ _ _ _ _ _ _ c.loop-statement.invariant c.in-Some.ensures.steps.0
     c.in-Some.ensures.steps.1 c.in-Ok-advance.ensures c.news-news.ensures
-    c.in-Ok-note.ensures.ok c.in_ok-push_answer.ensures
+    c.in-Ok-noted.ensures.ok c.in_ok-push_answer.ensures
 
 pub loop-statement-preserved-in_ok-push_answer : goal.loop-statement-preserved-in_ok-push_answer
 loop-statement-preserved-in_ok-push_answer c =
     one_more _ _ _ _ _ _ _ _ c.loop-statement.invariant c.in-Some.ensures.steps.0
     c.in-Some.ensures.steps.1 c.in-Ok-advance.ensures c.news-news.ensures
-    c.in-Ok-note.ensures.ok c.in_ok-push_answer.ensures
+    c.in-Ok-noted.ensures.ok c.in_ok-push_answer.ensures
 
 pub returns-clause-ok : goal.returns-clause-ok
 returns-clause-ok c =

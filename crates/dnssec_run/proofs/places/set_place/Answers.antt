@@ -1,6 +1,7 @@
 -- A search ends at the key, or in the gap for it.
-use Rattle.std.proofs.Common.{◌∙◌, ◌≤◌, ◌<◌, length, rules, subst, sym}
+use Rattle.std.proofs.Common.{◌≡◌, ◌∙◌, ◌≤◌, ◌<◌, arith, length, rules, subst, sym}
 use Rattle.std.proofs.lemmas.Fn.{always_returns_same}
+use Rattle.dnssec_run.proofs.Around.{keeps-gap, keeps-there, keeps-with, keeps-without}
 use Rattle.dnssec_run.proofs.OneKey.{IsFound, IsMissed, leaves-gap, leaves-key, longer, puts-key}
 use Rattle.dnssec_run.proofs.OneKey.{shorter, stands, takes-key}
 use Rattle.dnssec_run.proofs.places.set_place.Goals as goal
@@ -57,3 +58,35 @@ returns-in_ok-insert-in-Err-clause-changed c = λ changed.
     longer _ _ c.in-Err.place c.in_ok-key-in-Err.key
     (subst (λ keys. c.in-Err.place ≤ length keys) c.deref.ensures.value c.in-Err.ensures.bound)
     c.in_ok-insert-in-Err.ensures.items
+
+pub returns-then-is_some-clause-frame : goal.returns-then-is_some-clause-frame
+returns-then-is_some-clause-frame c =
+    let keys = c.args.keys.now.items in
+    let long : c.len.result ≡ length keys = search rules in
+    keeps-there keys c.in-Ok.place _
+    (subst (λ keys. c.in-Ok.place < length keys) c.deref.ensures.value c.in-Ok.ensures.bound)
+    (omega (arith, long))
+
+pub returns-else-is_some-clause-frame : goal.returns-else-is_some-clause-frame
+returns-else-is_some-clause-frame c =
+    let keys = c.args.keys.now.items in
+    let long : c.len.result ≡ length keys = search rules in
+    keeps-without keys c.remove.new.self.items c.in-Ok.place _
+    (subst (λ keys. c.in-Ok.place < length keys) c.deref.ensures.value c.in-Ok.ensures.bound)
+    (omega (arith, long)) c.remove.ensures.items
+
+pub returns-in_default-clause-frame : goal.returns-in_default-clause-frame
+returns-in_default-clause-frame c =
+    let keys = c.args.keys.now.items in
+    let long : c.len-in-Err.result ≡ length keys = search rules in
+    keeps-gap keys c.in-Err.place _
+    (subst (λ keys. c.in-Err.place ≤ length keys) c.deref.ensures.value c.in-Err.ensures.bound)
+    (omega (arith, long))
+
+pub returns-in_ok-insert-in-Err-clause-frame : goal.returns-in_ok-insert-in-Err-clause-frame
+returns-in_ok-insert-in-Err-clause-frame c =
+    let keys = c.args.keys.now.items in
+    let long : c.len-in-Err.result ≡ length keys = search rules in
+    keeps-with keys c.insert.new.self.items c.in-Err.place _ c.in_ok-key-in-Err.key
+    (subst (λ keys. c.in-Err.place ≤ length keys) c.deref.ensures.value c.in-Err.ensures.bound)
+    (omega (arith, long)) c.in_ok-insert-in-Err.ensures.items

@@ -1,8 +1,9 @@
 -- Each of the four lists is the keys that its set shows.
-use Rattle.std.proofs.Common.{◌≡◌, Bool, rules}
+use Rattle.std.proofs.Common.{◌≡◌, Bool, length, rules}
 use Rattle.std.specs.HashMap as hash
 use Rattle.dnssec_key.specs.declared.kind.KeyType.{KeyType}
 use Rattle.dnssec_run.specs.Published.{in_ds, in_dnskey, signs_dnskey, signs_zone}
+use Rattle.dnssec_run.proofs.Around.{read-frame}
 use Rattle.dnssec_run.proofs.Positions.{passing-shown, reads-all, reads-begin, reads-next}
 use Rattle.dnssec_run.proofs.sets.read_sets.Goals as goal
 
@@ -65,4 +66,28 @@ returns-clause-ok c v w was leaves agrees =
       zone_signers = let into = c.into_keys-4.ensures in
           reads-all signs_zone key _ _ _ _ _ _ v w none inv.zone_signers into.touched into.left
           (shown signs_zone) was.zone_signers leaves.zone_signers;
+    }
+
+pub returns-clause-frames : goal.returns-clause-frames
+returns-clause-frames c =
+    let inv = c.loop-reference.invariant in
+    let key = hash.get_by_text c.keys-keys.result.now in
+    let sets = c.args.sets.now in
+    let ds : c.len.result ≡ length sets.ds.items = search rules in
+    let dnskey : c.len-2.result ≡ length sets.dnskey.items = search rules in
+    let signers : c.len-3.result ≡ length sets.dnskey_signers.items = search rules in
+    let zone : c.len-4.result ≡ length sets.zone_signers.items = search rules in
+    record {
+      ds = let of = c.of.ensures in
+          read-frame in_ds key _ _ _ _ _ _ _ _ ds of.left of.touched inv.ds
+          c.into_keys.ensures.left;
+      dnskey = let of = c.of-2.ensures in
+          read-frame in_dnskey key _ _ _ _ _ _ _ _ dnskey of.left of.touched inv.dnskey
+          c.into_keys-2.ensures.left;
+      dnskey_signers = let of = c.of-3.ensures in
+          read-frame signs_dnskey key _ _ _ _ _ _ _ _ signers of.left of.touched
+          inv.dnskey_signers c.into_keys-3.ensures.left;
+      zone_signers = let of = c.of-4.ensures in
+          read-frame signs_zone key _ _ _ _ _ _ _ _ zone of.left of.touched inv.zone_signers
+          c.into_keys-4.ensures.left;
     }

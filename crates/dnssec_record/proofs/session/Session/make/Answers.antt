@@ -8,7 +8,7 @@ pub returns : goal.returns
 returns c name calls entries stands =
     let new : Session = record {
       recorder = c.advance.new.self;
-      judge = c.note.new.self;
+      judge = c.note_changes-noted.new.self;
       courses = c.take.new.self;
       moments = c.take-2.new.self;
     } in
@@ -17,7 +17,8 @@ returns c name calls entries stands =
       is_call = refl;
       records = c.in-Ok.ensures.ok;
       kept = c.in-Ok.ensures.kept;
-    }) c.news-news.ensures c.in-Ok-note.ensures.ok _
+      frames = c.in-Ok.ensures.frames;
+    }) c.news-news.ensures c.in-Ok-noted.ensures.ok _
     (c.after.ensures ∙ ap (λ t. turn_after t c.in-Ok.outcome.reply) c.of-turn.ensures)
     c.in_ok-take.ensures.listed c.in_ok-take.ensures.ended c.in_ok-take-2.ensures.ok in
     record {

@@ -72,5 +72,6 @@ returns c = record {
       ∙ hand.only in
       c.in_ok-may_publish.ensures.by_hand
       (sym (map-some (λ (r : Bor (List ℕ)). r.now) _) ∙ ap is_some only ∙ some) changed;
+  frames = c.in_ok-may_publish.ensures.frames;
   err = tt;
 }

@@ -10,7 +10,7 @@ returns-clause-rest c i =
     let rest = c.args.self.now.rest in let len = c.args.len in
     let m = len - vec_len c.reserve_exact.new.self in
     let le : length rest.items ≤ len =
-    omega (arith, c.in-Some.ensures, c.len.ensures, rest.ok.0) in
+    omega (arith, c.if-len.false, c.len.ensures, rest.ok.0) in
     ap (λ (ws : List ℕ). get_or ws i 0)
     (c.in_ok-resize.ensures.items
     ∙ ap (λ (ws : List ℕ). take len ws ++ replicate m 0) c.in_ok-reserve_exact.ensures.items)

@@ -7,15 +7,15 @@ use Rattle.dnssec_sets.specs.{Bits.words_of, Numbers.MeansSet, Sets.Numbered}
 use Rattle.dnssec_judge.proofs.window.last.Last.read.Goals as goal
 
 pub returns-then-not-branch-clause-news : goal.returns-then-not-branch-clause-news
-returns-then-not-branch-clause-news c before table stands =
+returns-then-not-branch-clause-news c before table stands keep =
     sym ((same-set before (map id_of c.args.keys.now, map id_of c.args.signers.now)).0
-    (c.in_ok-renew.ensures.same before table stands ∙ ap not c.if-not-branch.true))
+    (c.in_ok-renew.ensures.same before table stands keep ∙ ap not c.if-not-branch.true))
 
 pub returns-clause-news : goal.returns-clause-news
-returns-clause-news c before table stands =
+returns-clause-news c before table stands keep =
     let t = c.renew.new.numbers in
     let keys = map id_of c.args.keys.now in let signers = map id_of c.args.signers.now in
-    let stand = c.in_ok-renew.ensures.set table in
+    let stand = c.in_ok-renew.ensures.set before table stands keep in
     let parts = c.new.ensures in
     let is = ap (λ p. p.0) parts in (
       subst (λ (p : Numbered). MeansSet t p (keys, signers)) (sym is) (
@@ -26,7 +26,7 @@ returns-clause-news c before table stands =
             (λ n. c.in_ok-signers.ensures.ok n
             ∙ ap (λ (ns : List ℕ). list_any (λ m. nat_eq m n) ns) c.deref-2.ensures.value),
       ),
-      c.in_ok-renew.ensures.same before table stands ∙ ap not c.if-not-branch.false,
+      c.in_ok-renew.ensures.same before table stands keep ∙ ap not c.if-not-branch.false,
       ap (λ p. p.1) parts,
       ap (λ p. p.2) parts,
     )
