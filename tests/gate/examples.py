@@ -97,7 +97,7 @@ def public_items():
     """Each public name of the crates, with the highest crate that has it."""
     items = {}
     crates = ["base", "key", "keyset", "run", "judge", "network", "record", "notes", "policy"]
-    crates += ["policy_text", "automatic"]
+    crates += ["automatic"]
     for crate in reversed(crates):
         text = (CRATES / f"dnssec_{crate}" / "src" / "lib.rt").read_text()
         for path, listed in PUBLIC.findall(text):

@@ -16,8 +16,8 @@ use Rattle.dnssec_policy.specs.ByHand.{first_by_hand}
 use Rattle.dnssec_policy.specs.Next.{answer_of}
 use Rattle.dnssec_policy.specs.Todo.{Todo}
 use Rattle.dnssec_policy.specs.View.{View}
-use Rattle.dnssec_policy_text.specs.Lint.{highest_of, too_short}
-use Rattle.dnssec_policy_text.specs.Reading.{policy_of}
+use Rattle.dnssec_policy.specs.Text.Lint.{highest_of, too_short}
+use Rattle.dnssec_policy.specs.Text.Reading.{policy_of}
 use Rattle.dnssec_automatic.specs.Lines.{todo_line}
 use Rattle.dnssec_automatic.specs.Zone.{Says}
 use Rattle.dnssec_automatic.specs.declared.zone.AutomaticZone.{AutomaticZone}

@@ -4,8 +4,8 @@ use Rattle.dnssec_notes.specs.Texts.{due_fault_text}
 use Rattle.dnssec_notes.specs.declared.fault.DueFault.TheVariants.{Script, Notes}
 use Rattle.dnssec_notes.specs.declared.fault.NotesFault.TheVariants as notes
 use Rattle.dnssec_record.specs.declared.fault.ScriptFault.TheVariants as script
-use Rattle.dnssec_policy_text.specs.declared.fault.PolicyFault.TheVariants as policy
-use Rattle.dnssec_policy_text.specs.Texts.{fault_text, too_short_text}
+use Rattle.dnssec_policy.specs.declared.text.fault.PolicyFault.TheVariants as policy
+use Rattle.dnssec_policy.specs.Text.Faults.{fault_text, too_short_text}
 use Rattle.dnssec_automatic.specs.declared.fault.NextFault.{NextFault}
 use Rattle.dnssec_automatic.specs.declared.fault.NextFault.TheVariants.{OutOfMemory}
 use Rattle.dnssec_automatic.specs.declared.fault.NextFault.TheVariants.{Policy, TooShort, Zone}

@@ -1,7 +1,7 @@
 -- The notes of a zone.
 use Rattle.std.specs.Prelude.{◌≡◌, ◌++◌, ◌∷◌, []}
 use Rattle.dnssec_network.specs.declared.fact.Fact.{Fact}
-use Rattle.dnssec_policy_text.specs.Lint.{AreHighest}
+use Rattle.dnssec_policy.specs.Text.Lint.{AreHighest}
 use Rattle.dnssec_automatic.specs.declared.zone_notes.ZoneNotes.{ZoneNotes}
 
 -- the highest TTLs are those of the notes

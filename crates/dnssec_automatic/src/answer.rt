@@ -1,6 +1,6 @@
 //! What to do next, by texts.
 ghost use Rattle.std.specs.Prelude.{◌≡◌, ◌*◌, ℕ, IfOk, List, None, OnOk, string_bytes};
-ghost use Rattle.dnssec_policy_text.specs.Lint.{highest_of, too_short};
+ghost use Rattle.dnssec_policy.specs.Text.Lint.{highest_of, too_short};
 ghost use Rattle.dnssec_run.specs.declared.call.Call.{Call as AnyCall};
 ghost use Rattle.dnssec_run.specs.declared.record.Entry.{Entry};
 ghost use Rattle.dnssec_automatic.specs.Answer.{AnswersBy, AnswersNext, SaysLine};
@@ -11,8 +11,7 @@ use crate::fault::NextFault;
 use crate::line::next_line;
 use crate::zone::AutomaticZone;
 use dnssec_keyset::UnixTime;
-use dnssec_policy::Policy;
-use dnssec_policy_text::read_policy;
+use dnssec_policy::{Policy, read_policy};
 use std::alloc::{AllocError, Global};
 use std::time::Duration;
 

@@ -5,7 +5,7 @@ ghost use Rattle.dnssec_automatic.specs.declared.fault.NextFault.TheVariants.{Ou
 ghost use Rattle.dnssec_automatic.specs.declared.fault.NextFault.TheVariants as fault;
 
 use dnssec_notes::{DueFault, NotesFault};
-use dnssec_policy_text::{PolicyFault, TooShort};
+use dnssec_policy::{PolicyFault, TooShort};
 use dnssec_record::ScriptFault;
 use std::alloc::AllocError;
 use std::fmt;

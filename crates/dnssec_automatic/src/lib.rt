@@ -13,7 +13,7 @@ pub use answer::answer_next;
 pub use dnssec_policy::{
     Cds, HighestTtls, KeyRole, KskMethod, Next, Policy, Scheme, Term, Why, ZskMethod,
 };
-pub use dnssec_policy_text::{PolicyFault, TooShort, policy_text, read_policy, too_short};
+pub use dnssec_policy::{PolicyFault, TooShort, policy_text, read_policy, too_short};
 pub use fault::NextFault;
 pub use line::next_line;
 pub use text::answer_text;

@@ -10,7 +10,7 @@ use crate::answer::answer_next;
 use crate::fault::NextFault;
 use crate::zone::AutomaticZone;
 use dnssec_notes::{DueFault, NotesFault, cut, without_end};
-use dnssec_policy_text::read_policy;
+use dnssec_policy::read_policy;
 use dnssec_record::{Fields, all_lines};
 use std::alloc::Global;
 

@@ -4,7 +4,7 @@ ghost use Rattle.dnssec_run.specs.declared.call.Call.{Call as AnyCall};
 ghost use Rattle.dnssec_run.specs.declared.record.Entry.{Entry};
 ghost use Rattle.dnssec_policy.specs.Automatic.{is_add};
 ghost use Rattle.dnssec_policy.specs.Code.{todo_of};
-ghost use Rattle.dnssec_policy_text.specs.Lint.{highest_of, too_short};
+ghost use Rattle.dnssec_policy.specs.Text.Lint.{highest_of, too_short};
 ghost use Rattle.dnssec_automatic.specs.Calls.{GoesOn, IsAfter};
 ghost use Rattle.dnssec_automatic.specs.ZoneNotes.{HasHighest};
 ghost use Rattle.dnssec_automatic.specs.Zone.{Adds, Advances, IsAutomaticAfter, Makes};
@@ -16,8 +16,7 @@ use dnssec_base::Name;
 use dnssec_keyset::UnixTime;
 use dnssec_network::{Before, News, NoteFault, SetKind};
 use dnssec_notes::DueFault;
-use dnssec_policy::{Next, Policy, State, automatic_runs_reach_resolvers, next};
-use dnssec_policy_text::{TooShort, too_short};
+use dnssec_policy::{Next, Policy, State, TooShort, automatic_runs_reach_resolvers, next, too_short};
 use dnssec_record::{Call, Reply, Session};
 use std::alloc::{AllocError, Global};
 

@@ -6,7 +6,7 @@ ghost use Rattle.dnssec_network.specs.declared.fact.Fact.{Fact as AnyFact};
 ghost use Rattle.dnssec_notes.specs.Lines.{as_fact, fact_says};
 ghost use Rattle.dnssec_notes.specs.Reading.{AreFacts, AreNotes};
 ghost use Rattle.dnssec_script.specs.Script.{lines_of};
-ghost use Rattle.dnssec_policy_text.specs.Lint.{AreHighest};
+ghost use Rattle.dnssec_policy.specs.Text.Lint.{AreHighest};
 ghost use Rattle.dnssec_automatic.specs.ZoneNotes.{HasHighest, TakesFact};
 
 use dnssec_network::{Before, Moments, News, NoteFault, Notes, SetKind};

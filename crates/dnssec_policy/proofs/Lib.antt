@@ -46,3 +46,4 @@ pub mod Delays
 pub mod RollsEnd
 pub mod KeysLeave
 pub mod Loops
+pub mod Texts

@@ -13,6 +13,7 @@ mod laws;
 mod policy;
 mod starts;
 mod state;
+mod text;
 mod todo;
 mod ttls;
 mod unmet;
@@ -30,6 +31,7 @@ pub use laws::{
 };
 pub use policy::{KeyRole, KskMethod, Policy, Scheme, Term, ZskMethod};
 pub use state::State;
+pub use text::{PolicyFault, TooShort, policy_text, read_policy, too_short};
 pub use todo::{Cds, Next};
 pub use ttls::HighestTtls;
 pub use unmet::stuck;

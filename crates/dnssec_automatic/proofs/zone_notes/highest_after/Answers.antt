@@ -3,7 +3,7 @@ use Rattle.std.proofs.Common.{◌≡◌, ◌+◌, ◌<◌, ◌++◌, ◌∷◌, 
 use Rattle.std.proofs.Common.{take}
 use Rattle.std.proofs.lemmas.List.{take_all, take_more}
 use Rattle.dnssec_network.specs.declared.fact.Fact.{Fact}
-use Rattle.dnssec_policy_text.specs.Lint.{AreHighest}
+use Rattle.dnssec_policy.specs.Text.Lint.{AreHighest}
 use Rattle.dnssec_automatic.proofs.Facts.{as-many, fact-at}
 use Rattle.dnssec_automatic.proofs.zone_notes.highest_after.Goals as goal
 

@@ -3,7 +3,7 @@ use Rattle.std.proofs.Common.{ℕ, List, map, take}
 use denote.Bor.{now}
 use Rattle.dnssec_network.specs.declared.fact.Fact.{Fact}
 use Rattle.dnssec_notes.specs.Reading.{AreFacts}
-use Rattle.dnssec_policy_text.specs.Lint.{AreHighest}
+use Rattle.dnssec_policy.specs.Text.Lint.{AreHighest}
 use Rattle.dnssec_automatic.proofs.zone_notes.highest_after.Given as goal
 
 abbrev pub invariant-loop-line : goal.invariant-loop-line

@@ -1,6 +1,6 @@
 -- The highest TTLs are those of the notes.
 use Rattle.std.proofs.Common.{◌∙◌, ap}
-use Rattle.dnssec_policy_text.specs.Lint.{too_short, ttl_in}
+use Rattle.dnssec_policy.specs.Text.Lint.{too_short, ttl_in}
 use Rattle.dnssec_automatic.proofs.zone.AutomaticZone.too_short.Goals as goal
 
 pub returns : goal.returns

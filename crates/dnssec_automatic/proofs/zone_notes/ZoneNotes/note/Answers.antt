@@ -1,7 +1,7 @@
 -- The fact counts for the highest TTLs.
 use Rattle.std.proofs.Common.{subst, sym}
 use Rattle.dnssec_network.specs.Notes.{NotesParts}
-use Rattle.dnssec_policy_text.specs.Lint.{AreHighest}
+use Rattle.dnssec_policy.specs.Text.Lint.{AreHighest}
 use Rattle.dnssec_automatic.proofs.zone_notes.ZoneNotes.note.Goals as goal
 
 pub returns-clause-ok : goal.returns-clause-ok
