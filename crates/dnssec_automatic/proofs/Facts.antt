@@ -7,8 +7,8 @@ use Rattle.dnssec_script.proofs.Texts.{text_at}
 use Rattle.dnssec_script.specs.Script.{Moment, Number, Value}
 use Rattle.dnssec_network.specs.declared.fact.{Before.Before, Fact.Fact, News.News}
 use Rattle.dnssec_network.specs.declared.fact.News.TheVariants.{Published, Everywhere}
-use Rattle.dnssec_notes.specs.Lines.{as_before, as_fact, before_says, fact_says, news_says}
-use Rattle.dnssec_notes.specs.Reading.{AreFacts, AreNotes}
+use Rattle.dnssec_network.specs.Text.Lines.{as_before, as_fact, before_says, fact_says, news_says}
+use Rattle.dnssec_network.specs.Text.Reading.{AreFacts, AreNotes}
 
 -- the number that a value has
 abbrev number_in : Value → ℕ

@@ -9,7 +9,7 @@ use Rattle.dnssec_network.specs.Facts.{AreTrue}
 use Rattle.dnssec_network.specs.Network.{Network}
 use Rattle.dnssec_script.specs.Script.{IsScript, lines_of}
 use Rattle.dnssec_record.specs.Session.{HadMemory}
-use Rattle.dnssec_notes.specs.Reading.{AreNotes}
+use Rattle.dnssec_network.specs.Text.Reading.{AreNotes}
 use Rattle.dnssec_policy.specs.declared.policy.Policy.{Policy}
 use Rattle.dnssec_policy.specs.Automatic.{IsViewAt}
 use Rattle.dnssec_policy.specs.ByHand.{first_by_hand}

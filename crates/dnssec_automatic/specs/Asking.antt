@@ -5,7 +5,7 @@ use Rattle.std.specs.List.{slice_split}
 use Rattle.std.specs.Str.{bytes_eq}
 use Rattle.dnssec_script.specs.Script.{Form, Value, Number, as_number, fields_of, first_field}
 use Rattle.dnssec_script.specs.Script.{lines_of, values_of}
-use Rattle.dnssec_notes.specs.Scripts.{parts_of}
+use Rattle.dnssec_network.specs.Text.Scripts.{parts_of}
 use Rattle.dnssec_automatic.specs.Answer.{AnswersNext}
 
 -- ---- the question

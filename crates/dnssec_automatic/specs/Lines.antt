@@ -5,8 +5,8 @@ use Rattle.dnssec_key.specs.declared.roll.RollType.{RollType}
 use Rattle.dnssec_key.specs.RollTable.{Half, First, Second}
 use Rattle.dnssec_key.specs.Texts.{roll_name}
 use Rattle.dnssec_keyset.specs.Step as keyset
-use Rattle.dnssec_notes.specs.Due.{first_second}
-use Rattle.dnssec_notes.specs.Lines.{kind_name}
+use Rattle.dnssec_network.specs.Text.Due.{first_second}
+use Rattle.dnssec_network.specs.Text.Lines.{kind_name}
 use Rattle.dnssec_policy.specs.declared.policy.KeyRole.{KeyRole}
 use Rattle.dnssec_policy.specs.declared.policy.KeyRole.TheVariants.{Ksk, Zsk, Csk}
 use Rattle.dnssec_policy.specs.declared.why.Why.{Why}

@@ -1,8 +1,8 @@
 -- The texts of faults, and which of them are lack of memory.
 use Rattle.std.specs.Prelude.{ℕ, ◌++◌, Bool, true, false, List, codes}
-use Rattle.dnssec_notes.specs.Texts.{due_fault_text}
-use Rattle.dnssec_notes.specs.declared.fault.DueFault.TheVariants.{Script, Notes}
-use Rattle.dnssec_notes.specs.declared.fault.NotesFault.TheVariants as notes
+use Rattle.dnssec_network.specs.Text.Faults.{due_fault_text}
+use Rattle.dnssec_network.specs.declared.text.fault.DueFault.TheVariants.{Script, Notes}
+use Rattle.dnssec_network.specs.declared.text.fault.NotesFault.TheVariants as notes
 use Rattle.dnssec_record.specs.declared.fault.ScriptFault.TheVariants as script
 use Rattle.dnssec_policy.specs.declared.text.fault.PolicyFault.TheVariants as policy
 use Rattle.dnssec_policy.specs.Text.Faults.{fault_text, too_short_text}

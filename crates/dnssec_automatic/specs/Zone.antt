@@ -12,7 +12,7 @@ use Rattle.dnssec_network.specs.Facts.{AreTrue}
 use Rattle.dnssec_network.specs.Network.{FindChain, IsNetworkOf, Network}
 use Rattle.dnssec_network.specs.Reports.{NoneGoesBack}
 use Rattle.dnssec_script.specs.Script.{lines_of}
-use Rattle.dnssec_notes.specs.Reading.{AreNotes}
+use Rattle.dnssec_network.specs.Text.Reading.{AreNotes}
 use Rattle.dnssec_policy.specs.declared.policy.Policy.{Policy}
 use Rattle.dnssec_policy.specs.Automatic.{IsAutomatic, IsViewAt}
 use Rattle.dnssec_policy.specs.ByHand.{first_by_hand}

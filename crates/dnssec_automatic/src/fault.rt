@@ -4,7 +4,7 @@ ghost use Rattle.dnssec_automatic.specs.Texts.{lacks_memory, next_fault_text};
 ghost use Rattle.dnssec_automatic.specs.declared.fault.NextFault.TheVariants.{OutOfMemory};
 ghost use Rattle.dnssec_automatic.specs.declared.fault.NextFault.TheVariants as fault;
 
-use dnssec_notes::{DueFault, NotesFault};
+use dnssec_network::{DueFault, NotesFault};
 use dnssec_policy::{PolicyFault, TooShort};
 use dnssec_record::ScriptFault;
 use std::alloc::AllocError;

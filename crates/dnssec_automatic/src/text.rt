@@ -9,7 +9,7 @@ ghost use Rattle.dnssec_automatic.specs.Asking.{as_next, has_more, question_form
 use crate::answer::answer_next;
 use crate::fault::NextFault;
 use crate::zone::AutomaticZone;
-use dnssec_notes::{DueFault, NotesFault, cut, without_end};
+use dnssec_network::{DueFault, NotesFault, cut, without_end};
 use dnssec_policy::read_policy;
 use dnssec_record::{Fields, all_lines};
 use std::alloc::Global;

@@ -3,14 +3,16 @@ ghost use Rattle.std.specs.Prelude.{◌≡◌, ◌++◌, ◌∷◌, ℕ, List, [
 ghost use denote.Bor.{now};
 ghost use Rattle.dnssec_network.specs.declared.fact.Before.{Before as AnyBefore};
 ghost use Rattle.dnssec_network.specs.declared.fact.Fact.{Fact as AnyFact};
-ghost use Rattle.dnssec_notes.specs.Lines.{as_fact, fact_says};
-ghost use Rattle.dnssec_notes.specs.Reading.{AreFacts, AreNotes};
+ghost use Rattle.dnssec_network.specs.Text.Lines.{as_fact, fact_says};
+ghost use Rattle.dnssec_network.specs.Text.Reading.{AreFacts, AreNotes};
 ghost use Rattle.dnssec_script.specs.Script.{lines_of};
 ghost use Rattle.dnssec_policy.specs.Text.Lint.{AreHighest};
 ghost use Rattle.dnssec_automatic.specs.ZoneNotes.{HasHighest, TakesFact};
 
-use dnssec_network::{Before, Moments, News, NoteFault, Notes, SetKind};
-use dnssec_notes::{NotesFault, read_before, read_fact, read_notes};
+use dnssec_network::{
+    Before, Moments, News, NoteFault, Notes, NotesFault, SetKind, read_before, read_fact,
+    read_notes,
+};
 use dnssec_policy::HighestTtls;
 use dnssec_record::all_lines;
 use std::alloc::Global;

@@ -2,7 +2,7 @@
 
 use crate::words::Misuse;
 use dnssec_automatic::NextFault;
-use dnssec_notes::{DueFault, NotesFault};
+use dnssec_network::{DueFault, NotesFault};
 use dnssec_record::ScriptFault;
 use std::fmt;
 

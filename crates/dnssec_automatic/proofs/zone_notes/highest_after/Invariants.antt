@@ -2,7 +2,7 @@
 use Rattle.std.proofs.Common.{ℕ, List, map, take}
 use denote.Bor.{now}
 use Rattle.dnssec_network.specs.declared.fact.Fact.{Fact}
-use Rattle.dnssec_notes.specs.Reading.{AreFacts}
+use Rattle.dnssec_network.specs.Text.Reading.{AreFacts}
 use Rattle.dnssec_policy.specs.Text.Lint.{AreHighest}
 use Rattle.dnssec_automatic.proofs.zone_notes.highest_after.Given as goal
 

@@ -2,7 +2,7 @@
 use Rattle.std.proofs.Common.{None, Some, ap, arith, subst, sym, ◌∙◌, ◌≡◌}
 use Rattle.std.specs.Option.{option_map}
 use Rattle.dnssec_network.specs.declared.fact.Before.{Before}
-use Rattle.dnssec_notes.specs.Lines.{before_says}
+use Rattle.dnssec_network.specs.Text.Lines.{before_says}
 use Rattle.dnssec_policy.specs.Text.Lint.{AreHighest}
 use Rattle.dnssec_automatic.proofs.Facts.{first-line, no-notes, same-before}
 use Rattle.dnssec_automatic.proofs.zone_notes.highest_in.Goals as goal

@@ -3,7 +3,7 @@ use Rattle.std.proofs.Common.{◌≡◌, ◌++◌, ◌∷◌, ◌∙◌, [], Lis
 use Rattle.std.proofs.lemmas.Option.{same_Some}
 use Rattle.std.specs.Option.{option_map}
 use Rattle.dnssec_network.specs.declared.fact.Fact.{Fact}
-use Rattle.dnssec_notes.specs.Lines.{as_fact, fact_says}
+use Rattle.dnssec_network.specs.Text.Lines.{as_fact, fact_says}
 use Rattle.dnssec_policy.specs.Text.Lint.{AreHighest}
 use Rattle.dnssec_automatic.proofs.Facts.{same-fact}
 use Rattle.dnssec_automatic.proofs.zone_notes.with_line.Goals as goal

@@ -1,7 +1,7 @@
 -- The highest TTLs are those of the same lines.
 use Rattle.std.proofs.Common.{List, ap, map, subst, sym, ℕ, ◌∙◌}
 use denote.Bor.{now}
-use Rattle.dnssec_notes.specs.Reading.{AreNotes}
+use Rattle.dnssec_network.specs.Text.Reading.{AreNotes}
 use Rattle.dnssec_automatic.proofs.zone_notes.ZoneNotes.read.Goals as goal
 
 pub returns-clause-highest : goal.returns-clause-highest
