@@ -56,7 +56,7 @@ GIVEN = {
 GIVEN_IN = {
     ("dnssec_base/src/name.rt", "rt"): "rt: &impl Abort",
     ("dnssec_network/src/text/answer.rt", "notes"): "notes: &str",
-    ("dnssec_automatic/src/zone.rt", "notes"): "notes: &str",
+    ("dnssec_policy/src/automatic/zone.rt", "notes"): "notes: &str",
 }
 # What an example calls that is the caller's own.
 OWN = {
@@ -97,7 +97,6 @@ def public_items():
     """Each public name of the crates, with the highest crate that has it."""
     items = {}
     crates = ["base", "key", "keyset", "run", "judge", "record", "network", "policy"]
-    crates += ["automatic"]
     for crate in reversed(crates):
         text = (CRATES / f"dnssec_{crate}" / "src" / "lib.rt").read_text()
         for path, listed in PUBLIC.findall(text):

@@ -47,3 +47,4 @@ pub mod RollsEnd
 pub mod KeysLeave
 pub mod Loops
 pub mod Texts
+pub mod Zone

@@ -3,8 +3,7 @@ use Rattle.std.specs.Prelude.{ℕ, ◌++◌, List, codes, decimal}
 use Rattle.dnssec_key.specs.Texts.{roll_name}
 use Rattle.dnssec_policy.specs.declared.text.fault.PolicyFault.{PolicyFault}
 use Rattle.dnssec_policy.specs.declared.text.fault.PolicyFault.TheVariants.{Malformed, SaidTwice}
-use Rattle.dnssec_policy.specs.declared.text.fault.PolicyFault.TheVariants.{NoSuchKeys}
-use Rattle.dnssec_policy.specs.declared.text.fault.PolicyFault.TheVariants.{OutOfMemory}
+use Rattle.dnssec_policy.specs.declared.text.fault.PolicyFault.TheVariants.{NoSuchKeys, OutOfMemory}
 use Rattle.dnssec_policy.specs.declared.text.lint.TooShort.{TooShort}
 
 -- what is said of a policy
