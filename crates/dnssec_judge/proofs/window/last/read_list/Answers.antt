@@ -2,9 +2,9 @@
 use Rattle.std.proofs.Common.{◌≡◌, ◌∙◌, ℕ, List, Option, [], ◌∷◌, refl, sym, subst, map, Some}
 use Rattle.dnssec_run.proofs.Since.{same-ids}
 use Rattle.dnssec_run.specs.Published.{Id, id_of}
-use Rattle.dnssec_sets.proofs.Table.{stand-on}
-use Rattle.dnssec_sets.specs.Numbers.{StandFor}
-use Rattle.dnssec_sets.specs.declared.numbers.Numbers.{Numbers}
+use Rattle.dnssec_judge.proofs.Table.{stand-on}
+use Rattle.dnssec_judge.specs.Numbers.{StandFor}
+use Rattle.dnssec_judge.specs.declared.sets.numbers.Numbers.{Numbers}
 use Rattle.dnssec_judge.proofs.window.last.read_list.Goals as goal
 
 -- numbers stand for one list
