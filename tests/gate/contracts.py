@@ -71,7 +71,8 @@ def made():
     listed = {name: below.split() for name, below in LISTED.findall(crates_txt)}
     lines = [HEAD]
     for crate in crates():
-        defined = definitions(stands_on(crate.name, listed))
+        # A name of the crate's own comes before one of a crate below.
+        defined = definitions(stands_on(crate.name, listed)) | definitions({crate.name})
         for path in sorted(crate.glob("src/**/*.rt")):
             for match in FUNCTION.finditer(path.read_text()):
                 told = [*clauses(match["head"], defined)]

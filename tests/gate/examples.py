@@ -55,8 +55,8 @@ GIVEN = {
 # The same name for something else, by the file.
 GIVEN_IN = {
     ("dnssec_base/src/name.rt", "rt"): "rt: &impl Abort",
-    ("dnssec_notes/src/answer.rt", "notes"): "notes: &str",
-    ("dnssec_automatic/src/zone.rt", "notes"): "notes: &str",
+    ("dnssec_network/src/text/answer.rt", "notes"): "notes: &str",
+    ("dnssec_policy/src/automatic/zone.rt", "notes"): "notes: &str",
 }
 # What an example calls that is the caller's own.
 OWN = {
@@ -96,8 +96,7 @@ PUBLIC = re.compile(r"pub use ([\w:]+)(?:::\{([^}]*)\})?;")
 def public_items():
     """Each public name of the crates, with the highest crate that has it."""
     items = {}
-    crates = ["base", "key", "keyset", "run", "judge", "network", "record", "notes", "policy"]
-    crates += ["policy_text", "automatic"]
+    crates = ["base", "key", "keyset", "run", "judge", "record", "network", "policy"]
     for crate in reversed(crates):
         text = (CRATES / f"dnssec_{crate}" / "src" / "lib.rt").read_text()
         for path, listed in PUBLIC.findall(text):

@@ -204,7 +204,7 @@ def prove_and_test(free, folder):
     have passed, `make install` and `make dist` take that library and the program."""
     before = built.sums()
     # The library takes no proof of `keyset_c`, only of the crates below it.
-    archive = After("library.archive", folder, after=["dnssec_status", "dnssec_automatic"])
+    archive = After("library.archive", folder, after=["dnssec_status", "dnssec_policy"])
     library = After("library.library", folder, after=["keyset", "archive"])
     archive.later.append(library)
     scripts = [

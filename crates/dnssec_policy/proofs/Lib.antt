@@ -46,3 +46,5 @@ pub mod Delays
 pub mod RollsEnd
 pub mod KeysLeave
 pub mod Loops
+pub mod Texts
+pub mod Zone

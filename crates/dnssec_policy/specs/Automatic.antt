@@ -1,4 +1,11 @@
 -- Calls that a zone makes by itself.
+pub mod Calls
+pub mod ZoneNotes
+pub mod Zone
+pub mod Lines
+pub mod Answer
+pub mod Asking
+pub mod Faults
 use Rattle.std.specs.Prelude.{◌≡◌, ◌⊎◌, ℕ, zero, suc, ◌≤◌, ◌&&◌, Bool, true, false, List, slice_get}
 use Rattle.std.specs.Prelude.{Option, None, Some, if◌then◌else◌}
 use Rattle.dnssec_key.specs.declared.roll.RollType.{RollType}

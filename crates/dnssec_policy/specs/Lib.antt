@@ -6,6 +6,7 @@ pub mod Keys
 pub mod ByHand
 pub mod Stuck
 pub mod Texts
+pub mod Text
 pub mod Next
 pub mod Automatic
 pub mod Kept

@@ -1,8 +1,10 @@
 //! What to do next with a zone, by a policy: a call to make, a set to publish or to watch, a key
 //! to make, or a moment to wait for. Whatever it says, the calls are plain and reports are by
-//! notes: so resolvers find a chain of trust at all times.
+//! notes: so resolvers find a chain of trust at all times. `text` has a policy as a text, and
+//! `automatic` a zone that rolls by itself.
 #![tactic(auto)]
 
+mod automatic;
 mod by_hand;
 mod choose;
 mod deletions;
@@ -13,11 +15,13 @@ mod laws;
 mod policy;
 mod starts;
 mod state;
+mod text;
 mod todo;
 mod ttls;
 mod unmet;
 mod why;
 
+pub use automatic::{AutomaticZone, NextFault, answer_next, answer_text, is_add, next_line};
 pub use by_hand::FirstByHand;
 pub use choose::next;
 pub use last_waits::LastWaits;
@@ -30,6 +34,7 @@ pub use laws::{
 };
 pub use policy::{KeyRole, KskMethod, Policy, Scheme, Term, ZskMethod};
 pub use state::State;
+pub use text::{PolicyFault, TooShort, policy_text, read_policy, too_short};
 pub use todo::{Cds, Next};
 pub use ttls::HighestTtls;
 pub use unmet::stuck;

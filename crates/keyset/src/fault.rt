@@ -1,8 +1,8 @@
 //! Why the program did not do what it was asked to, and the status that it then ends with.
 
 use crate::words::Misuse;
-use dnssec_automatic::NextFault;
-use dnssec_notes::{DueFault, NotesFault};
+use dnssec_network::{DueFault, NotesFault};
+use dnssec_policy::NextFault;
 use dnssec_record::ScriptFault;
 use std::fmt;
 

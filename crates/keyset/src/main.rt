@@ -10,8 +10,8 @@ mod words;
 
 use crate::fault::Fault;
 use crate::words::{Task, task_of};
-use dnssec_automatic::{NextFault, answer_text};
-use dnssec_notes::answer_scripts;
+use dnssec_network::answer_scripts;
+use dnssec_policy::{NextFault, answer_text};
 use dnssec_record::{ScriptFault, Session, Std, run_script};
 use dnssec_status::status;
 use std::alloc::Global;

@@ -1,8 +1,8 @@
 -- What a policy says, as C gets it.
 use Rattle.std.specs.Prelude.{◌≡◌, ◌⊎◌, ℕ, List, length}
-use Rattle.dnssec_automatic.specs.Answer.{AnswersNext}
-use Rattle.dnssec_automatic.specs.Texts.{next_fault_text}
-use Rattle.dnssec_automatic.specs.declared.fault.NextFault.{NextFault}
+use Rattle.dnssec_policy.specs.Automatic.Answer.{AnswersNext}
+use Rattle.dnssec_policy.specs.Automatic.Faults.{next_fault_text}
+use Rattle.dnssec_policy.specs.declared.automatic.fault.NextFault.{NextFault}
 use Rattle.keyset_c.specs.Answered.{AtLength}
 
 -- the text says why nothing is said

@@ -4,10 +4,11 @@ use Rattle.dnssec_network.specs.declared.fact.NoteFault.TheVariants as note
 use Rattle.dnssec_network.specs.declared.fact.NoteFault.TheVariants.{CallNotMade, MomentFalls}
 use Rattle.dnssec_network.specs.declared.fact.NoteFault.TheVariants.{PublishedBeforeCall}
 use Rattle.dnssec_network.specs.declared.fact.NoteFault.TheVariants.{SeenBeforePublished}
-use Rattle.dnssec_notes.specs.Due.{IsDueAfter}
-use Rattle.dnssec_notes.specs.Reading.{HasTaken, IsTakeFault}
-use Rattle.dnssec_notes.specs.declared.fault.LineFault.{LineFault}
-use Rattle.dnssec_notes.specs.declared.fault.LineFault.TheVariants.{Malformed, Refused, OutOfMemory}
+use Rattle.dnssec_network.specs.Text.Due.{IsDueAfter}
+use Rattle.dnssec_network.specs.Text.Reading.{HasTaken, IsTakeFault}
+use Rattle.dnssec_network.specs.declared.text.fault.LineFault.{LineFault}
+use Rattle.dnssec_network.specs.declared.text.fault.LineFault.TheVariants.{Malformed, Refused}
+use Rattle.dnssec_network.specs.declared.text.fault.LineFault.TheVariants.{OutOfMemory}
 use Rattle.dnssec_run.specs.Moments.{moments_of}
 use Rattle.dnssec_run.specs.declared.call.Call.{Call}
 use Rattle.dnssec_run.specs.declared.record.Entry.{Entry}

@@ -2,7 +2,7 @@
 ghost use Rattle.std.specs.Prelude.{◌≡◌, ◌≢◌, ◌⊎◌, ◌<◌, ◌≤◌, length, take, drop};
 ghost use Rattle.keyset_c.specs.Sessions.{status_of};
 
-use dnssec_notes::{LineFault, NoteFault};
+use dnssec_network::{LineFault, NoteFault};
 
 /// The answer was written.
 pub(crate) const ANSWERED: u32 = 0;

@@ -1,5 +1,5 @@
 //! What a session of C keeps.
-use dnssec_notes::SessionNotes;
+use dnssec_network::SessionNotes;
 use dnssec_record::Session;
 
 /// A session, the line that it answered last, and the notes beside it.

@@ -35,7 +35,7 @@ pub use crate::questions::{
 };
 use crate::sessions::{accept, call, note};
 pub use crate::texts::{keyset_status_text, keyset_version_text};
-use dnssec_notes::SessionNotes;
+use dnssec_network::SessionNotes;
 use dnssec_record::{ScriptFault, Session, Std, run_script};
 use std::alloc::Global;
 

@@ -1,12 +1,12 @@
 //! What C asks of a policy. Nothing is kept: a script and its notes are the whole state.
 ghost use Rattle.std.specs.Prelude.{◌≡◌, ◌⊎◌, ◌≤◌, length, string_bytes, take, IfOk};
-ghost use Rattle.dnssec_automatic.specs.Answer.{AnswersNext};
-ghost use Rattle.dnssec_automatic.specs.Texts.{next_fault_text};
+ghost use Rattle.dnssec_policy.specs.Automatic.Answer.{AnswersNext};
+ghost use Rattle.dnssec_policy.specs.Automatic.Faults.{next_fault_text};
 ghost use Rattle.keyset_c.specs.Answered.{HandsText};
 ghost use Rattle.keyset_c.specs.Policies.{IsSaid, SaysWhy};
 
 use crate::answered::{ANSWERED, Answered, NOT_SAID, OUT_OF_MEMORY, fault, hand_out};
-use dnssec_automatic::{NextFault, answer_next};
+use dnssec_policy::{NextFault, answer_next};
 use std::alloc::{AllocError, Global};
 
 /// Writes what a policy says to do next at this second since 1970, after the calls of a script and

@@ -6,9 +6,9 @@ use Rattle.std.specs.{Option.option_map, Option.option_map_or, Prelude.Bool, Pre
 use Rattle.std.specs.{Global.Box, Prelude.if◌then◌else◌, Prelude.nat_eq}
 use Rattle.dnssec_run.specs.{declared.record.Entry.Entry, Origins.set_at, Safe.SetKind}
 use Rattle.dnssec_run.specs.Safe.{Ds, Dnskey, ZoneSigners, position_at}
-use Rattle.dnssec_sets.specs.Numbers.{Grows, IsTable, StandFor, key_at}
-use Rattle.dnssec_sets.specs.{Sets.Numbered, Sets.parts_of, Sets.set_of}
-use Rattle.dnssec_sets.specs.declared.{held.OpenSet.OpenSet, numbers.Numbers.Numbers}
+use Rattle.dnssec_judge.specs.Numbers.{Grows, IsTable, StandFor, key_at}
+use Rattle.dnssec_judge.specs.Sets.{Numbered, parts_of, set_of}
+use Rattle.dnssec_judge.specs.declared.sets.{held.OpenSet.OpenSet, numbers.Numbers.Numbers}
 use Rattle.dnssec_judge.specs.declared.window.{Span.Span, Window.Window, many.Many.Many}
 use Rattle.dnssec_judge.specs.declared.window.reports.Due.{Due}
 use Rattle.dnssec_judge.specs.Inner.Window.{AreByAge, AreInOrder, AreKept, Begins, GoesOnAbove}

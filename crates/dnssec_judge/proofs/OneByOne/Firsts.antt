@@ -4,9 +4,9 @@ use Rattle.std.proofs.Common.{List, Option, None, Some, [], ◌∷◌, ◌++◌,
 use Rattle.std.proofs.lemmas.Option.{none-some, same_Some}
 use Rattle.std.specs.{Option.option_map, Option.option_or, Prelude.if◌then◌else◌, Prelude.max}
 use Rattle.std.specs.Prelude.{◌&&◌, ◌||◌, is_some, not, slice_get}
-use Rattle.dnssec_sets.specs.Bits.{has_none, meet, meet_three}
-use Rattle.dnssec_sets.specs.Sets.{Numbered, keys_hold, set_of, sets_have_chain, zone_holds}
-use Rattle.dnssec_sets.specs.declared.held.OpenSet.{OpenSet}
+use Rattle.dnssec_judge.specs.Bits.{has_none, meet, meet_three}
+use Rattle.dnssec_judge.specs.Sets.{Numbered, keys_hold, set_of, sets_have_chain, zone_holds}
+use Rattle.dnssec_judge.specs.declared.sets.held.OpenSet.{OpenSet}
 use Rattle.dnssec_judge.specs.declared.window.{Span.Span, search.First.First}
 use Rattle.dnssec_judge.specs.declared.window.search.Signed.{Signed}
 use Rattle.dnssec_judge.specs.Inner.Firsts.{AreSigned, HaveFirsts, IsSigned, first_stretch}

@@ -2,7 +2,7 @@
 use Rattle.std.specs.Prelude.{◌≡◌, ℕ, Bool, List, [], ◌∷◌, Option, None, Some, max}
 use Rattle.std.specs.Prelude.{if◌then◌else◌}
 use Rattle.std.specs.Option.{option_map}
-use Rattle.dnssec_sets.specs.Sets.{Numbered, set_of, zone_holds}
+use Rattle.dnssec_judge.specs.Sets.{Numbered, set_of, zone_holds}
 use Rattle.dnssec_judge.specs.declared.window.search.{First.First, Signed.Signed}
 use Rattle.dnssec_judge.specs.Inner.Window.{Stretch, first_failing}
 

@@ -4,12 +4,12 @@ ghost use Rattle.dnssec_base.specs.declared.error.Error.TheVariants.{OutOfMemory
 ghost use Rattle.dnssec_run.specs.Frames.{KeepsFrame, KeepsSet};
 ghost use Rattle.dnssec_run.specs.Origins.{CachedSet, same_ids, same_set};
 ghost use Rattle.dnssec_run.specs.Published.{Id, id_of};
-ghost use Rattle.dnssec_sets.specs.Numbers.{Grows, IsTable, StandFor};
+ghost use Rattle.dnssec_judge.specs.Numbers.{Grows, IsTable, StandFor};
 ghost use Rattle.dnssec_judge.specs.Inner.Window.{IsOther, IsSameLast, StandForSet};
 
+use crate::sets::{Bits, Numbers, OpenSet};
 use dnssec_keyset::Error;
 use dnssec_run::{Frame, PublishedKey};
-use dnssec_sets::{Bits, Numbers, OpenSet};
 use std::alloc::Global;
 
 /// A set by the numbers of its keys and of its signers, each in their order.

@@ -1,12 +1,12 @@
 //! What helps a window with many sets.
 ghost use Rattle.std.specs.Prelude.{◌≡◌, ℕ, Some, slice_get, IfOk, IfErr, OnOk};
 ghost use Rattle.dnssec_base.specs.declared.error.Error.TheVariants.{OutOfMemory};
-ghost use Rattle.dnssec_sets.specs.Sets.{set_of};
-ghost use Rattle.dnssec_sets.specs.declared.held.OpenSet.{OpenSet};
+ghost use Rattle.dnssec_judge.specs.Sets.{set_of};
+ghost use Rattle.dnssec_judge.specs.declared.sets.held.OpenSet.{OpenSet};
 ghost use Rattle.dnssec_judge.specs.Inner.Window.{IsIn};
 
+use crate::sets::OpenSet;
 use dnssec_keyset::Error;
-use dnssec_sets::OpenSet;
 use std::alloc::Global;
 use std::collections::HashMap;
 

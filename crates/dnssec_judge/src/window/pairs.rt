@@ -1,13 +1,13 @@
 //! Any two sets of the windows are tested once: each new set with all sets of the other kind.
 ghost use Rattle.std.specs.Prelude.{◌≡◌, ◌≤◌, ◌&&◌, ℕ, true};
 ghost use Rattle.std.specs.List.{Contains};
-ghost use Rattle.dnssec_sets.specs.Sets.{keys_hold, set_of, zone_holds};
-ghost use Rattle.dnssec_sets.specs.declared.held.OpenSet.{OpenSet};
+ghost use Rattle.dnssec_judge.specs.Sets.{keys_hold, set_of, zone_holds};
+ghost use Rattle.dnssec_judge.specs.declared.sets.held.OpenSet.{OpenSet};
 ghost use Rattle.dnssec_judge.specs.Inner.Window.{AllHold, AreByAge, IsOpen, Keeps, NewPass};
 ghost use Rattle.dnssec_judge.specs.Inner.Window.{Tested, all_in};
 
 use super::Window;
-use dnssec_sets::OpenSet;
+use crate::sets::OpenSet;
 
 /// Whether each set that came at position `tested` or later holds with all sets of the other kind.
 pub(crate) fn new_sets_hold(ds: &Window, dnskey: &Window, zone: &Window, tested: usize) -> bool

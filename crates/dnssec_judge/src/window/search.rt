@@ -2,17 +2,17 @@
 //! their first positions, each pair of them once.
 ghost use Rattle.std.specs.Prelude.{◌≡◌, ◌⊎◌, ℕ, false, true, Some, slice_get, IfOk, IfErr};
 ghost use Rattle.dnssec_base.specs.declared.error.Error.TheVariants.{OutOfMemory};
-ghost use Rattle.dnssec_sets.specs.Bits.{has_none};
-ghost use Rattle.dnssec_sets.specs.Sets.{set_of, sets_have_chain, zone_holds};
+ghost use Rattle.dnssec_judge.specs.Bits.{has_none};
+ghost use Rattle.dnssec_judge.specs.Sets.{set_of, sets_have_chain, zone_holds};
 ghost use Rattle.dnssec_judge.specs.Inner.Firsts.{AreSigned, HaveFirsts, IsSigned, firsts_of};
 ghost use Rattle.dnssec_judge.specs.Inner.Firsts.{signed_of};
 ghost use Rattle.dnssec_judge.specs.Inner.Window.{Keeps, first_ds, first_failing, first_keys};
 ghost use Rattle.dnssec_judge.specs.Inner.Window.{stretches_of};
 
 use super::Window;
+use crate::sets::OpenSet;
 use crate::verdict::Broken;
 use dnssec_keyset::Error;
-use dnssec_sets::OpenSet;
 use std::alloc::Global;
 
 /// A set of a window, with its first position that isn't retired.

@@ -1,6 +1,6 @@
 -- The copies so far.
 use Rattle.std.proofs.Common.{◌≡◌, map, take}
-use Rattle.dnssec_sets.specs.Sets.{parts_of}
+use Rattle.dnssec_judge.specs.Sets.{parts_of}
 use Rattle.dnssec_judge.proofs.window.copy_sets.Given as goal
 
 abbrev pub invariant-loop-set : goal.invariant-loop-set

@@ -1,7 +1,7 @@
 -- What was handed out, or is too long, is what the policy says, or why it says nothing.
 use Rattle.std.proofs.Common.{ap, inl, inr, length, string_bytes, subst, sym, ◌∙◌}
-use Rattle.dnssec_automatic.specs.Answer.{AnswersNext}
-use Rattle.dnssec_automatic.specs.Texts.{next_fault_text}
+use Rattle.dnssec_policy.specs.Automatic.Answer.{AnswersNext}
+use Rattle.dnssec_policy.specs.Automatic.Faults.{next_fault_text}
 use Rattle.keyset_c.proofs.policies.keyset_next.Goals as goal
 
 pub returns-in-Ok-clause-said : goal.returns-in-Ok-clause-said

@@ -1,6 +1,6 @@
 -- It is in each set.
 use Rattle.std.proofs.Common.{◌∙◌, ap, subst, sym}
-use Rattle.dnssec_sets.specs.declared.held.OpenSet.{OpenSet}
+use Rattle.dnssec_judge.specs.declared.sets.held.OpenSet.{OpenSet}
 use Rattle.dnssec_judge.specs.declared.window.many.Many.{Many}
 use Rattle.dnssec_judge.specs.Inner.Window.{IsIn}
 use Rattle.dnssec_judge.proofs.window.Window.common.Goals as goal

@@ -3,7 +3,7 @@ use Rattle.std.proofs.Common.{◌≡◌, ◌∙◌, ◌++◌, ◌∷◌, [], ap,
 use Rattle.std.proofs.Common.{rules, Some, subst, sym, ℕ}
 use Rattle.std.proofs.lemmas.Option.{none-some, same_Some, slice_get_read, slice_get_within}
 use Rattle.std.specs.{Prelude.slice_get, VecDeque.Iter.deque_iter_rest}
-use Rattle.dnssec_sets.specs.{Sets.set_of, declared.held.OpenSet.OpenSet}
+use Rattle.dnssec_judge.specs.{Sets.set_of, declared.sets.held.OpenSet.OpenSet}
 use Rattle.dnssec_judge.specs.declared.window.{Span.Span, search.First.First}
 use Rattle.dnssec_judge.specs.Inner.Window.{AreKept, Keeps, set_of_any, set_since}
 use Rattle.dnssec_judge.proofs.OneByOne.Firsts.{HasSet, first-all, first-left, first-taken}

@@ -1,7 +1,7 @@
 -- The sets so far, with the rest of the spans, have the first ones.
 use Rattle.std.proofs.Common.{◌≡◌, ℕ, Bool, true, Some}
 use Rattle.std.specs.{Option.option_map, Prelude.slice_get, VecDeque.Iter.deque_iter_rest}
-use Rattle.dnssec_sets.specs.{Sets.Numbered, Sets.set_of, declared.held.OpenSet.OpenSet}
+use Rattle.dnssec_judge.specs.{Sets.Numbered, Sets.set_of, declared.sets.held.OpenSet.OpenSet}
 use Rattle.dnssec_judge.specs.Inner.Firsts.{first_stretch, lifted}
 use Rattle.dnssec_judge.specs.Inner.Window.{AreKept, Keeps, stretches}
 use Rattle.dnssec_judge.proofs.OneByOne.Firsts.{HasSet, first-then}

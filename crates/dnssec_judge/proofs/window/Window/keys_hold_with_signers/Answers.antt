@@ -2,8 +2,8 @@
 use Rattle.std.proofs.Common.{ap, List, rules, sym, tests, ◌∙◌}
 use Rattle.std.proofs.lemmas.Iterator.{YieldsList-from_slice, Search.all_from_yields_List}
 use Rattle.std.specs.List.{list_all}
-use Rattle.dnssec_sets.specs.declared.held.OpenSet.{OpenSet}
-use Rattle.dnssec_sets.specs.Sets.{set_of, zone_holds}
+use Rattle.dnssec_judge.specs.declared.sets.held.OpenSet.{OpenSet}
+use Rattle.dnssec_judge.specs.Sets.{set_of, zone_holds}
 use Rattle.dnssec_judge.proofs.OneByOne.Pairs.{all-from, dnskey-by-common}
 use Rattle.dnssec_judge.proofs.window.Window.keys_hold_with_signers.Goals as goal
 

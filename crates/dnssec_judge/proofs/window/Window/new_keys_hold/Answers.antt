@@ -3,8 +3,8 @@ use Rattle.std.proofs.Common.{◌≡◌, ◌∙◌, ap, arith, get_or, inl, inr,
 use Rattle.std.proofs.lemmas.Bool.{and_from, cases_lt}
 use Rattle.std.proofs.lemmas.List.{get_or_default}
 use Rattle.std.specs.Prelude.{◌&&◌}
-use Rattle.dnssec_sets.specs.{Sets.keys_hold, Sets.set_of, Sets.zone_holds}
-use Rattle.dnssec_sets.specs.declared.held.OpenSet.{OpenSet}
+use Rattle.dnssec_judge.specs.Sets.{keys_hold, set_of, zone_holds}
+use Rattle.dnssec_judge.specs.declared.sets.held.OpenSet.{OpenSet}
 use Rattle.dnssec_judge.specs.Inner.Window.{all_in}
 use Rattle.dnssec_judge.proofs.window.Window.new_keys_hold.Goals as goal
 

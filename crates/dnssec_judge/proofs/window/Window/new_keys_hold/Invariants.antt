@@ -1,8 +1,8 @@
 -- The new sets so far passed the test.
 use Rattle.std.proofs.Common.{◌≡◌, ◌<◌, get_or, true, ℕ}
 use Rattle.std.specs.Prelude.{◌&&◌}
-use Rattle.dnssec_sets.specs.{Sets.keys_hold, Sets.set_of, Sets.zone_holds}
-use Rattle.dnssec_sets.specs.declared.held.OpenSet.{OpenSet}
+use Rattle.dnssec_judge.specs.Sets.{keys_hold, set_of, zone_holds}
+use Rattle.dnssec_judge.specs.declared.sets.held.OpenSet.{OpenSet}
 use Rattle.dnssec_judge.specs.Inner.Window.{Keeps, all_in}
 use Rattle.dnssec_judge.proofs.window.Window.new_keys_hold.Given as goal
 

@@ -2,8 +2,8 @@
 use Rattle.std.proofs.Common.{◌≡◌, ◌∙◌, ap, arith, get_or, inl, inr, subst, sym, true}
 use Rattle.std.proofs.lemmas.Bool.{cases_lt}
 use Rattle.std.proofs.lemmas.List.{get_or_default}
-use Rattle.dnssec_sets.specs.{Sets.set_of, Sets.zone_holds}
-use Rattle.dnssec_sets.specs.declared.held.OpenSet.{OpenSet}
+use Rattle.dnssec_judge.specs.Sets.{set_of, zone_holds}
+use Rattle.dnssec_judge.specs.declared.sets.held.OpenSet.{OpenSet}
 use Rattle.dnssec_judge.specs.Inner.Window.{all_in}
 use Rattle.dnssec_judge.proofs.window.Window.new_signers_hold.Goals as goal
 

@@ -1,7 +1,7 @@
 -- The new sets so far passed the test.
 use Rattle.std.proofs.Common.{◌≡◌, ◌<◌, get_or, true, ℕ}
-use Rattle.dnssec_sets.specs.{Sets.set_of, Sets.zone_holds}
-use Rattle.dnssec_sets.specs.declared.held.OpenSet.{OpenSet}
+use Rattle.dnssec_judge.specs.Sets.{set_of, zone_holds}
+use Rattle.dnssec_judge.specs.declared.sets.held.OpenSet.{OpenSet}
 use Rattle.dnssec_judge.specs.Inner.Window.{Keeps, all_in}
 use Rattle.dnssec_judge.proofs.window.Window.new_signers_hold.Given as goal
 

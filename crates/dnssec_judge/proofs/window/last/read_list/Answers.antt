@@ -2,8 +2,8 @@
 use Rattle.std.proofs.Common.{map, subst, sym}
 use Rattle.dnssec_run.proofs.Since.{same-ids}
 use Rattle.dnssec_run.specs.Published.{id_of}
-use Rattle.dnssec_sets.proofs.Table.{stand-on}
-use Rattle.dnssec_sets.specs.Numbers.{StandFor}
+use Rattle.dnssec_judge.proofs.Table.{stand-on}
+use Rattle.dnssec_judge.specs.Numbers.{StandFor}
 use Rattle.dnssec_judge.proofs.window.last.read_list.Goals as goal
 
 pub returns-in_default-clause-list : goal.returns-in_default-clause-list

@@ -3,7 +3,7 @@ use Rattle.std.proofs.Common.{◌≡◌, ◌∙◌, ◌+◌, ◌∷◌, ℕ, ap,
 use Rattle.std.proofs.Common.{sym}
 use Rattle.std.proofs.lemmas.List.{at_drop_all, at_drop_more}
 use Rattle.std.specs.{Option.option_or, Prelude.max}
-use Rattle.dnssec_sets.specs.Sets.{set_of}
+use Rattle.dnssec_judge.specs.Sets.{set_of}
 use Rattle.dnssec_judge.specs.declared.{verdict.Broken.Broken, window.search.First.First}
 use Rattle.dnssec_judge.specs.Inner.Firsts.{firsts_of, signed_of}
 use Rattle.dnssec_judge.specs.Inner.Window.{first_ds, first_keys}

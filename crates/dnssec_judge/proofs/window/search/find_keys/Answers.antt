@@ -3,7 +3,7 @@ use Rattle.std.proofs.Common.{◌≡◌, ◌∙◌, ◌+◌, ◌∷◌, ℕ, ap,
 use Rattle.std.proofs.Common.{sym, subst}
 use Rattle.std.proofs.lemmas.List.{at_drop_all, drop_more}
 use Rattle.std.specs.{Option.option_map, Option.option_or, Prelude.max}
-use Rattle.dnssec_sets.specs.Sets.{set_of}
+use Rattle.dnssec_judge.specs.Sets.{set_of}
 use Rattle.dnssec_judge.specs.declared.window.search.Signed.{Signed}
 use Rattle.dnssec_judge.specs.Inner.Firsts.{AreSigned, firsts_of, signed_of}
 use Rattle.dnssec_judge.specs.Inner.Window.{broken, first_keys}

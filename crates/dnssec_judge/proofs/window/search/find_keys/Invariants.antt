@@ -1,6 +1,6 @@
 -- The rest has the answer.
 use Rattle.std.proofs.Common.{◌≡◌, drop}
-use Rattle.dnssec_sets.specs.Sets.{set_of}
+use Rattle.dnssec_judge.specs.Sets.{set_of}
 use Rattle.dnssec_judge.specs.Inner.Firsts.{AreSigned, firsts_of, signed_of}
 use Rattle.dnssec_judge.specs.Inner.Window.{first_keys}
 use Rattle.dnssec_judge.proofs.window.search.find_keys.Given as goal

@@ -1,6 +1,6 @@
 -- The rest has the answer.
 use Rattle.std.proofs.Common.{◌≡◌, drop}
-use Rattle.dnssec_sets.specs.Sets.{set_of, zone_holds}
+use Rattle.dnssec_judge.specs.Sets.{set_of, zone_holds}
 use Rattle.dnssec_judge.specs.Inner.{Firsts.firsts_of, Window.first_failing}
 use Rattle.dnssec_judge.proofs.window.search.find_zone.Given as goal
 

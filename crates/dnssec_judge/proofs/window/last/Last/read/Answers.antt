@@ -2,8 +2,8 @@
 use Rattle.std.proofs.Common.{◌∙◌, ap, map, List, ℕ, subst, sym}
 use Rattle.std.specs.{List.list_any, Prelude.nat_eq, Prelude.not}
 use Rattle.dnssec_run.{proofs.Since.same-set, specs.Published.id_of}
-use Rattle.dnssec_sets.proofs.Means.{bits-mean}
-use Rattle.dnssec_sets.specs.{Bits.words_of, Numbers.MeansSet, Sets.Numbered}
+use Rattle.dnssec_judge.proofs.Means.{bits-mean}
+use Rattle.dnssec_judge.specs.{Bits.words_of, Numbers.MeansSet, Sets.Numbered}
 use Rattle.dnssec_judge.proofs.window.last.Last.read.Goals as goal
 
 pub returns-then-not-branch-clause-news : goal.returns-then-not-branch-clause-news

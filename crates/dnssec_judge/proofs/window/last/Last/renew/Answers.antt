@@ -2,7 +2,7 @@
 use Rattle.std.proofs.Common.{◌∙◌, ap, map}
 use Rattle.std.specs.Prelude.{◌&&◌, not}
 use Rattle.dnssec_run.specs.{Origins.same_ids, Published.id_of}
-use Rattle.dnssec_sets.proofs.Table.{stand-on}
+use Rattle.dnssec_judge.proofs.Table.{stand-on}
 use Rattle.dnssec_judge.proofs.window.last.Last.renew.Goals as goal
 
 pub returns-then-has_others-clause-set : goal.returns-then-has_others-clause-set

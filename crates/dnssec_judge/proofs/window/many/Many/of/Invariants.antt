@@ -1,7 +1,7 @@
 -- What is common so far is in each set so far.
 use Rattle.std.proofs.Common.{◌≡◌, ◌<◌, ℕ, Some}
 use Rattle.std.specs.Prelude.{slice_get}
-use Rattle.dnssec_sets.specs.declared.held.OpenSet.{OpenSet}
+use Rattle.dnssec_judge.specs.declared.sets.held.OpenSet.{OpenSet}
 use Rattle.dnssec_judge.specs.Inner.Window.{IsIn}
 use Rattle.dnssec_judge.proofs.window.many.Many.of.Given as goal
 

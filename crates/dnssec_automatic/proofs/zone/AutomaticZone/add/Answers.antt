@@ -1,9 +1,0 @@
--- The calls stay automatic.
-use Rattle.std.proofs.Common.{refl}
-use Rattle.dnssec_automatic.proofs.Grown.{one-added}
-use Rattle.dnssec_automatic.proofs.zone.AutomaticZone.add.Goals as goal
-
-pub returns-clause-ok : goal.returns-clause-ok
-returns-clause-ok c = λ name calls entries asked so.
-    one-added name calls entries asked c.args.call 0 c.args.self.now _ _ so
-    (c.in_ok-made.ensures name calls entries so.after) refl c.requires

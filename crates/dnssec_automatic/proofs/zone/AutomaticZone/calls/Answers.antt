@@ -1,5 +1,0 @@
--- The session stands after the calls.
-use Rattle.dnssec_automatic.proofs.zone.AutomaticZone.calls.Goals as goal
-
-pub returns : goal.returns
-returns c = λ name calls entries after. c.calls.ensures name calls entries after.stands

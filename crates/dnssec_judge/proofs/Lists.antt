@@ -1,0 +1,21 @@
+-- Lists of keys: what a test finds.
+use Rattle.std.proofs.Common.{◌≡◌, Bool, List, subst, refl}
+use Rattle.std.proofs.lemmas.Bool.Decides.{Decides-like}
+use Rattle.std.proofs.lemmas.List.Folds.{Any-from_list_any, list_any-from_Any}
+use Rattle.std.specs.{Bool.Decides, List.Contains, List.list_any}
+use Rattle.dnssec_run.proofs.Since.{same-id}
+use Rattle.dnssec_run.specs.{Origins.same_id, Published.Id}
+use Rattle.dnssec_judge.specs.Chained.{is_in}
+
+-- a test finds a key that passes, if there is one
+pub any-key : (p : Id → Bool) (P : Id → Type 0) → ((k : Id) → Decides (p k) (P k))
+    → (ids : List Id) → Decides (list_any p ids) ((k : Id) × Contains ids k × P k)
+any-key p P h ids = (
+  λ e. (let a = Any-from_list_any p ids e in (a.1, (a.0, a.2, a.3), (h a.1).0 a.4)),
+  λ t. list_any-from_Any p ids (t.1.0, t.0, t.1.1, t.1.2, (h t.0).1 t.2),
+)
+
+pub in-list : (ids : List Id) (k : Id) → Decides (is_in ids k) (Contains ids k)
+in-list ids k =
+    Decides-like _ (λ t. subst (Contains ids) t.2 t.1) (λ c. (k, c, refl))
+    (any-key (λ other. same_id other k) (λ other. other ≡ k) (λ other. same-id other k) ids)

@@ -1,0 +1,32 @@
+-- Each key that has a number is known anew.
+use Rattle.std.proofs.Common.{◌≡◌, ◌∙◌, ap, sym, arith, inl, inr, length, List, Option, refl}
+use Rattle.std.proofs.lemmas.{Bool.cases_lt, Option.slice_get_read}
+use Rattle.std.specs.Prelude.{slice_get}
+use Rattle.dnssec_run.specs.declared.record.PublishedKey.{PublishedKey}
+use Rattle.dnssec_judge.specs.Numbers.{key_in}
+use Rattle.dnssec_judge.proofs.Table.{key-within, table-from}
+use Rattle.dnssec_judge.proofs.sets.numbers.Numbers.renew.Goals as goal
+
+pub loop-number-preserved : goal.loop-number-preserved
+loop-number-preserved c n k lt e = elim (cases_lt n c.loop-number.number) [
+  | inl less ↦ c.in_ok-note.ensures.kept k.1 (c.loop-number.invariant n k less e)
+  | inr ge ↦
+      let items = c.deref-key-items.result.now in
+      let item = c.key-item.result in
+      let is : n ≡ c.loop-number.number = omega (arith, lt, ge) in
+      let there = slice_get_read items (length items) c.loop-number.number item refl
+      c.loop-number-test.true c.key-item.is in
+      c.in_ok-note.ensures.known k
+      (ap key_in (sym there) ∙ ap (λ m. key_in (slice_get items m)) (sym is) ∙ e)
+]
+
+pub returns-clause-table : goal.returns-clause-table
+returns-clause-table c t =
+    let keys = c.drop_last.new.self.keys in
+    let items = c.deref-key-items.result.now in
+    let same = c.deref-key-items.ensures.value in
+    table-from c.args.self.now _ (λ n k e. sym (c.drop_last.ensures.same n) ∙ e)
+    (λ n k e.
+    (let there = ap (λ (ks : List (Option PublishedKey)). key_in (slice_get ks n)) same ∙ e in
+    let within = key-within items n k there in
+    c.loop-number.invariant n k (omega (arith, within, c.loop-number-test.false)) there)) t

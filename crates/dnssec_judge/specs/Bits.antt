@@ -1,0 +1,66 @@
+-- Sets of small numbers, as bits in words of 64.
+use Rattle.std.specs.Prelude.{◌≡◌, ℕ, zero, suc, ◌<◌, ◌*◌, ◌^◌, ◌/◌, ◌%◌, Bool, true, false, ◌||◌}
+use Rattle.std.specs.Prelude.{◌&&◌, not, nat_eq, List, ◌∷◌, get_or, length}
+use Rattle.std.specs.Int.{bit_at, Bits.bit_and}
+use Rattle.dnssec_judge.specs.declared.sets.bits.Bits.{Bits}
+
+-- the words of a set
+abbrev pub words_of : Bits → List ℕ
+words_of b = b.first ∷ b.rest.items
+
+-- one of them; all after the last are 0
+abbrev pub word_at : List ℕ → ℕ → ℕ
+word_at words i = get_or words i 0
+
+-- the bit of a number is set
+abbrev pub has_bit : List ℕ → ℕ → Bool
+has_bit words n = nat_eq (bit_at (word_at words (n / 64)) (n % 64)) 1
+
+-- the number is in the set
+abbrev pub has : Bits → ℕ → Bool
+has b n = has_bit (words_of b) n
+
+-- a number below another has the property
+unfoldable pub any_below : (ℕ → Bool) → ℕ → Bool
+any_below test zero = false
+any_below test (suc n) = test n || any_below test n
+
+-- the words have bits for the numbers below this
+abbrev pub end_of : List ℕ → ℕ
+end_of words = 64 * length words
+
+-- no bit is set
+abbrev pub has_none : List ℕ → Bool
+has_none words = not (any_below (has_bit words) (end_of words))
+
+-- a bit is set in both
+abbrev pub meet : List ℕ → List ℕ → Bool
+meet words others = any_below (λ n. has_bit words n && has_bit others n) (end_of words)
+
+-- a bit is set in all three
+abbrev pub meet_three : List ℕ → List ℕ → List ℕ → Bool
+meet_three words ones others =
+    any_below (λ n. has_bit words n && (has_bit ones n && has_bit others n)) (end_of words)
+
+-- a number whose bit is set in both
+abbrev pub Share : List ℕ → List ℕ → Type 0
+Share words others = (n : ℕ) × (has_bit words n ≡ true) × (has_bit others n ≡ true)
+
+-- and in all three
+abbrev pub ShareAll : List ℕ → List ℕ → List ℕ → Type 0
+ShareAll words ones others = (n : ℕ) × (has_bit words n ≡ true) × (has_bit ones n ≡ true)
+    × (has_bit others n ≡ true)
+
+-- ---- word by word
+
+-- a word of 64 bits that isn't 0
+abbrev pub HasSome : ℕ → Type 0
+HasSome word = (0 < word) × (word < 2 ^ 64)
+
+-- what two lists of words have in common at a place
+abbrev pub common_at : List ℕ → List ℕ → ℕ → ℕ
+common_at words others i = bit_and (word_at words i) (word_at others i)
+
+-- and three
+abbrev pub all_at : List ℕ → List ℕ → List ℕ → ℕ → ℕ
+all_at words ones others i = bit_and (common_at words ones i) (word_at others i)

@@ -1,0 +1,47 @@
+-- The keys of a record as small numbers: what numbers, and sets of them, stand for.
+use Rattle.std.specs.Prelude.{◌≡◌, ℕ, true, false, List, map, nat_eq, slice_get}
+use Rattle.std.specs.Prelude.{Option, None, Some, IsSome}
+use Rattle.std.specs.{HashMap.get, List.Contains, Option.option_map}
+use Rattle.dnssec_run.specs.declared.record.PublishedKey.{PublishedKey}
+use Rattle.dnssec_run.specs.Origins.{CachedSet, same_ids}
+use Rattle.dnssec_run.specs.Published.{Id, id_of}
+use Rattle.dnssec_judge.specs.Bits.{has_bit}
+use Rattle.dnssec_judge.specs.Sets.{Numbered}
+use Rattle.dnssec_judge.specs.declared.sets.numbers.Numbers.{Numbers}
+
+-- what stands at a place: a key, or none
+abbrev pub key_in : Option (Option PublishedKey) → Option Id
+key_in None = None
+key_in (Some key) = option_map id_of key
+
+-- the key that has a number, if any
+abbrev pub key_at : Numbers → ℕ → Option Id
+key_at t n = key_in (slice_get t.keys.items n)
+
+-- no two numbers are of one key, and each key is known by the position of its add
+pub record IsTable (t : Numbers) : Type 0 where
+  pub apart : (m n : ℕ) (k : Id) → key_at t m ≡ Some k → key_at t n ≡ Some k → m ≡ n
+  pub known : (n : ℕ) (k : Id) → key_at t n ≡ Some k → IsSome (get nat_eq t.by_added k.1)
+
+-- each key that has a number keeps it
+abbrev pub Grows : Numbers → Numbers → Type 0
+Grows old new = (n : ℕ) (k : Id) → key_at old n ≡ Some k → key_at new n ≡ Some k
+
+-- these are the numbers of the keys of a list, one by one
+abbrev pub StandFor : Numbers → List ℕ → List Id → Type 0
+StandFor t numbers keys = map (key_at t) numbers ≡ map Some keys
+
+-- a list was read after another: it has these numbers; or it is that one
+abbrev pub IsRead : Numbers → List Id → List Id → Option (List ℕ) → Type 0
+IsRead t was keys None = was ≡ keys
+IsRead t was keys (Some numbers) = StandFor t numbers keys × (same_ids was keys ≡ false)
+
+-- the bits are those of the keys of a list
+pub record Means (t : Numbers) (words : List ℕ) (keys : List Id) : Type 0 where
+  pub members : (n : ℕ) (k : Id) → has_bit words n ≡ true → key_at t n ≡ Some k → Contains keys k
+  pub all : (k : Id) → Contains keys k → (n : ℕ) × (has_bit words n ≡ true) × (key_at t n ≡ Some k)
+  pub keyed : (n : ℕ) → has_bit words n ≡ true → IsSome (key_at t n)
+
+-- the same for a set with its signers
+abbrev pub MeansSet : Numbers → Numbered → CachedSet → Type 0
+MeansSet t p set = Means t p.0 set.0 × Means t p.1 set.1

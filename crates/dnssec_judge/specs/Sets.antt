@@ -1,0 +1,30 @@
+-- A set that caches may hold, by the numbers of its keys, and whether two or three of them hold in
+-- a chain.
+use Rattle.std.specs.Prelude.{◌&&◌, ◌||◌, ℕ, Bool, List}
+use Rattle.dnssec_judge.specs.declared.sets.held.OpenSet.{OpenSet}
+use Rattle.dnssec_judge.specs.Bits.{has_none, meet, meet_three, words_of}
+
+-- bits for the keys of a set, and for its signers
+abbrev pub Numbered : Type 0
+Numbered = List ℕ × List ℕ
+
+abbrev pub set_of : OpenSet → Numbered
+set_of h = (words_of h.keys, words_of h.signers)
+
+-- what a judge keeps of a set
+abbrev pub parts_of : OpenSet → Numbered × ℕ × ℕ
+parts_of h = (set_of h, h.since, h.last)
+
+-- ---- tests
+
+-- there is no DS, or a key named by it is in the DNSKEY set and signs it
+abbrev pub keys_hold : Numbered → Numbered → Bool
+keys_hold p q = has_none p.0 || meet_three p.0 q.0 q.1
+
+-- a key of the DNSKEY set signs the zone
+abbrev pub zone_holds : Numbered → Numbered → Bool
+zone_holds q z = meet q.0 z.0
+
+-- there is no DS, or both hold
+abbrev pub sets_have_chain : Numbered → Numbered → Numbered → Bool
+sets_have_chain p q z = has_none p.0 || (meet_three p.0 q.0 q.1 && meet q.0 z.0)

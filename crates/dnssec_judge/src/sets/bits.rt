@@ -1,0 +1,225 @@
+//! Sets of small numbers.
+ghost use Rattle.std.specs.Prelude.{◌≡◌, ◌≤◌, ◌-◌, ◌||◌, ◌&&◌, ℕ, true, false, not, nat_eq};
+ghost use Rattle.std.specs.Prelude.{if◌then◌else◌, IfOk, IfErr, OnOk, Some, get_or, slice_get};
+ghost use Rattle.std.specs.Prelude.{vec_len};
+ghost use Rattle.std.specs.List.{list_any};
+ghost use Rattle.dnssec_base.specs.declared.error.Error.TheVariants.{OutOfMemory};
+ghost use Rattle.dnssec_judge.specs.Bits.{HasSome, Share, ShareAll, all_at, common_at, has};
+ghost use Rattle.dnssec_judge.specs.Bits.{word_at, words_of};
+
+use dnssec_keyset::Error;
+use std::alloc::Global;
+
+/// How many numbers have their bits in one word.
+const WORD: usize = 64;
+
+/// A set of small numbers, as a bit for each. Numbers below 64 take no memory of the allocator.
+#[derive(Debug, Drop)]
+pub struct Bits {
+    /// The numbers below 64.
+    first: u64,
+    /// The others, in words of 64 numbers.
+    rest: Vec<u64>,
+}
+
+impl Bits {
+    /// No numbers.
+    pub fn new(alloc: Global) -> Self
+        ensures { (n : ℕ) → has result n ≡ false }
+    {
+        Bits {
+            first: 0,
+            rest: Vec::new(alloc),
+        }
+    }
+
+    /// These numbers.
+    pub fn of(alloc: Global, numbers: &[usize]) -> Result<Self, Error>
+        ensures ok { IfOk result (λ bits. (n : ℕ) →
+            has bits n ≡ list_any (λ number. nat_eq number n) numbers.now) }
+        ensures err { IfErr result (λ e. e ≡ OutOfMemory) }
+    {
+        let mut bits = Bits::new(alloc);
+        for number in numbers {
+            bits.put(*number)?;
+        }
+        Ok(bits)
+    }
+
+    /// The same set.
+    pub fn try_clone(&self) -> Result<Self, Error>
+        ensures ok { IfOk result (λ copy. words_of copy ≡ words_of self.now) }
+        ensures err { IfErr result (λ e. e ≡ OutOfMemory) }
+    {
+        let rest = self.rest.clone()?;
+        Ok(Bits {
+            first: self.first,
+            rest,
+        })
+    }
+
+    /// One of its words.
+    #[inline(always)]
+    fn word(&self, index: usize) -> u64
+        ensures { result ≡ word_at (words_of self.now) index }
+    {
+        match index.checked_sub(1) {
+            None => self.first,
+            Some(index) => self.rest.get(index).copied().unwrap_or(0),
+        }
+    }
+
+    /// Writes one of its words.
+    #[inline(always)]
+    fn write(&mut self, index: usize, word: u64) -> Result<(), Error>
+        ensures ok { OnOk result ((i : ℕ) → word_at (words_of self.new) i
+            ≡ (if nat_eq index i then word else word_at (words_of self.old) i)) }
+        ensures err { IfErr result (λ e. e ≡ OutOfMemory) }
+    {
+        let Some(before) = index.checked_sub(1) else {
+            self.first = word;
+            return Ok(());
+        };
+        self.fill_up(index)?;
+        self.rest[before] = word;
+        Ok(())
+    }
+
+    /// Fills its words up with 0, to so many after the first.
+    fn fill_up(&mut self, len: usize) -> Result<(), Error>
+        ensures len { OnOk result (len ≤ vec_len self.new.rest) }
+        ensures first { OnOk result (self.new.first ≡ self.old.first) }
+        ensures rest { OnOk result ((i : ℕ) → get_or self.new.rest.items i 0
+            ≡ get_or self.old.rest.items i 0) }
+        ensures err { IfErr result (λ e. e ≡ OutOfMemory) }
+    {
+        if len <= self.rest.len() {
+            return Ok(());
+        }
+        self.rest.reserve_exact(len - self.rest.len())?;
+        self.rest.resize(len, 0)?;
+        Ok(())
+    }
+
+    /// Puts a number in.
+    pub fn put(&mut self, number: usize) -> Result<(), Error>
+        ensures ok { OnOk result ((n : ℕ) → has self.new n
+            ≡ (if nat_eq number n then true else has self.old n)) }
+        ensures err { IfErr result (λ e. e ≡ OutOfMemory) }
+    {
+        let index = number / WORD;
+        self.write(index, self.word(index) | 1u64 << (number % WORD))?;
+        Ok(())
+    }
+
+    /// Keeps only the numbers that are in another set too.
+    pub fn keep(&mut self, other: &Bits)
+        ensures { (n : ℕ) → has self.new n ≡ (has self.old n && has other.now n) }
+    {
+        self.first &= other.first;
+        for index in 0..self.rest.len() {
+            self.rest[index] &= other.rest.get(index).copied().unwrap_or(0);
+        }
+    }
+
+    /// Whether the number is in the set.
+    pub fn has(&self, number: usize) -> bool
+        ensures { result ≡ has self.now number }
+    {
+        (self.word(number / WORD) >> (number % WORD)) & 1 == 1
+    }
+
+    /// Whether no number is in it.
+    #[inline(always)]
+    pub fn is_empty(&self) -> bool
+        ensures yes { result ≡ true → (n : ℕ) → has self.now n ≡ false }
+        ensures no { result ≡ false → (n : ℕ) × (has self.now n ≡ true) }
+    {
+        self.first == 0 && are_noughts(&self.rest)
+    }
+
+    /// Whether the sets have a number in common.
+    #[inline(always)]
+    pub fn meets(&self, other: &Bits) -> bool
+        ensures yes { result ≡ true → Share (words_of self.now) (words_of other.now) }
+        ensures no { result ≡ false → Share (words_of self.now) (words_of other.now) → ⊥ }
+    {
+        self.first & other.first != 0 || do_meet(&self.rest, &other.rest)
+    }
+
+    /// Whether the three sets have a number in common.
+    #[inline(always)]
+    pub fn meets_both(&self, one: &Bits, other: &Bits) -> bool
+        ensures yes { result ≡ true →
+            ShareAll (words_of self.now) (words_of one.now) (words_of other.now) }
+        ensures no { result ≡ false →
+            ShareAll (words_of self.now) (words_of one.now) (words_of other.now) → ⊥ }
+    {
+        self.first & one.first & other.first != 0 || do_all_meet(&self.rest, &one.rest, &other.rest)
+    }
+
+    /// Whether it is the same set. All sets are without words at the end that are 0, or two that
+    /// are the same may be taken for two.
+    pub fn is(&self, other: &Bits) -> bool
+        ensures { result ≡ true → words_of self.now ≡ words_of other.now }
+    {
+        self.first == other.first && self.rest == other.rest
+    }
+
+    /// A number that is the same for the same set, and for others mostly not.
+    pub fn digest(&self, seed: u64) -> u64 {
+        let mut digest = mix(seed, self.first);
+        for word in &self.rest {
+            digest = mix(digest, *word);
+        }
+        digest
+    }
+}
+
+/// Whether all words are 0.
+fn are_noughts(words: &[u64]) -> bool
+    ensures yes { result ≡ true → (i : ℕ) → word_at words.now i ≡ 0 }
+    ensures no { result ≡ false → (i : ℕ) × HasSome (word_at words.now i) }
+{
+    for word in words {
+        if *word != 0 {
+            return false;
+        }
+    }
+    true
+}
+
+/// Whether a bit is set in words at the same place of both lists.
+fn do_meet(words: &[u64], others: &[u64]) -> bool
+    ensures yes { result ≡ true → (i : ℕ) × HasSome (common_at words.now others.now i) }
+    ensures no { result ≡ false → (i : ℕ) → common_at words.now others.now i ≡ 0 }
+{
+    for (index, word) in words.iter().enumerate() {
+        let other = others.get(index).copied().unwrap_or(0);
+        if *word & other != 0 {
+            return true;
+        }
+    }
+    false
+}
+
+/// The same of three lists.
+fn do_all_meet(words: &[u64], ones: &[u64], others: &[u64]) -> bool
+    ensures yes { result ≡ true → (i : ℕ) × HasSome (all_at words.now ones.now others.now i) }
+    ensures no { result ≡ false → (i : ℕ) → all_at words.now ones.now others.now i ≡ 0 }
+{
+    for (index, word) in words.iter().enumerate() {
+        let one = ones.get(index).copied().unwrap_or(0);
+        let other = others.get(index).copied().unwrap_or(0);
+        if *word & one & other != 0 {
+            return true;
+        }
+    }
+    false
+}
+
+/// The next digest with a word more.
+fn mix(digest: u64, word: u64) -> u64 {
+    let mixed = (digest ^ word).wrapping_mul(0x9E37_79B9_7F4A_7C15);
+    mixed ^ (mixed >> 32)
+}

@@ -1,0 +1,352 @@
+//! The keys of a record as small numbers.
+ghost use Rattle.std.specs.Prelude.{◌↔◌};
+ghost use Rattle.std.specs.Prelude.{◌≡◌, ◌≤◌, ◌-◌, ℕ, false, true, Option, None, Some, map, nat_eq};
+ghost use Rattle.std.specs.Prelude.{◌++◌, IfOk, IfErr, IfSome, IsSome, List, OnOk, length, slice_get};
+ghost use Rattle.std.specs.Prelude.{vec_len};
+ghost use Rattle.std.specs.{HashMap.get, Option.option_copied, Option.option_map};
+ghost use Rattle.dnssec_base.specs.declared.error.Error.TheVariants.{OutOfMemory};
+ghost use Rattle.dnssec_run.specs.Frames.{KeepsFrame};
+ghost use Rattle.dnssec_run.specs.Published.{Id, id_of};
+ghost use Rattle.dnssec_judge.specs.Numbers.{Grows, IsRead, IsTable, StandFor, key_at, key_in};
+
+use dnssec_keyset::Error;
+use dnssec_run::{Frame, PublishedKey};
+use std::alloc::Global;
+use std::collections::HashMap;
+
+/// Fewer numbers than this are not given back.
+const FEW: usize = 8;
+
+/// A key of a record has the number of the place at which it stands here. Numbers of keys that have
+/// left are given to other keys.
+#[derive(Debug, Drop)]
+pub struct Numbers {
+    keys: Vec<Option<PublishedKey>>,
+    /// By the position of its add, the number of a key.
+    by_added: HashMap<usize, usize>,
+    /// Numbers that no key has.
+    spare: Vec<usize>,
+    /// Once as many numbers are in use, it is time to give back those of keys that have left.
+    enough: usize,
+}
+
+impl Numbers {
+    /// No key has a number.
+    pub fn new(alloc: Global) -> Self
+        ensures table { IsTable result }
+        ensures none { (n : ℕ) → key_at result n ≡ None }
+    {
+        Numbers {
+            keys: Vec::new(alloc),
+            by_added: HashMap::new(alloc),
+            spare: Vec::new(alloc),
+            enough: FEW,
+        }
+    }
+
+    /// A copy, with the same numbers.
+    pub fn try_clone(&self, alloc: Global) -> Result<Self, Error>
+        ensures same { IfOk result (λ copy. (n : ℕ) → key_at copy n ≡ key_at self.now n) }
+        ensures table { IfOk result (λ copy. IsTable self.now ↔ IsTable copy) }
+        ensures err { IfErr result (λ e. e ≡ OutOfMemory) }
+    {
+        let mut keys = Vec::with_capacity(alloc, self.keys.len())?;
+        for key in &self.keys {
+            let copy = match key {
+                Some(key) => Some(copy_of(key)?),
+                None => None,
+            };
+            keys.push(copy)?;
+        }
+        Ok(Numbers {
+            keys,
+            by_added: self.by_added.clone()?,
+            spare: self.spare.clone()?,
+            enough: self.enough,
+        })
+    }
+
+    /// The numbers of the keys of a list, or `None` if it is the list of before. It reads only what
+    /// may have changed, and there most keys stand where they stood before.
+    pub fn read(
+        &mut self,
+        alloc: Global,
+        list: &[PublishedKey],
+        before: &[usize],
+        frame: Frame,
+    ) -> Result<Option<Vec<usize>>, Error>
+        ensures ok { IfOk result (λ numbers. (was : List Id) → IsTable self.old →
+            StandFor self.old before.now was → KeepsFrame frame was (map id_of list.now) →
+            IsRead self.new was (map id_of list.now) (option_map (λ ns. ns.items) numbers)) }
+        ensures table { OnOk result (IsTable self.old → IsTable self.new) }
+        ensures grows { OnOk result (IsTable self.old → Grows self.old self.new) }
+        ensures err { IfErr result (λ e. e ≡ OutOfMemory) }
+    {
+        let (front, middle, back) = parts(before, frame);
+        let (_, changed, _) = parts(list, frame);
+        if self.are(middle, changed) {
+            return Ok(None);
+        }
+        let mut numbers = Vec::with_capacity(alloc, list.len())?;
+        numbers.extend_from_slice(front)?;
+        let mut rest = middle;
+        for key in changed {
+            let (number, others) = self.next_number(rest, key)?;
+            numbers.push(number)?;
+            rest = others;
+        }
+        numbers.extend_from_slice(back)?;
+        Ok(Some(numbers))
+    }
+
+    /// The number of the next key of a list, and those after it in the list of before.
+    fn next_number<'a>(
+        &mut self,
+        rest: &'a [usize],
+        key: &PublishedKey,
+    ) -> Result<(usize, &'a [usize]), Error>
+        ensures ok { IfOk result (λ p. key_at self.new p.0 ≡ Some (id_of key.now)) }
+        ensures table { OnOk result (IsTable self.old → IsTable self.new) }
+        ensures grows { OnOk result (IsTable self.old → Grows self.old self.new) }
+        ensures err { IfErr result (λ e. e ≡ OutOfMemory) }
+    {
+        let rest = self.skip(rest, key);
+        if let Some((number, others)) = rest.split_first() {
+            if self.is(*number, key) {
+                return Ok((*number, others));
+            }
+        }
+        let number = self.number_of(key)?;
+        Ok((number, rest))
+    }
+
+    /// Whether the numbers are those of the keys of a list.
+    fn are(&self, numbers: &[usize], list: &[PublishedKey]) -> bool
+        ensures yes { result ≡ true → StandFor self.now numbers.now (map id_of list.now) }
+        ensures no { result ≡ false → StandFor self.now numbers.now (map id_of list.now) → ⊥ }
+    {
+        let mut rest = numbers;
+        for key in list {
+            let Some((number, others)) = rest.split_first() else {
+                return false;
+            };
+            if !self.is(*number, key) {
+                return false;
+            }
+            rest = others;
+        }
+        rest.is_empty()
+    }
+
+    /// The numbers from the second one on, if that is the key's: the key of the first has left.
+    fn skip<'a>(&self, numbers: &'a [usize], key: &PublishedKey) -> &'a [usize] {
+        let Some((first, others)) = numbers.split_first() else {
+            return numbers;
+        };
+        match others.first() {
+            Some(second) if !self.is(*first, key) && self.is(*second, key) => others,
+            _ => numbers,
+        }
+    }
+
+    /// Whether the number is the key's.
+    fn is(&self, number: usize, key: &PublishedKey) -> bool
+        ensures yes { result ≡ true → key_at self.now number ≡ Some (id_of key.now) }
+        ensures no { result ≡ false → key_at self.now number ≡ Some (id_of key.now) → ⊥ }
+    {
+        match self.key(number) {
+            Some(other) => *other == *key,
+            None => false,
+        }
+    }
+
+    /// The key that has a number.
+    fn key(&self, number: usize) -> Option<&PublishedKey>
+        ensures { option_map id_of (option_copied result) ≡ key_at self.now number }
+    {
+        match self.keys.get(number) {
+            Some(key) => key.as_ref(),
+            None => None,
+        }
+    }
+
+    /// The number of a key. It gets one if it has none.
+    pub fn number_of(&mut self, key: &PublishedKey) -> Result<usize, Error>
+        ensures ok { IfOk result (λ n. key_at self.new n ≡ Some (id_of key.now)) }
+        ensures table { OnOk result (IsTable self.old → IsTable self.new) }
+        ensures grows { OnOk result (IsTable self.old → Grows self.old self.new) }
+        ensures err { IfErr result (λ e. e ≡ OutOfMemory) }
+    {
+        if let Some(number) = self.find(key) {
+            return Ok(number);
+        }
+        let copy = copy_of(key)?;
+        let number = self.spare_number();
+        self.by_added.insert(key.added, number)?;
+        self.write(number, copy)?;
+        Ok(number)
+    }
+
+    /// The number of a key that has one. In a run no two keys are added at one position; in another
+    /// record all are looked at.
+    fn find(&self, key: &PublishedKey) -> Option<usize>
+        ensures some { IfSome result (λ n. key_at self.now n ≡ Some (id_of key.now)) }
+        ensures none { result ≡ None → IsTable self.now → (n : ℕ) →
+            key_at self.now n ≡ Some (id_of key.now) → ⊥ }
+    {
+        let number = *self.by_added.get(&key.added)?;
+        if self.is(number, key) {
+            return Some(number);
+        }
+        for number in 0..self.keys.len() {
+            if self.is(number, key) {
+                return Some(number);
+            }
+        }
+        None
+    }
+
+    /// A number that no key has.
+    fn spare_number(&mut self) -> usize
+        ensures none { key_at self.new result ≡ None }
+        ensures within { result ≤ vec_len self.new.keys }
+        ensures kept { self.new ≡ record (self.old) { spare = self.new.spare } }
+    {
+        match self.spare.pop() {
+            Some(number) if self.is_spare(number) => number,
+            _ => self.keys.len(),
+        }
+    }
+
+    /// Whether there is a place for the number, and no key has it.
+    fn is_spare(&self, number: usize) -> bool
+        ensures none { result ≡ true → key_at self.now number ≡ None }
+        ensures within { result ≡ true → number ≤ vec_len self.now.keys }
+    {
+        number < self.keys.len() && self.key(number).is_none()
+    }
+
+    /// Gives a number that no key has to a key.
+    fn write(&mut self, number: usize, key: PublishedKey) -> Result<(), Error>
+        requires { number ≤ vec_len self.old.keys }
+        ensures ok { OnOk result (key_at self.new number ≡ Some (id_of key)) }
+        ensures others { OnOk result ((n : ℕ) → (n ≡ number → ⊥) →
+            key_at self.new n ≡ key_at self.old n) }
+        ensures kept { OnOk result (self.new.by_added ≡ self.old.by_added) }
+        ensures err { IfErr result (λ e. e ≡ OutOfMemory) }
+    {
+        if number < self.keys.len() {
+            self.keys[number] = Some(key);
+        } else {
+            self.keys.push(Some(key))?;
+        }
+        Ok(())
+    }
+
+    /// Whether it is time to give back the numbers of keys that have left.
+    pub fn are_enough(&self) -> bool {
+        self.enough <= self.keys.len()
+    }
+
+    /// One more than the greatest number.
+    pub fn end(&self) -> usize
+        ensures { (n : ℕ) → result ≤ n → key_at self.now n ≡ None }
+    {
+        self.keys.len()
+    }
+
+    /// Gives a number back. `renew` is then due.
+    pub fn give_back(&mut self, number: usize)
+        ensures others { (n : ℕ) → (n ≡ number → ⊥) → key_at self.new n ≡ key_at self.old n }
+        ensures none { key_at self.new number ≡ None }
+        ensures table { IsTable self.old → IsTable self.new }
+    {
+        if number < self.keys.len() {
+            self.keys[number] = None;
+        }
+    }
+
+    /// Notes which numbers no key has, after some were given back.
+    pub fn renew(&mut self, alloc: Global) -> Result<(), Error>
+        ensures same { OnOk result ((n : ℕ) → key_at self.new n ≡ key_at self.old n) }
+        ensures table { OnOk result (IsTable self.old → IsTable self.new) }
+        ensures err { IfErr result (λ e. e ≡ OutOfMemory) }
+    {
+        self.drop_last();
+        let mut by_added = HashMap::new(alloc);
+        let mut spare = Vec::new(alloc);
+        for (number, key) in self.keys.iter().enumerate() {
+            note(number, key, &mut by_added, &mut spare)?;
+        }
+        let in_use = self.keys.len().saturating_sub(spare.len());
+        let more = self.keys.len().saturating_add(1);
+        self.enough = FEW.max(more).max(in_use.saturating_mul(2));
+        self.by_added = by_added;
+        self.spare = spare;
+        Ok(())
+    }
+
+    /// Drops the last places, if no key has them.
+    fn drop_last(&mut self)
+        ensures same { (n : ℕ) → key_at self.new n ≡ key_at self.old n }
+        ensures kept { self.new ≡ record (self.old) { keys = self.new.keys } }
+    {
+        while self.ends_without_key() {
+            self.keys.pop();
+        }
+    }
+
+    /// Whether no key has the last place.
+    fn ends_without_key(&self) -> bool
+        ensures { result ≡ true →
+            slice_get self.now.keys.items (vec_len self.now.keys - 1) ≡ Some None }
+    {
+        match self.keys.last() {
+            Some(key) => key.is_none(),
+            None => false,
+        }
+    }
+}
+
+/// A list in three parts: what stands in front of a change, what may have changed, and what stands
+/// behind it.
+fn parts<T>(list: &[T], frame: Frame) -> (&[T], &[T], &[T])
+    ensures { (front middle back : List T) → list.now ≡ front ++ (middle ++ back) →
+        length front ≡ frame.front → length back ≡ frame.back →
+        (result.0.now ≡ front) × (result.1.now ≡ middle) × (result.2.now ≡ back) }
+{
+    let (front, rest) = list.split_at(frame.front.min(list.len()));
+    let (middle, back) = rest.split_at(rest.len().saturating_sub(frame.back));
+    (front, middle, back)
+}
+
+/// Notes a number with its key, or that no key has it.
+fn note(
+    number: usize,
+    key: &Option<PublishedKey>,
+    by_added: &mut HashMap<usize, usize>,
+    spare: &mut Vec<usize>,
+) -> Result<(), Error>
+    ensures known { OnOk result ((k : Id) → key_in (Some key.now) ≡ Some k →
+        IsSome (get nat_eq by_added.new k.1)) }
+    ensures kept { OnOk result ((at : ℕ) → IsSome (get nat_eq by_added.old at) →
+        IsSome (get nat_eq by_added.new at)) }
+    ensures err { IfErr result (λ e. e ≡ OutOfMemory) }
+{
+    let Some(key) = key else {
+        spare.push(number)?;
+        return Ok(());
+    };
+    by_added.insert(key.added, number)?;
+    Ok(())
+}
+
+/// A copy of a key.
+fn copy_of(key: &PublishedKey) -> Result<PublishedKey, Error>
+    ensures ok { IfOk result (λ copy. id_of copy ≡ id_of key.now) }
+    ensures err { IfErr result (λ e. e ≡ OutOfMemory) }
+{
+    let reference = key.reference.clone()?;
+    let added = key.added;
+    Ok(PublishedKey { added, reference })
+}

@@ -1,0 +1,19 @@
+//! Notes of a zone as a text beside its script, and the reports that are due by them.
+
+mod answer;
+mod fault;
+mod line;
+mod questions;
+mod reading;
+mod reports;
+mod scripts;
+mod session;
+
+pub use answer::{answer_due, answer_questions};
+pub use fault::{DueFault, LineFault, NotesFault};
+pub use line::{read_before, read_fact};
+pub use questions::answer_lines;
+pub use reading::{read_notes, without_end};
+pub use reports::due_lines;
+pub use scripts::{answer_scripts, cut};
+pub use session::{SessionNotes, notes_outlast_calls};

@@ -1,0 +1,155 @@
+//! What a line of notes says.
+ghost use Rattle.std.specs.Prelude.{◌≡◌, List};
+ghost use Rattle.std.specs.Option.{option_map};
+ghost use Rattle.dnssec_script.specs.Script.{values_of};
+ghost use Rattle.dnssec_network.specs.Text.Lines.{as_before, as_fact, before_forms, before_says};
+ghost use Rattle.dnssec_network.specs.Text.Lines.{fact_says, kind_at, kind_name, kind_named};
+ghost use Rattle.dnssec_network.specs.Text.Lines.{news_after, news_says, word_at, word_named};
+
+use crate::fact::{Before, Fact, News};
+use dnssec_record::Fields;
+use dnssec_run::SetKind;
+
+/// The words of facts.
+#[derive(Clone, Copy)]
+pub(crate) enum FactWord {
+    Published,
+    Everywhere,
+}
+
+/// The word with this name.
+#[tactic(auto, unfolding(crate::specs::Text::Lines::word_named))]
+fn word_named(name: &[u8]) -> Option<FactWord>
+    ensures { result ≡ word_named name.now }
+{
+    if name == b"published".as_slice() {
+        Some(FactWord::Published)
+    } else if name == b"everywhere".as_slice() {
+        Some(FactWord::Everywhere)
+    } else {
+        None
+    }
+}
+
+/// The kind of sets with this name.
+#[tactic(auto, unfolding(crate::specs::Text::Lines::kind_named))]
+fn kind_named(name: &[u8]) -> Option<SetKind>
+    ensures { result ≡ kind_named name.now }
+{
+    if name == b"ds".as_slice() {
+        Some(SetKind::Ds)
+    } else if name == b"dnskey".as_slice() {
+        Some(SetKind::Dnskey)
+    } else if name == b"zone".as_slice() {
+        Some(SetKind::ZoneSigners)
+    } else {
+        None
+    }
+}
+
+/// The name of a kind, as notes have it.
+pub(crate) fn kind_name(kind: SetKind) -> &'static str
+    ensures { result.now ≡ kind_name kind }
+{
+    match kind {
+        SetKind::Ds => "ds",
+        SetKind::Dnskey => "dnskey",
+        SetKind::ZoneSigners => "zone",
+    }
+}
+
+/// The first field as a word.
+fn first_word<'a>(fields: Fields<'a>) -> Option<(FactWord, Fields<'a>)>
+    ensures { option_map (λ x. (x.0, x.1)) result ≡ word_at fields.entry }
+{
+    let (name, fields) = fields.next()?;
+    Some((word_named(name)?, fields))
+}
+
+/// The first field as a kind of sets.
+fn first_kind<'a>(fields: Fields<'a>) -> Option<(SetKind, Fields<'a>)>
+    ensures { option_map (λ x. (x.0, x.1)) result ≡ kind_at fields.entry }
+{
+    let (name, fields) = fields.next()?;
+    Some((kind_named(name)?, fields))
+}
+
+/// What a line says, if it has the form of a fact's line, as `published dnskey 12 3600 100`. A
+/// caller of `read_notes` may so look at the facts that it has read.
+///
+/// ```rust
+/// if let Some(fact) = read_fact(b"published dnskey 12 3600 100") {
+///     let (kind, news) = (fact.kind, fact.news);
+/// }
+/// ```
+#[tactic(auto, unfolding(crate::specs::Text::Lines::as_fact))]
+pub fn read_fact(line: &[u8]) -> Option<Fact>
+    ensures { option_map fact_says result ≡ as_fact line.now }
+{
+    let (word, fields) = first_word(Fields::of(line))?;
+    let (kind, fields) = first_kind(fields)?;
+    let news = read_news(word, fields)?;
+    Some(Fact { kind, news })
+}
+
+/// What the fields after a word and a kind say.
+fn read_news(word: FactWord, fields: Fields<'_>) -> Option<News>
+    ensures { option_map news_says result ≡ news_after word fields.entry }
+{
+    match word {
+        FactWord::Published => published(fields),
+        FactWord::Everywhere => everywhere(fields),
+    }
+}
+
+/// The fields after `published`.
+fn published(fields: Fields<'_>) -> Option<News>
+    ensures { option_map news_says result ≡ news_after FactWord.Published fields.entry }
+{
+    let (position, fields) = fields.number(u64::MAX)?;
+    let (ttl, fields) = fields.ttl()?;
+    let (moment, fields) = fields.time()?;
+    fields.end()?;
+    Some(News::Published {
+        position: position as usize,
+        ttl,
+        moment,
+    })
+}
+
+/// The field after `everywhere`.
+fn everywhere(fields: Fields<'_>) -> Option<News>
+    ensures { option_map news_says result ≡ news_after FactWord.Everywhere fields.entry }
+{
+    let (moment, fields) = fields.time()?;
+    fields.end()?;
+    Some(News::Everywhere { moment })
+}
+
+/// What the first line says, if it has the form of one, as `before 3600 3600 3600`.
+///
+/// ```rust
+/// let before = read_before(b"before 3600 3600 3600");
+/// ```
+#[tactic(auto, unfolding(crate::specs::Text::Lines::as_before))]
+pub fn read_before(line: &[u8]) -> Option<Before>
+    ensures { option_map before_says result ≡ as_before line.now }
+{
+    let (word, fields) = Fields::of(line).next()?;
+    if word == b"before".as_slice() {
+        before(fields)
+    } else {
+        None
+    }
+}
+
+/// The fields after `before`.
+fn before(fields: Fields<'_>) -> Option<Before>
+    ensures { option_map before_says result ≡ values_of before_forms fields.entry }
+{
+    let (ds, fields) = fields.ttl()?;
+    let (dnskey, fields) = fields.ttl()?;
+    let (zone, fields) = fields.ttl()?;
+    fields.end()?;
+    Some(Before { ds, dnskey, zone })
+}

@@ -1,0 +1,157 @@
+//! Questions among the lines of notes, and their answers.
+ghost use Rattle.std.specs.Prelude.{◌≡◌, ◌∷◌, ◌++◌, ℕ, List, [], Some, IfOk, IfErr, OnOk};
+ghost use Rattle.std.specs.Prelude.{◌<◌, IsSome, is_some, map, string_bytes, vec_len};
+ghost use Rattle.std.specs.Option.{option_map};
+ghost use denote.Bor.{now};
+ghost use Rattle.dnssec_script.specs.Script.{Number, values_of};
+ghost use Rattle.dnssec_record.specs.Session.{Stands};
+ghost use Rattle.dnssec_run.specs.Moments.{moments_of};
+ghost use Rattle.dnssec_run.specs.declared.record.Entry.{Entry};
+ghost use Rattle.dnssec_network.specs.Text.Due.{AnswersDue};
+ghost use Rattle.dnssec_network.specs.Text.Questions.{AnswersAll, ComesOf, HasAnswered};
+ghost use Rattle.dnssec_network.specs.Text.Questions.{IsAnswerFault, IsAnswersFault};
+ghost use Rattle.dnssec_network.specs.Text.Questions.{IsQuestionFault, as_question, question_forms};
+ghost use Rattle.dnssec_network.specs.Text.Reading.{HasTaken};
+
+use super::fault::{LineFault, NotesFault};
+use super::session::SessionNotes;
+use dnssec_record::{Fields, Session};
+use std::alloc::{AllocError, Global};
+
+/// Answers the questions among lines of notes, each by the lines above it, after the calls that the
+/// session has made. A question is `due` with a second since 1970, and its answer has the form of
+/// `due_lines`. At least one is asked. The lines are read once, and the session isn't run again.
+///
+/// # Errors
+///
+/// - `Malformed` with the number of the first line that is neither a line of notes nor a question,
+///   or that asks before the first line of the notes. If nothing is asked, it is the number of the
+///   line after the last.
+/// - `Refused` with the number of the first fact that can't follow those before it, and the cause.
+/// - `OutOfMemory` if memory runs out for a line that could be taken or answered.
+///
+/// ```rust
+/// let session = Session::resume(alloc, script.as_bytes())?;
+/// let text = b"before 3600 3600 3600\ndue 100\npublished dnskey 12 3600 110\ndue 120\n";
+/// let answers = answer_lines(alloc, &session, &all_lines(alloc, text)?)?;
+/// ```
+pub fn answer_lines(
+    alloc: Global,
+    session: &Session,
+    lines: &[&[u8]],
+) -> Result<Vec<String>, NotesFault>
+    ensures ok { IfOk result (λ texts.
+        AnswersAll session.now (map now lines.now) (map string_bytes texts.items)) }
+    ensures asked { IfOk result (λ texts. 0 < vec_len texts) }
+    ensures err { IfErr result (IsAnswersFault session.now (map now lines.now)) }
+{
+    let mut notes = SessionNotes::new();
+    let mut answers = Vec::new(alloc);
+    for (index, line) in lines.iter().enumerate() {
+        match read_on(&mut notes, &mut answers, alloc, session, line) {
+            Ok(()) => {}
+            Err(fault) => return Err(fault.at(index + 1)),
+        }
+    }
+    if answers.is_empty() {
+        return Err(NotesFault::Malformed(lines.len() + 1));
+    }
+    Ok(answers)
+}
+
+/// Reads one more line, and adds its answer if it is a question.
+fn read_on(
+    notes: &mut SessionNotes,
+    answers: &mut Vec<String>,
+    alloc: Global,
+    session: &Session,
+    line: &[u8],
+) -> Result<(), LineFault>
+    ensures ok { OnOk result ((script lines : List (List ℕ)) (entries : List Entry) →
+        Stands script entries session.now →
+        HasAnswered script entries lines notes.old (map string_bytes answers.old.items) →
+        HasAnswered script entries (lines ++ line.now ∷ []) notes.new
+        (map string_bytes answers.new.items)) }
+    ensures err { IfErr result (λ fault. (script : List (List ℕ)) (entries : List Entry) →
+        Stands script entries session.now →
+        IsAnswerFault (moments_of entries) notes.old (as_question line.now) line.now fault) }
+{
+    match notes.answer_line(alloc, session, line)? {
+        None => Ok(()),
+        Some(text) => match answers.push(text) {
+            Ok(()) => Ok(()),
+            Err(_) => Err(LineFault::OutOfMemory),
+        },
+    }
+}
+
+impl SessionNotes {
+    /// Takes the next line of notes among which questions stand: answers a question by the lines so
+    /// far, and takes any other line as `take_line` does.
+    ///
+    /// # Errors
+    ///
+    /// Those of `take_line`; `Malformed` for a question too, if there is no line of notes yet. The
+    /// notes are then as they were.
+    pub fn answer_line(
+        &mut self,
+        alloc: Global,
+        session: &Session,
+        line: &[u8],
+    ) -> Result<Option<String>, LineFault>
+        ensures told { IfOk result (λ told. (script notes : List (List ℕ)) (entries : List Entry) →
+            Stands script entries session.now → HasTaken (moments_of entries) notes self.old →
+            ComesOf script entries notes line.now (option_map string_bytes told) self.new) }
+        ensures question { IfOk result (λ told. is_some told ≡ is_some (as_question line.now)) }
+        ensures begun { IfOk result (λ told. IsSome told → IsSome self.old) }
+        ensures err { IfErr result (λ fault. (script : List (List ℕ)) (entries : List Entry) →
+            Stands script entries session.now →
+            IsAnswerFault (moments_of entries) self.old (as_question line.now) line.now fault) }
+        ensures kept { IfErr result (λ _. self.new ≡ self.old) }
+    {
+        match read_question(line) {
+            Some(seconds) => Ok(Some(self.answer(alloc, session, seconds)?)),
+            None => {
+                self.take_line(alloc, session, line)?;
+                Ok(None)
+            }
+        }
+    }
+
+    /// The answer to a question by the lines so far.
+    fn answer(&self, alloc: Global, session: &Session, seconds: u64) -> Result<String, LineFault>
+        ensures text { IfOk result (λ text.
+            AnswersDue session.now self.now seconds (Some (string_bytes text))) }
+        ensures begun { IfOk result (λ _. IsSome self.now) }
+        ensures err { IfErr result (IsQuestionFault self.now) }
+    {
+        match self.due_now(alloc, session, seconds) {
+            Ok(Some(text)) => Ok(text),
+            Ok(None) => Err(LineFault::Malformed),
+            Err(AllocError) => Err(LineFault::OutOfMemory),
+        }
+    }
+}
+
+/// The second that a line asks about, if it is a question.
+#[tactic(auto, unfolding(crate::specs::Text::Questions::as_question))]
+fn read_question(line: &[u8]) -> Option<u64>
+    ensures { option_map (λ second. Number second ∷ []) result ≡ as_question line.now }
+{
+    let (word, fields) = Fields::of(line).next()?;
+    if word == b"due".as_slice() {
+        second(fields)
+    } else {
+        None
+    }
+}
+
+/// The fields after `due`.
+fn second(fields: Fields<'_>) -> Option<u64>
+    ensures { option_map (λ second. Number second ∷ []) result
+        ≡ values_of question_forms fields.entry }
+{
+    let (second, fields) = fields.number(u64::MAX)?;
+    fields.end()?;
+    Some(second)
+}

@@ -1,0 +1,158 @@
+//! The reports that are due, as lines.
+ghost use Rattle.std.specs.Prelude.{◌≡◌, ◌++◌, ◌*◌, ℕ, IfOk, OnOk, codes, decimal, string_bytes};
+ghost use Rattle.std.specs.List.{flat_map};
+ghost use Rattle.dnssec_run.specs.Steps.{step_of};
+ghost use Rattle.dnssec_network.specs.Text.Due.{due_line, due_text, line_for, report_of};
+ghost use Rattle.dnssec_network.specs.Text.Due.{report_word, first_second, ttl_line, why_text};
+
+use super::line::kind_name;
+use crate::due::{DueReport, NotYet};
+use crate::notes::Notes;
+use dnssec_key::roll_name;
+use dnssec_keyset::{KeySet, RollType, UnixTime};
+use dnssec_run::{Moments, Steps};
+use dnssec_zone::all_rolls;
+use std::alloc::{AllocError, Global};
+use std::time::Duration;
+
+/// The reports that rolls wait for, as they would be made at this second since 1970. Each has a
+/// line of a script, as `report1 ksk-roll 3600 130`. If it isn't due yet, its line says which sets
+/// it waits for, as `not yet: report1 ksk-roll waits for dnskey`, or up to which second, as `not
+/// yet: report1 ksk-roll waits until 100`. `steps` are the last steps of the record of this key
+/// set, and `moments` those of its calls.
+///
+/// # Errors
+///
+/// `AllocError` if memory runs out.
+///
+/// ```rust
+/// let steps = Steps::of_record(&run.entries);
+/// let moments = Moments::of_record(alloc, &run.entries)?;
+/// let lines = due_lines(alloc, &run.keyset, steps, &moments, &notes, seconds)?;
+/// ```
+pub fn due_lines(
+    alloc: Global,
+    keyset: &KeySet,
+    steps: Steps,
+    moments: &Moments,
+    notes: &Notes,
+    seconds: u64,
+) -> Result<String, AllocError>
+    ensures { IfOk result (λ text. string_bytes text ≡ due_text keyset.now.rolls (step_of steps)
+        moments.now notes.now.before notes.now.facts seconds) }
+{
+    let mut text = String::new(alloc);
+    push_lines(
+        &mut text,
+        all_rolls(),
+        keyset,
+        steps,
+        moments,
+        notes,
+        seconds,
+    )?;
+    Ok(text)
+}
+
+/// Writes a line for each roll that waits for a report.
+fn push_lines(
+    text: &mut String,
+    rolls: &[RollType],
+    keyset: &KeySet,
+    steps: Steps,
+    moments: &Moments,
+    notes: &Notes,
+    seconds: u64,
+) -> Result<(), AllocError>
+    ensures { OnOk result (string_bytes text.new ≡ string_bytes text.old
+        ++ flat_map (line_for keyset.now.rolls (step_of steps) moments.now notes.now.before
+        notes.now.facts seconds) rolls.now) }
+{
+    for roll in rolls {
+        let now = UnixTime::from(Duration::from_secs(seconds));
+        let report = notes.due_report(keyset, steps, moments, *roll, now);
+        push_line(text, &report, seconds)?;
+    }
+    Ok(())
+}
+
+/// Writes the line of a report, if one is due or waited for.
+fn push_line(text: &mut String, report: &Option<DueReport>, seconds: u64) -> Result<(), AllocError>
+    ensures { OnOk result (string_bytes text.new
+        ≡ string_bytes text.old ++ due_line report.now seconds) }
+{
+    match report {
+        None => Ok(()),
+        Some(report) => push_report(text, report, seconds),
+    }
+}
+
+/// Writes a report that is due, or what it still waits for.
+fn push_report(text: &mut String, report: &DueReport, seconds: u64) -> Result<(), AllocError>
+    ensures { OnOk result (string_bytes text.new ≡ string_bytes text.old
+        ++ ttl_line report.now.second report.now.roll report.now.ttl seconds) }
+{
+    match report.ttl {
+        Ok(ttl) => {
+            push_call(text, report.second, report.roll)?;
+            text.push_str(" ")?;
+            push_number(text, u64::from(ttl))?;
+            text.push_str(" ")?;
+            push_number(text, seconds)?;
+            text.push_str("\n")
+        }
+        Err(why) => {
+            text.push_str("not yet: ")?;
+            push_call(text, report.second, report.roll)?;
+            push_why(text, why)?;
+            text.push_str("\n")
+        }
+    }
+}
+
+/// Writes what a report waits for.
+fn push_why(text: &mut String, why: NotYet) -> Result<(), AllocError>
+    ensures { OnOk result (string_bytes text.new ≡ string_bytes text.old ++ why_text why) }
+{
+    match why {
+        NotYet::WaitsFor(kind) => {
+            text.push_str(" waits for ")?;
+            text.push_str(kind_name(kind))
+        }
+        NotYet::WaitsUntil(moment) => {
+            text.push_str(" waits until ")?;
+            let second = first_second(moment);
+            write!(text, "{second}")
+        }
+    }
+}
+
+/// The first second since 1970 that isn't before the moment.
+fn first_second(moment: UnixTime) -> u128
+    ensures { result ≡ first_second moment }
+{
+    (Duration::from(moment).as_nanos() + 999_999_999) / 1_000_000_000
+}
+
+/// Writes the word of a report and its roll.
+fn push_call(text: &mut String, second: bool, roll: RollType) -> Result<(), AllocError>
+    ensures { OnOk result (string_bytes text.new ≡ string_bytes text.old ++ report_of second roll) }
+{
+    text.push_str(report_word(second))?;
+    text.push_str(" ")?;
+    text.push_str(roll_name(roll))
+}
+
+/// Writes a number in decimal.
+fn push_number(text: &mut String, number: u64) -> Result<(), AllocError>
+    ensures { OnOk result (string_bytes text.new ≡ string_bytes text.old ++ decimal number) }
+{
+    write!(text, "{number}")
+}
+
+/// The word of a report.
+fn report_word(second: bool) -> &'static str
+    ensures { result.now ≡ report_word second }
+{
+    if second { "report2" } else { "report1" }
+}

@@ -1,0 +1,159 @@
+//! Notes beside a session.
+ghost use Rattle.std.specs.Prelude.{◌≡◌, ◌∷◌, ◌++◌, ℕ, List, [], None, Some, IfOk, IfErr, Ok, OnOk};
+ghost use Rattle.std.specs.Option.{option_map};
+ghost use Rattle.std.specs.Prelude.{string_bytes};
+ghost use Rattle.dnssec_run.specs.Moments.{moments_of};
+ghost use Rattle.dnssec_record.specs.Session.{Stands, StandsAfter};
+ghost use Rattle.dnssec_run.specs.declared.call.Call.{Call};
+ghost use Rattle.dnssec_run.specs.declared.record.Entry.{Entry};
+ghost use Rattle.dnssec_network.specs.Text.Due.{AnswersDue};
+ghost use Rattle.dnssec_network.specs.Text.Reading.{HasTaken, IsFirstFault, IsFirstLine};
+ghost use Rattle.dnssec_network.specs.Text.Reading.{IsTakeFault, NotesOutlastCalls};
+
+use super::fault::LineFault;
+use super::line::read_before;
+use super::reading::take_fact;
+use super::reports::due_lines;
+use crate::notes::Notes;
+use dnssec_record::Session;
+use std::alloc::{AllocError, Global};
+use std::marker::Model;
+
+/// Notes of a session's zone, which are handed in line by line. They say which reports are due in
+/// the session's present state.
+///
+/// ```rust
+/// let mut notes = SessionNotes::new();
+/// notes.take_line(alloc, &session, b"before 3600 3600 3600")?;
+/// // The session goes on, and so do the notes.
+/// notes.take_line(alloc, &session, b"published dnskey 12 3600 100")?;
+/// let lines = notes.due_now(alloc, &session, 130)?;
+/// ```
+#[derive(Drop)]
+pub struct SessionNotes {
+    /// None before the first line, so that a session without notes takes no memory for them.
+    notes: Option<Box<Notes>>,
+}
+
+impl Model for SessionNotes {
+    ghost use Rattle.std.specs.Option.{option_map};
+    ghost use Rattle.std.specs.Prelude.{Option};
+    ghost use Rattle.dnssec_network.specs.Notes.{NotesParts};
+
+    ghost Value = { Option NotesParts };
+
+    ghost view = { λ beside. option_map (λ notes. notes.value) beside.notes };
+}
+
+impl SessionNotes {
+    /// No line is taken yet.
+    pub fn new() -> Self
+        ensures { result ≡ None }
+    {
+        SessionNotes { notes: None }
+    }
+
+    /// The same notes, for a copy of the session. They take their memory from `alloc`.
+    ///
+    /// # Errors
+    ///
+    /// If there is no memory.
+    pub fn try_clone(&self, alloc: Global) -> Result<Self, AllocError>
+        ensures { IfOk result (λ copy. copy ≡ self.now) }
+    {
+        match &self.notes {
+            None => Ok(SessionNotes::new()),
+            Some(notes) => SessionNotes::with(alloc, (**notes).try_clone()?),
+        }
+    }
+
+    /// These notes, in a box.
+    fn with(alloc: Global, notes: Notes) -> Result<Self, AllocError>
+        ensures { IfOk result (λ kept. kept ≡ Some notes) }
+    {
+        let notes = Box::new(alloc, notes)?;
+        Ok(SessionNotes { notes: Some(notes) })
+    }
+
+    /// Takes the next line of the notes, after the calls that the session has made so far. The
+    /// first line has the TTLs from before the first call.
+    ///
+    /// # Errors
+    ///
+    /// - `Malformed` if it isn't a line of notes.
+    /// - `Refused` if its fact can't follow the calls or the facts before it, with the cause.
+    /// - `OutOfMemory` if memory runs out for a line that could be taken.
+    ///
+    /// The notes are then as they were.
+    pub fn take_line(
+        &mut self,
+        alloc: Global,
+        session: &Session,
+        line: &[u8],
+    ) -> Result<(), LineFault>
+        ensures ok { OnOk result ((name : List ℕ) (calls : List Call) (entries : List Entry)
+            (lines : List (List ℕ)) → StandsAfter name calls entries session.now →
+            HasTaken (moments_of entries) lines self.old →
+            HasTaken (moments_of entries) (lines ++ line.now ∷ []) self.new) }
+        ensures err { IfErr result (λ fault.
+            (name : List ℕ) (calls : List Call) (entries : List Entry) →
+            StandsAfter name calls entries session.now →
+            IsTakeFault (moments_of entries) self.old line.now fault) }
+        ensures kept { IfErr result (λ _. self.new ≡ self.old) }
+    {
+        match &mut self.notes {
+            Some(notes) => take_fact(&mut **notes, session.moments(), line),
+            None => {
+                *self = SessionNotes::begin(alloc, line)?;
+                Ok(())
+            }
+        }
+    }
+
+    /// Notes that have their first line.
+    fn begin(alloc: Global, line: &[u8]) -> Result<Self, LineFault>
+        ensures ok { IfOk result (IsFirstLine line.now) }
+        ensures err { IfErr result (IsFirstFault line.now) }
+    {
+        let Some(before) = read_before(line) else {
+            return Err(LineFault::Malformed);
+        };
+        match SessionNotes::with(alloc, Notes::new(alloc, before)) {
+            Ok(notes) => Ok(notes),
+            Err(_) => Err(LineFault::OutOfMemory),
+        }
+    }
+
+    /// The reports that the session's rolls wait for, as they would be made at this second since
+    /// 1970, in the form of `due_lines`. None before the first line of the notes.
+    ///
+    /// It is what `answer_due` answers for the lines of the session and of the notes.
+    ///
+    /// # Errors
+    ///
+    /// If there is no memory.
+    pub fn due_now(
+        &self,
+        alloc: Global,
+        session: &Session,
+        seconds: u64,
+    ) -> Result<Option<String>, AllocError>
+        ensures text { IfOk result (λ text.
+            AnswersDue session.now self.now seconds (option_map string_bytes text)) }
+        ensures none { self.now ≡ None → result ≡ Ok None }
+    {
+        match &self.notes {
+            None => Ok(None),
+            Some(notes) => {
+                let (keyset, steps) = (session.keyset(), session.steps());
+                let moments = session.moments();
+                Ok(Some(due_lines(alloc, keyset, steps, moments, &**notes, seconds)?))
+            }
+        }
+    }
+}
+
+/// What was taken stays taken when the session makes more calls: the same lines are its notes.
+pub fn notes_outlast_calls()
+    ensures { NotesOutlastCalls }
+{}

@@ -1,5 +1,0 @@
-use Rattle.std.proofs.{Common.arith, lemmas.Grind.common_steps}
-use Rattle.dnssec_notes.proofs.reports.push_lines.Goals as goal
-
-pub loop-roll-preserved : goal.loop-roll-preserved
-loop-roll-preserved c = grind (arith, common_steps)

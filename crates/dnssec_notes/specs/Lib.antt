@@ -1,6 +1,0 @@
-pub mod Lines
-pub mod Reading
-pub mod Due
-pub mod Questions
-pub mod Texts
-pub mod Scripts

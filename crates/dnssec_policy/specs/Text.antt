@@ -1,0 +1,5 @@
+pub mod Wishes
+pub mod Reading
+pub mod Writing
+pub mod Lint
+pub mod Faults

@@ -1,0 +1,79 @@
+//! Why the question what to do next was not answered.
+ghost use Rattle.std.specs.Prelude.{◌≡◌, Some};
+ghost use Rattle.dnssec_policy.specs.Automatic.Faults.{lacks_memory, next_fault_text};
+ghost use Rattle.dnssec_policy.specs.declared.automatic.fault.NextFault.TheVariants.{OutOfMemory};
+ghost use Rattle.dnssec_policy.specs.declared.automatic.fault.NextFault.TheVariants as fault;
+
+use crate::text::{PolicyFault, TooShort};
+use dnssec_network::{DueFault, NotesFault};
+use dnssec_record::ScriptFault;
+use std::alloc::AllocError;
+use std::fmt;
+
+/// Why the question what to do next was not answered.
+#[derive(Debug, Drop)]
+pub enum NextFault {
+    /// The policy was not read.
+    Policy(PolicyFault),
+    /// The script was not run, or the notes not read.
+    Zone(DueFault),
+    /// A lifetime of the policy is shorter than its roll takes.
+    TooShort(TooShort),
+    /// Memory has run out.
+    OutOfMemory,
+}
+
+impl NextFault {
+    /// Whether it is for lack of memory. So asking again may help.
+    pub fn lacks_memory(&self) -> bool
+        ensures { result ≡ lacks_memory self.now }
+    {
+        matches!(
+            self,
+            NextFault::OutOfMemory
+                | NextFault::Policy(PolicyFault::OutOfMemory)
+                | NextFault::Zone(DueFault::Script(ScriptFault::OutOfMemory))
+                | NextFault::Zone(DueFault::Notes(NotesFault::OutOfMemory))
+        )
+    }
+}
+
+impl fmt::Display for NextFault {
+    ghost output = { λ fault. Some (next_fault_text fault) };
+
+    /// Writes what a program shows its user, as `policy: line 3: malformed`.
+    fn fmt<W: fmt::Write>(&self, f: &mut fmt::Formatter<W>) -> fmt::Result {
+        match self {
+            NextFault::Policy(fault) => write!(f, "policy: {fault}"),
+            NextFault::Zone(fault) => write!(f, "{fault}"),
+            NextFault::TooShort(fault) => write!(f, "policy: {fault}"),
+            NextFault::OutOfMemory => f.write_str("out of memory"),
+        }
+    }
+}
+
+impl std::error::Error for NextFault {}
+
+impl From<AllocError> for NextFault {
+    ghost from_gives = { λ _ fault. fault ≡ OutOfMemory };
+
+    fn from(_: AllocError) -> Self {
+        NextFault::OutOfMemory
+    }
+}
+
+impl From<PolicyFault> for NextFault {
+    ghost from_gives = { λ why given. given ≡ fault.Policy why };
+
+    fn from(fault: PolicyFault) -> Self {
+        NextFault::Policy(fault)
+    }
+}
+
+impl From<DueFault> for NextFault {
+    ghost from_gives = { λ why given. given ≡ fault.Zone why };
+
+    fn from(fault: DueFault) -> Self {
+        NextFault::Zone(fault)
+    }
+}

@@ -1,0 +1,255 @@
+//! A zone that rolls by itself.
+ghost use Rattle.std.specs.Prelude.{◌≡◌, ◌++◌, ◌∷◌, ℕ, List, [], length, true, IfOk, IfErr, OnOk};
+ghost use Rattle.dnssec_run.specs.declared.call.Call.{Call as AnyCall};
+ghost use Rattle.dnssec_run.specs.declared.record.Entry.{Entry};
+ghost use Rattle.dnssec_policy.specs.Automatic.{is_add};
+ghost use Rattle.dnssec_policy.specs.Code.{todo_of};
+ghost use Rattle.dnssec_policy.specs.Text.Lint.{highest_of, too_short};
+ghost use Rattle.dnssec_policy.specs.Automatic.Calls.{GoesOn, IsAfter};
+ghost use Rattle.dnssec_policy.specs.Automatic.ZoneNotes.{HasHighest};
+ghost use Rattle.dnssec_policy.specs.Automatic.Zone.{Adds, Advances, IsAutomaticAfter, Makes};
+ghost use Rattle.dnssec_policy.specs.Automatic.Zone.{ReachesResolvers, ResumesZone, Says};
+
+use super::calls::{Calls, check_memory};
+use super::zone_notes::ZoneNotes;
+use crate::choose::next;
+use crate::laws::automatic_runs_reach_resolvers;
+use crate::policy::Policy;
+use crate::state::State;
+use crate::text::{TooShort, too_short};
+use crate::todo::Next;
+use dnssec_base::Name;
+use dnssec_keyset::UnixTime;
+use dnssec_network::{Before, DueFault, News, NoteFault, SetKind};
+use dnssec_record::{Call, Reply, Session};
+use std::alloc::{AllocError, Global};
+
+/// A zone that rolls by itself: it makes exactly the calls that a policy says, each with the moment
+/// at which it was said, and adds of keys. It keeps what the next call goes by.
+///
+/// After a restart `resume` makes the same zone from the lines that were kept: those of its calls,
+/// and those of its notes.
+///
+/// ```rust
+/// let mut zone = AutomaticZone::new(alloc, name, before)?;
+/// // The reply says what to publish.
+/// let reply = zone.advance(alloc, &policy, moment)?;
+/// if let Next::Watch { kind } = zone.next(alloc, &policy, moment)? {
+///     watch(kind);
+/// }
+/// ```
+#[derive(Drop)]
+pub struct AutomaticZone {
+    calls: Calls,
+    noted: ZoneNotes,
+}
+
+/// The calls with one more, and the reply to it.
+#[derive(Drop)]
+pub(crate) struct Advance {
+    calls: Calls,
+    reply: Reply,
+}
+
+/// Whether the call adds a key.
+pub fn is_add(call: &Call<'_>) -> bool
+    ensures { result ≡ is_add call.now }
+{
+    matches!(
+        call,
+        Call::AddKeyKsk { .. }
+            | Call::AddKeyZsk { .. }
+            | Call::AddKeyCsk { .. }
+            | Call::AddPublicKey { .. }
+    )
+}
+
+impl AutomaticZone {
+    /// A zone of this name without keys, whose servers gave sets with these TTLs before its first
+    /// call.
+    ///
+    /// # Errors
+    ///
+    /// If there is no memory.
+    pub fn new(alloc: Global, name: Name<Vec<u8>>, before: Before) -> Result<Self, AllocError>
+        ensures { IfOk result (λ zone. IsAutomaticAfter name [] [] [] zone) }
+    {
+        Ok(AutomaticZone {
+            calls: Calls::new(alloc, name)?,
+            noted: ZoneNotes::new(alloc, before),
+        })
+    }
+
+    /// The zone after the lines of a script and of the notes beside it, as it was kept. If its calls
+    /// were automatic, and its notes are the same, so they are of this one.
+    ///
+    /// # Errors
+    ///
+    /// - `Script` with the fault of the script, or if memory runs out, for one of its calls too.
+    /// - `Notes` with the fault of the notes, or if memory runs out.
+    ///
+    /// ```rust
+    /// let zone = AutomaticZone::resume(alloc, script.as_bytes(), notes.as_bytes())?;
+    /// ```
+    pub fn resume(alloc: Global, script: &[u8], notes: &[u8]) -> Result<Self, DueFault>
+        ensures { IfOk result (ResumesZone script.now notes.now) }
+    {
+        let calls = Calls::resume(alloc, script)?;
+        let noted = ZoneNotes::read(alloc, calls.session.moments(), notes)?;
+        Ok(AutomaticZone { calls, noted })
+    }
+
+    /// What the policy says to do next. Nothing, if a call of the script was made by hand.
+    ///
+    /// # Errors
+    ///
+    /// If there is no memory.
+    pub fn next<'a>(
+        &'a self,
+        alloc: Global,
+        policy: &Policy,
+        moment: UnixTime,
+    ) -> Result<Next<'a>, AllocError>
+        ensures { IfOk result (λ next.
+            (name : List ℕ) (calls : List AnyCall) (entries : List Entry) →
+            IsAfter name calls entries self.now.calls → HasHighest self.now.noted →
+            Says name calls entries policy.now moment self.now (todo_of moment next)) }
+    {
+        let state = State {
+            keyset: self.calls.session.keyset(),
+            steps: self.calls.session.steps(),
+            last_waits: self.calls.last_waits,
+            by_hand: self.calls.by_hand,
+            notes: self.noted.notes(),
+            highest: *self.noted.highest(),
+            moment,
+        };
+        next(alloc, policy, &state)
+    }
+
+    /// Makes the call that the policy says to make at this moment, in whole seconds if lines are
+    /// kept; none if it says no call. It takes as long as a copy of the session, and a call of it.
+    ///
+    /// # Errors
+    ///
+    /// If there is no memory, for the call too. The zone is then as it was.
+    pub fn advance(
+        &mut self,
+        alloc: Global,
+        policy: &Policy,
+        moment: UnixTime,
+    ) -> Result<Option<Reply>, AllocError>
+        ensures ok { IfOk result (λ reply.
+            (name : List ℕ) (calls : List AnyCall) (entries : List Entry) (asked : List ℕ) →
+            IsAutomaticAfter name calls entries asked self.old →
+            Advances name calls entries asked policy.now moment self.old self.new reply) }
+        ensures kept { IfErr result (λ _. self.new ≡ self.old) }
+    {
+        let Some(made) = self.said(alloc, policy, moment)? else {
+            return Ok(None);
+        };
+        self.calls = made.calls;
+        Ok(Some(made.reply))
+    }
+
+    /// What the call leaves that the policy says to make at this moment.
+    fn said(
+        &self,
+        alloc: Global,
+        policy: &Policy,
+        moment: UnixTime,
+    ) -> Result<Option<Advance>, AllocError>
+        ensures { IfOk result (λ made.
+            (name : List ℕ) (calls : List AnyCall) (entries : List Entry) →
+            IsAfter name calls entries self.now.calls → HasHighest self.now.noted →
+            Makes name calls entries policy.now moment self.now made) }
+    {
+        let todo = self.next(alloc, policy, moment)?;
+        match todo.call(moment) {
+            None => Ok(None),
+            Some(call) => Ok(Some(self.made(alloc, call)?)),
+        }
+    }
+
+    /// What a call leaves.
+    fn made(&self, alloc: Global, call: Call<'_>) -> Result<Advance, AllocError>
+        ensures { IfOk result (λ made.
+            (name : List ℕ) (calls : List AnyCall) (entries : List Entry) →
+            IsAfter name calls entries self.now.calls →
+            GoesOn name calls entries call.entry made.calls made.reply) }
+    {
+        let mut calls = self.calls.try_clone(alloc)?;
+        let reply = calls.make(alloc, call)?;
+        check_memory(&reply)?;
+        Ok(Advance { calls, reply })
+    }
+
+    /// Makes a call that adds a key, also another signer's.
+    ///
+    /// # Errors
+    ///
+    /// If there is no memory, for the call too. The zone is then as it was.
+    pub fn add(&mut self, alloc: Global, call: Call<'_>) -> Result<Reply, AllocError>
+        requires { is_add call ≡ true }
+        ensures ok { IfOk result (λ reply.
+            (name : List ℕ) (calls : List AnyCall) (entries : List Entry) (asked : List ℕ) →
+            IsAutomaticAfter name calls entries asked self.old →
+            Adds name calls entries asked call.entry self.old self.new reply) }
+        ensures kept { IfErr result (λ _. self.new ≡ self.old) }
+    {
+        let made = self.made(alloc, call)?;
+        self.calls = made.calls;
+        Ok(made.reply)
+    }
+
+    /// Notes one more fact.
+    ///
+    /// # Errors
+    ///
+    /// As `Notes::note`. Nothing is then noted.
+    pub fn note(&mut self, kind: SetKind, news: News) -> Result<(), NoteFault>
+        ensures noted { OnOk result (self.new.noted.notes ≡ record (self.old.noted.notes) {
+          facts = self.old.noted.notes.facts ++ record { kind = kind; news = news } ∷ [];
+        }) }
+        ensures ok { OnOk result ((name : List ℕ) (calls : List AnyCall) (entries : List Entry)
+            (asked : List ℕ) → IsAutomaticAfter name calls entries asked self.old →
+            IsAutomaticAfter name calls entries asked self.new) }
+        ensures kept { IfErr result (λ _. self.new ≡ self.old) }
+    {
+        self.noted.note(self.calls.session.moments(), kind, news)
+    }
+
+    /// How many calls were made so far, also refused ones: the position of a version that is now
+    /// due.
+    pub fn calls(&self) -> usize
+        ensures { (name : List ℕ) (calls : List AnyCall) (entries : List Entry) →
+            IsAfter name calls entries self.now.calls → result ≡ length entries }
+    {
+        self.calls.session.calls()
+    }
+
+    /// The session of the calls so far.
+    pub fn session(&self) -> &Session
+        ensures { result.now ≡ self.now.calls.session }
+    {
+        &self.calls.session
+    }
+
+    /// The first lifetime of the policy that is shorter than its roll takes, by the highest TTLs
+    /// noted so far.
+    pub fn too_short(&self, policy: &Policy) -> Option<TooShort>
+        ensures { HasHighest self.now.noted → result ≡ too_short policy.now policy.now.scheme
+            (highest_of self.now.noted.notes.before self.now.noted.notes.facts) }
+    {
+        too_short(policy, self.noted.highest())
+    }
+
+    /// Resolvers find a chain of trust at all times, by each algorithm too, if the notes are true,
+    /// each call was made no earlier than the moment that was said with it, servers give what was
+    /// published, and nothing goes back to before a step.
+    pub fn reaches_resolvers(&self)
+        ensures { ReachesResolvers self.now }
+    {
+        automatic_runs_reach_resolvers();
+    }
+}

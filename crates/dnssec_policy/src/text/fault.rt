@@ -1,0 +1,69 @@
+//! Why a text is no policy.
+ghost use Rattle.std.specs.Prelude.{◌≡◌, Some};
+ghost use Rattle.dnssec_policy.specs.Text.Reading.{fault_at};
+ghost use Rattle.dnssec_policy.specs.Text.Faults.{fault_text};
+ghost use Rattle.dnssec_policy.specs.declared.text.fault.PolicyFault.TheVariants.{OutOfMemory};
+
+use std::alloc::AllocError;
+use std::fmt;
+
+/// Why a text was not read as a policy. Lines are counted from 1, and the first one with a fault is
+/// named.
+#[derive(Clone, Copy, Debug, PartialEq)]
+pub enum PolicyFault {
+    /// This line doesn't have the form of a line of a policy.
+    Malformed(usize),
+    /// This line says once more what a line above it says.
+    SaidTwice(usize),
+    /// This line speaks of keys that line 1 doesn't roll, as of ZSKs beside `csk-roll`.
+    NoSuchKeys(usize),
+    /// Memory has run out.
+    OutOfMemory,
+}
+
+/// What is wrong with a line after the first.
+#[derive(Clone, Copy)]
+pub(crate) enum WishFault {
+    Malformed,
+    SaidTwice,
+    NoSuchKeys,
+}
+
+impl WishFault {
+    /// The same fault of a policy, on the line of this number.
+    pub(crate) fn at(self, number: usize) -> PolicyFault
+        ensures { result ≡ fault_at self number }
+    {
+        match self {
+            WishFault::Malformed => PolicyFault::Malformed(number),
+            WishFault::SaidTwice => PolicyFault::SaidTwice(number),
+            WishFault::NoSuchKeys => PolicyFault::NoSuchKeys(number),
+        }
+    }
+}
+
+impl fmt::Display for PolicyFault {
+    ghost output = { λ fault. Some (fault_text fault) };
+
+    /// Writes what a program shows its user, as `line 3: malformed`.
+    fn fmt<W: fmt::Write>(&self, f: &mut fmt::Formatter<W>) -> fmt::Result {
+        match self {
+            PolicyFault::Malformed(number) => write!(f, "line {number}: malformed"),
+            PolicyFault::SaidTwice(number) => write!(f, "line {number}: said twice"),
+            PolicyFault::NoSuchKeys(number) => {
+                write!(f, "line {number}: no such keys by line 1")
+            }
+            PolicyFault::OutOfMemory => f.write_str("out of memory"),
+        }
+    }
+}
+
+impl std::error::Error for PolicyFault {}
+
+impl From<AllocError> for PolicyFault {
+    ghost from_gives = { λ _ fault. fault ≡ OutOfMemory };
+
+    fn from(_: AllocError) -> Self {
+        PolicyFault::OutOfMemory
+    }
+}

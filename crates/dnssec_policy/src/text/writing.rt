@@ -1,0 +1,173 @@
+//! A policy as a text.
+ghost use Rattle.std.specs.Prelude.{◌≡◌, ◌++◌, ◌/◌, IfOk, Ok, OnOk, decimal, string_bytes};
+ghost use Rattle.dnssec_script.specs.Script.{lines_of};
+ghost use Rattle.dnssec_policy.specs.Text.Reading.{policy_of};
+ghost use Rattle.dnssec_policy.specs.Text.Writing.{IsSayable, first_line, ksk_name, lifetime_text};
+ghost use Rattle.dnssec_policy.specs.Text.Writing.{number_line, once_text, policy_text};
+ghost use Rattle.dnssec_policy.specs.Text.Writing.{renewal_text, renewals_text, rolls_text};
+ghost use Rattle.dnssec_policy.specs.Text.Writing.{word_name, zsk_name};
+
+use super::wish::WishWord;
+use crate::policy::{KeyRole, KskMethod, Policy, Scheme, Term, ZskMethod};
+use dnssec_keyset::UnixTime;
+use std::alloc::{AllocError, Global};
+use std::time::Duration;
+
+/// The policy as a text, which `read_policy` reads as the same policy. A text says `once` in whole
+/// seconds, and of ZSKs nothing beside `csk-roll`.
+///
+/// # Errors
+///
+/// If there is no memory.
+///
+/// ```rust
+/// let text = policy_text(alloc, &policy)?;
+/// ```
+pub fn policy_text(alloc: Global, policy: &Policy) -> Result<String, AllocError>
+    ensures text { IfOk result (λ text. string_bytes text ≡ policy_text policy.now) }
+    ensures read { IfOk result (λ text. IsSayable policy.now →
+        policy_of (lines_of (string_bytes text)) ≡ Ok policy.now) }
+{
+    let mut text = String::new(alloc);
+    push_policy(&mut text, policy)?;
+    Ok(text)
+}
+
+/// Writes all lines.
+fn push_policy(text: &mut String, policy: &Policy) -> Result<(), AllocError>
+    ensures { OnOk result (string_bytes text.new ≡ string_bytes text.old
+        ++ policy_text policy.now) }
+{
+    push_first(text, policy)?;
+    push_renewals(text, policy)?;
+    push_line(text, WishWord::DeleteAfter, u128::from(policy.delete_after))
+}
+
+/// Writes the first line.
+fn push_first(text: &mut String, policy: &Policy) -> Result<(), AllocError>
+    ensures { OnOk result (string_bytes text.new ≡ string_bytes text.old ++ first_line policy.now) }
+{
+    text.push_str("policy ")?;
+    push_number(text, u128::from(policy.algorithm.to_int()))?;
+    text.push_str(" ")?;
+    push_rolls(text, policy.scheme)?;
+    text.push_str("\n")
+}
+
+/// Writes the names of the rolls by which keys are renewed.
+fn push_rolls(text: &mut String, scheme: Scheme) -> Result<(), AllocError>
+    ensures { OnOk result (string_bytes text.new ≡ string_bytes text.old ++ rolls_text scheme) }
+{
+    match scheme {
+        Scheme::Split(ksk, zsk) => {
+            text.push_str(ksk_name(ksk))?;
+            text.push_str(" ")?;
+            text.push_str(zsk_name(zsk))
+        }
+        Scheme::SingleType => text.push_str("csk-roll"),
+    }
+}
+
+/// Writes when keys are renewed.
+fn push_renewals(text: &mut String, policy: &Policy) -> Result<(), AllocError>
+    ensures { OnOk result (string_bytes text.new ≡ string_bytes text.old
+        ++ renewals_text policy.now policy.now.scheme) }
+{
+    match policy.scheme {
+        Scheme::Split(_, _) => {
+            push_renewal(text, KeyRole::Ksk, &policy.ksk)?;
+            push_renewal(text, KeyRole::Zsk, &policy.zsk)
+        }
+        Scheme::SingleType => push_renewal(text, KeyRole::Csk, &policy.ksk),
+    }
+}
+
+/// Writes when keys of a role are renewed.
+fn push_renewal(text: &mut String, role: KeyRole, renewal: &Term) -> Result<(), AllocError>
+    ensures { OnOk result (string_bytes text.new ≡ string_bytes text.old
+        ++ renewal_text role renewal.now) }
+{
+    push_lifetime(text, role, renewal.lifetime)?;
+    push_once(text, role, renewal.once)
+}
+
+/// Writes a lifetime, if there is one.
+fn push_lifetime(text: &mut String, role: KeyRole, lifetime: Option<u64>) -> Result<(), AllocError>
+    ensures { OnOk result (string_bytes text.new ≡ string_bytes text.old
+        ++ lifetime_text role lifetime) }
+{
+    match lifetime {
+        None => Ok(()),
+        Some(seconds) => push_line(text, WishWord::Lifetime(role), u128::from(seconds)),
+    }
+}
+
+/// Writes from when on keys are renewed on demand, if they are.
+fn push_once(text: &mut String, role: KeyRole, once: Option<UnixTime>) -> Result<(), AllocError>
+    ensures { OnOk result (string_bytes text.new ≡ string_bytes text.old ++ once_text role once) }
+{
+    match once {
+        None => Ok(()),
+        Some(moment) => push_line(text, WishWord::Once(role), whole_seconds(moment)),
+    }
+}
+
+/// The whole seconds since 1970.
+fn whole_seconds(moment: UnixTime) -> u128
+    ensures { result ≡ moment / 1_000_000_000 }
+{
+    Duration::from(moment).as_nanos() / 1_000_000_000
+}
+
+/// Writes a line of a word and a number.
+fn push_line(text: &mut String, word: WishWord, number: u128) -> Result<(), AllocError>
+    ensures { OnOk result (string_bytes text.new ≡ string_bytes text.old
+        ++ number_line word number) }
+{
+    text.push_str(word_name(word))?;
+    text.push_str(" ")?;
+    push_number(text, number)?;
+    text.push_str("\n")
+}
+
+/// Writes a number in decimal.
+fn push_number(text: &mut String, number: u128) -> Result<(), AllocError>
+    ensures { OnOk result (string_bytes text.new ≡ string_bytes text.old ++ decimal number) }
+{
+    write!(text, "{number}")
+}
+
+/// The name of the roll by which KSKs are rolled so.
+fn ksk_name(method: KskMethod) -> &'static str
+    ensures { result.now ≡ ksk_name method }
+{
+    match method {
+        KskMethod::DoubleSignature => "ksk-roll",
+        KskMethod::DoubleDs => "ksk-double-ds-roll",
+    }
+}
+
+/// The name of the roll by which ZSKs are rolled so.
+fn zsk_name(method: ZskMethod) -> &'static str
+    ensures { result.now ≡ zsk_name method }
+{
+    match method {
+        ZskMethod::PrePublish => "zsk-roll",
+        ZskMethod::DoubleSignature => "zsk-double-signature-roll",
+    }
+}
+
+/// The name of a word.
+fn word_name(word: WishWord) -> &'static str
+    ensures { result.now ≡ word_name word }
+{
+    match word {
+        WishWord::Lifetime(KeyRole::Ksk) => "ksk-lifetime",
+        WishWord::Lifetime(KeyRole::Zsk) => "zsk-lifetime",
+        WishWord::Lifetime(KeyRole::Csk) => "csk-lifetime",
+        WishWord::Once(KeyRole::Ksk) => "ksk-once",
+        WishWord::Once(KeyRole::Zsk) => "zsk-once",
+        WishWord::Once(KeyRole::Csk) => "csk-once",
+        WishWord::DeleteAfter => "delete-after",
+    }
+}

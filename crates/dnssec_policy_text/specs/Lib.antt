@@ -1,5 +1,0 @@
-pub mod Wishes
-pub mod Reading
-pub mod Writing
-pub mod Lint
-pub mod Texts

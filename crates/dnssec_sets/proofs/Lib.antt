@@ -1,4 +1,0 @@
-pub mod Lists
-pub mod Words
-pub mod Means
-pub mod Table

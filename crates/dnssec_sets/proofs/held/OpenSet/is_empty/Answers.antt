@@ -1,8 +1,0 @@
--- No number is in it.
-use Rattle.dnssec_sets.specs.Bits.{words_of}
-use Rattle.dnssec_sets.proofs.Words.{none_set}
-use Rattle.dnssec_sets.proofs.held.OpenSet.is_empty.Goals as goal
-
-pub returns : goal.returns
-returns c = none_set (words_of c.args.self.now.keys) c.is_empty.result c.is_empty.ensures.yes
-    c.is_empty.ensures.no

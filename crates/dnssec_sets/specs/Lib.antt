@@ -1,4 +1,0 @@
-pub mod Bits
-pub mod Chained
-pub mod Numbers
-pub mod Sets
