@@ -26,5 +26,6 @@ pub mod Counted
 pub mod Starts
 pub mod Marks
 pub mod Longest
+pub mod Latest
 pub mod Tests
 pub mod Flags
