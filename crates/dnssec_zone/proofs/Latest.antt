@@ -306,7 +306,8 @@ known-after m n r k l found is tag apart (Some wait) old = cond_both
     there : get n r ≡ Some l
     there = is r ∙ (grind (arith, bytes_decides))
 
-    rest : (t : ℕ) → t ≡ l.key_tag → (x : Option ℕ) → IsLatest (but wait t) m x → IsLatest (but wait t) n x
+    rest : (t : ℕ) → t ≡ l.key_tag → (x : Option ℕ) → IsLatest (but wait t) m x
+        → IsLatest (but wait t) n x
     rest t e x h = latest-alike (but wait t) m n r (Some l) is
         (ap (seen (but wait t)) found ∙ (grind (arith, nat_tests, e, tag))) x h
 

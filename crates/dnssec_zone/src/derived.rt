@@ -21,7 +21,7 @@ ghost use Rattle.dnssec_zone.specs.Refusals.{Answers, reference_refusal};
 use crate::mark::KeyMark;
 use crate::wait_end::Waits;
 use dnssec_key::{
-    Error, Half, Key, KeyType, RollType, Setting, TagIndex, Want, apply_setting, is_kept_at_parent,
+    Error, Half, Key, KeyType, RollType, Setting, TagIndex, Want, is_kept_at_parent,
     is_kept_present, mark_new, mark_old, wait_moves_kept,
 };
 use std::alloc::Global;
@@ -134,8 +134,8 @@ pub(crate) struct Derived {
     pub(crate) tags: TagIndex,
     /// How many keys a start could go on with.
     pub(crate) counts: Counts,
-    /// The waits in progress. An add, a start and its early end drop them. A deletion never does: no
-    /// wait checks a stale key.
+    /// The waits in progress. An add, a start and its early end drop them. A deletion never does:
+    /// no wait checks a stale key.
     pub(crate) waits: Waits,
 }
 
@@ -234,11 +234,8 @@ impl Derived {
             (over_for self.old.waits.of_zsks (set_by (setting_of setting) key.old))
             self.old.waits.of_zsks }
     {
-        let key_tag = key.key_tag();
         let before = key.keytype();
-        let seen = self.waits.seen(key);
-        apply_setting(key, setting);
-        self.waits.follow(key_tag, seen, self.waits.seen(key));
+        self.waits.set(key, setting);
         self.counts.follow(&setting, &before, &key.keytype());
     }
 

@@ -1,13 +1,16 @@
 //! When a wait is over: for a key, and for all keys. Also what is kept of the waits in progress.
-ghost use Rattle.std.specs.Prelude.{◌≡◌, IsTrue, IfSome, if◌then◌else◌};
+ghost use Rattle.std.specs.Prelude.{◌≡◌, IsTrue, IfSome};
 ghost use Rattle.std.specs.Option.{option_and_then};
 ghost use Rattle.dnssec_key.specs.RollTable.{which};
+ghost use Rattle.dnssec_key.specs.Setters.{setting_of, set_by};
 ghost use Rattle.dnssec_zone.specs.Inner.Over.{over_at, over_but, later};
 ghost use Rattle.dnssec_zone.specs.Inner.Reported.{IsKnown, IsLatest, IsByOthers, AreKnown};
 ghost use Rattle.dnssec_zone.specs.Inner.Reported.{over_for, known_after, known_beside};
 ghost use Rattle.dnssec_zone.specs.Keys.{Keys as AnyKeys, keys_in_map};
 
-use dnssec_key::{Half, Key, RollType, Side, is_checked, stamp_named, stamp_read};
+use dnssec_key::{
+    Half, Key, RollType, Setting, Side, apply_setting, is_checked, stamp_named, stamp_read,
+};
 use std::collections::HashMap;
 use std::time::Duration;
 
@@ -163,7 +166,7 @@ impl Waits {
     }
 
     /// What the waits see of a key.
-    pub(crate) fn seen(&self, key: &Key) -> Sights
+    fn seen(&self, key: &Key) -> Sights
         ensures ksks { result.of_ksks ≡ over_for self.now.of_ksks key.now }
         ensures zsks { result.of_zsks ≡ over_for self.now.of_zsks key.now }
     {
@@ -174,7 +177,7 @@ impl Waits {
     }
 
     /// A setter has changed the key with a tag, and the waits see it as they do.
-    pub(crate) fn follow(&mut self, key_tag: u16, before: Sights, after: Sights)
+    fn follow(&mut self, key_tag: u16, before: Sights, after: Sights)
         ensures ksks { self.new.of_ksks
             ≡ known_after key_tag before.of_ksks after.of_ksks self.old.of_ksks }
         ensures zsks { self.new.of_zsks
@@ -188,6 +191,43 @@ impl Waits {
             self.of_zsks = beside(&self.of_zsks, key_tag, after.of_zsks);
             self.changed = Some(key_tag);
         }
+    }
+
+    /// Changes a key by hand. What is known of a wait stays if the wait sees no change.
+    #[inline(always)]
+    pub(crate) fn set(&mut self, key: &mut Key, setting: Setting)
+        ensures key { key.new ≡ set_by (setting_of setting) key.old }
+        ensures ksks { self.new.of_ksks ≡ known_after key.old.key_tag
+            (over_for self.old.of_ksks key.old)
+            (over_for self.old.of_ksks (set_by (setting_of setting) key.old)) self.old.of_ksks }
+        ensures zsks { self.new.of_zsks ≡ known_after key.old.key_tag
+            (over_for self.old.of_zsks key.old)
+            (over_for self.old.of_zsks (set_by (setting_of setting) key.old)) self.old.of_zsks }
+    {
+        // As a rule there is no wait.
+        if self.of_ksks.is_none() && self.of_zsks.is_none() {
+            apply_setting(key, setting);
+            return;
+        }
+        self.set_and_see(key, setting);
+    }
+
+    /// The same by what the waits see of the key.
+    // Out of line, so that a setter which finds no wait stays short.
+    #[inline(never)]
+    fn set_and_see(&mut self, key: &mut Key, setting: Setting)
+        ensures key { key.new ≡ set_by (setting_of setting) key.old }
+        ensures ksks { self.new.of_ksks ≡ known_after key.old.key_tag
+            (over_for self.old.of_ksks key.old)
+            (over_for self.old.of_ksks (set_by (setting_of setting) key.old)) self.old.of_ksks }
+        ensures zsks { self.new.of_zsks ≡ known_after key.old.key_tag
+            (over_for self.old.of_zsks key.old)
+            (over_for self.old.of_zsks (set_by (setting_of setting) key.old)) self.old.of_zsks }
+    {
+        let key_tag = key.key_tag();
+        let before = self.seen(key);
+        apply_setting(key, setting);
+        self.follow(key_tag, before, self.seen(key));
     }
 
     /// A report has begun a wait. That of the other side is found anew.
