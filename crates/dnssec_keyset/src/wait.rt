@@ -51,20 +51,22 @@ impl KeySet {
     }
 
     /// Whether a wait is over. It is refused in another phase, then for a missing stamp, then if it
-    /// is early.
+    /// is early. What it finds out is kept, so that the next call of this wait needs no walk.
     pub(crate) fn check_wait(
-        &self,
+        &mut self,
         rolltype: RollType,
         half: Half,
         now: &UnixTime,
     ) -> Result<(), Error>
-        ensures reply { AnswersWait (wait_clearance rolltype (which half) now.now self.now) result }
-        ensures there { OnOk result (IsSome (phase_of self.now.rolls rolltype)) }
+        ensures reply { AnswersWait (wait_clearance rolltype (which half) now.now self.old) result }
+        ensures there { OnOk result (IsSome (phase_of self.old.rolls rolltype)) }
+        ensures same { self.new ≡ self.old }
     {
         let Some(ttl) = self.rolls.ttl_in(rolltype, half) else {
             return Err(Error::WrongStateForRollOperation);
         };
-        let Some(end) = self.over_from(rolltype, half, ttl) else {
+        self.keys.find_wait(rolltype, half, ttl);
+        let Some(end) = self.keys.over_from(rolltype, half, ttl) else {
             return Err(Error::WrongKeyState);
         };
         let now = Duration::from(*now).as_nanos();

@@ -12,8 +12,8 @@
 -- | `go_on_all`, `delete`            | `counts-waited` and the like   | Counted                  |
 -- | `Lists`: the entries             | `entries_of-at`, `filtered`    | Listing                  |
 -- | the phases of rolls              | ruleset `phases`               | Phases                   |
--- | `over_from`                      | `walk-lacks`, `walk-over`      | Longest                  |
--- | `Derived`: the reported wait     | `known-after`, `known-removed` | Longest                  |
+-- | `over_from`                      | `walked`, `latest-is`          | Latest, Longest          |
+-- | `Waits`: what is kept            | `known-after`, `known-removed` | Latest                   |
 --
 -- `Tests` tests all rolls, options and pairs of flags; `Flags` says by it what flags a key may have
 -- on each side: for the laws of key sets and of runs.
@@ -26,5 +26,6 @@ pub mod Counted
 pub mod Starts
 pub mod Marks
 pub mod Longest
+pub mod Latest
 pub mod Tests
 pub mod Flags

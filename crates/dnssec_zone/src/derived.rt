@@ -1,5 +1,5 @@
 //! What is derived of the keys of a zone, so that calls needn't walk over them: their tags, how
-//! many of them a start could go on with, and the reported wait. Each change of the keys is
+//! many of them a start could go on with, and the waits in progress. Each change of the keys is
 //! followed here, and in no other place.
 ghost use Rattle.std.specs.Prelude.{◌≡◌, ℕ, None, Some, true, false, nat_eq, IfOk, OnOk, OnErr};
 ghost use Rattle.std.specs.Prelude.{IsOkUnless, if◌then◌else◌, length, ◌≤◌, IsSome};
@@ -13,15 +13,15 @@ ghost use Rattle.dnssec_key.specs.Inner.TagIndex.{has};
 ghost use Rattle.dnssec_zone.specs.Inner.Counts.{CountsAgree, count_after, count_of, counts_after};
 ghost use Rattle.dnssec_zone.specs.Inner.Counts.{moves_counts, no_counts, with_key, without_key};
 ghost use Rattle.dnssec_zone.specs.Inner.KeyMark.{marked};
-ghost use Rattle.dnssec_zone.specs.Inner.Reported.{IsKnown, known_after};
+ghost use Rattle.dnssec_zone.specs.Inner.Reported.{AreKnown, known_after, over_for};
 ghost use Rattle.dnssec_zone.specs.Inner.Tags.{TagsAgree};
-ghost use Rattle.dnssec_zone.specs.Keys.{has_tag, keys_in_map};
+ghost use Rattle.dnssec_zone.specs.Keys.{Keys as AnyKeys, has_tag, keys_in_map};
 ghost use Rattle.dnssec_zone.specs.Refusals.{Answers, reference_refusal};
 
 use crate::mark::KeyMark;
-use crate::wait_end::{ReportedWait, over_from, seen};
+use crate::wait_end::Waits;
 use dnssec_key::{
-    Error, Half, Key, KeyType, RollType, Setting, TagIndex, Want, apply_setting, is_kept_at_parent,
+    Error, Half, Key, KeyType, RollType, Setting, TagIndex, Want, is_kept_at_parent,
     is_kept_present, mark_new, mark_old, wait_moves_kept,
 };
 use std::alloc::Global;
@@ -134,10 +134,9 @@ pub(crate) struct Derived {
     pub(crate) tags: TagIndex,
     /// How many keys a start could go on with.
     pub(crate) counts: Counts,
-    /// The wait that the last report began. A setter drops it if the wait then sees a change in its
-    /// key. An add and the steps of rolls always drop it. A deletion never does: no wait checks a
-    /// stale key.
-    pub(crate) reported: Option<ReportedWait>,
+    /// The waits in progress. An add, a start and its early end drop them. A deletion never does:
+    /// no wait checks a stale key.
+    pub(crate) waits: Waits,
 }
 
 impl Derived {
@@ -145,12 +144,12 @@ impl Derived {
     pub(crate) fn none() -> Derived
         ensures tags { (t : ℕ) → has result.tags t ≡ None }
         ensures counts { result.counts ≡ no_counts }
-        ensures reported { result.reported ≡ None }
+        ensures waits { (keys : AnyKeys) → AreKnown result.waits keys }
     {
         Derived {
             tags: TagIndex::none(),
             counts: Counts::none(),
-            reported: None,
+            waits: Waits::none(),
         }
     }
 
@@ -158,13 +157,13 @@ impl Derived {
     pub(crate) fn try_clone(&self, alloc: Global) -> Result<Derived, Error>
         ensures tags { IfOk result (λ copy. (t : ℕ) → has copy.tags t ≡ has self.now.tags t) }
         ensures counts { IfOk result (λ copy. copy.counts ≡ self.now.counts) }
-        ensures reported { IfOk result (λ copy. copy.reported ≡ self.now.reported) }
+        ensures waits { IfOk result (λ copy. copy.waits ≡ self.now.waits) }
         ensures err { IsOkUnless result OutOfMemory }
     {
         Ok(Derived {
             tags: self.tags.try_clone(alloc)?,
             counts: self.counts,
-            reported: self.reported,
+            waits: self.waits,
         })
     }
 
@@ -186,7 +185,7 @@ impl Derived {
         ensures err { OnErr result
             (Answers (reference_refusal (hash.get_by_text keys.now pubref.now)) result) }
         ensures counts { self.new.counts ≡ self.old.counts }
-        ensures reported { self.new.reported ≡ self.old.reported }
+        ensures waits { self.new.waits ≡ self.old.waits }
     {
         if keys.len() >= KEYS_WITHOUT_INDEX && self.tags.is_none() {
             if keys.contains_key(pubref) {
@@ -202,9 +201,9 @@ impl Derived {
         ensures tags { (t : ℕ) → has self.new.tags t ≡ option_map
             (λ b. if nat_eq key_tag t then true else b) (has self.old.tags t) }
         ensures counts { self.new.counts ≡ with_key keytype.now self.old.counts }
-        ensures reported { self.new.reported ≡ None }
+        ensures waits { (keys : AnyKeys) → AreKnown self.new.waits keys }
     {
-        self.reported = None;
+        self.waits.forget();
         self.tags.put(key_tag);
         self.counts.count(keytype, Counting::OneMore);
     }
@@ -214,27 +213,29 @@ impl Derived {
         ensures tags { (t : ℕ) → has self.new.tags t ≡ option_map
             (λ b. if nat_eq key_tag t then false else b) (has self.old.tags t) }
         ensures counts { self.new.counts ≡ self.old.counts }
-        ensures reported { self.new.reported ≡ self.old.reported }
+        ensures waits { self.new.waits ≡ self.old.waits }
     {
         self.tags.remove(key_tag);
     }
 
-    /// Changes a key by hand. What is known of the reported wait stays if the wait sees no change.
+    /// Changes a key by hand. What is known of a wait stays if the wait sees no change.
     pub(crate) fn set(&mut self, key: &mut Key, setting: Setting)
         ensures key { key.new ≡ set_by (setting_of setting) key.old }
         ensures tags { self.new.tags ≡ self.old.tags }
         ensures counts { self.new.counts ≡ (if moves_counts (setting_of setting)
             then with_key (set_by (setting_of setting) key.old).keytype
             (without_key key.old.keytype self.old.counts) else self.old.counts) }
-        ensures reported { self.new.reported
-            ≡ known_after self.old.reported key.old (set_by (setting_of setting) key.old) }
+        ensures ksks { self.new.waits.of_ksks ≡ known_after key.old.key_tag
+            (over_for self.old.waits.of_ksks key.old)
+            (over_for self.old.waits.of_ksks (set_by (setting_of setting) key.old))
+            self.old.waits.of_ksks }
+        ensures zsks { self.new.waits.of_zsks ≡ known_after key.old.key_tag
+            (over_for self.old.waits.of_zsks key.old)
+            (over_for self.old.waits.of_zsks (set_by (setting_of setting) key.old))
+            self.old.waits.of_zsks }
     {
         let before = key.keytype();
-        let seen_before = seen(&self.reported, key);
-        apply_setting(key, setting);
-        if seen(&self.reported, key) != seen_before {
-            self.reported = None;
-        }
+        self.waits.set(key, setting);
         self.counts.follow(&setting, &before, &key.keytype());
     }
 
@@ -244,9 +245,9 @@ impl Derived {
         ensures tags { self.new.tags ≡ self.old.tags }
         ensures counts { self.new.counts ≡ with_key (marked mark.now key.old).keytype
             (without_key key.old.keytype self.old.counts) }
-        ensures reported { self.new.reported ≡ None }
+        ensures waits { (keys : AnyKeys) → AreKnown self.new.waits keys }
     {
-        self.reported = None;
+        self.waits.forget();
         self.counts.count(&key.keytype(), Counting::OneLess);
         match *mark {
             KeyMark::AsOld => mark_old(key),
@@ -259,9 +260,9 @@ impl Derived {
     pub(crate) fn recount(&mut self, keys: &HashMap<String, Key>)
         ensures tags { self.new.tags ≡ self.old.tags }
         ensures counts { CountsAgree self.new.counts (keys_in_map keys.now) }
-        ensures reported { self.new.reported ≡ None }
+        ensures waits { (keys : AnyKeys) → AreKnown self.new.waits keys }
     {
-        self.reported = None;
+        self.waits.forget();
         self.counts = count_all(keys);
     }
 
@@ -276,15 +277,25 @@ impl Derived {
     )
         ensures tags { self.new.tags ≡ self.old.tags }
         ensures counts { self.new.counts ≡ self.old.counts }
-        ensures reported { IsKnown self.new.reported (keys_in_map keys.now) }
+        ensures waits { AreKnown self.new.waits (keys_in_map keys.now) }
     {
-        let over = over_from(keys, roll, half, ttl);
-        self.reported = Some(ReportedWait {
-            roll,
-            half,
-            ttl,
-            over,
-        });
+        self.waits.report(keys, roll, half, ttl);
+    }
+
+    /// A wait is asked for: what walks find out about it is kept.
+    pub(crate) fn find_wait(
+        &mut self,
+        keys: &HashMap<String, Key>,
+        roll: RollType,
+        half: Half,
+        ttl: u32,
+    )
+        ensures tags { self.new.tags ≡ self.old.tags }
+        ensures counts { self.new.counts ≡ self.old.counts }
+        ensures waits { AreKnown self.old.waits (keys_in_map keys.now)
+            → AreKnown self.new.waits (keys_in_map keys.now) }
+    {
+        self.waits.find(keys, roll, half, ttl);
     }
 
     /// A wait has moved the keys on. They are counted again if that may change a count.
@@ -294,9 +305,9 @@ impl Derived {
             → CountsAgree self.new.counts (keys_in_map keys.now) }
         ensures kept { wait_moves_kept roll (which half) ≡ false
             → self.new.counts ≡ self.old.counts }
-        ensures reported { self.new.reported ≡ None }
+        ensures waits { AreKnown self.new.waits (keys_in_map keys.now) }
     {
-        self.reported = None;
+        self.waits.go_on(keys, roll);
         if wait_moves_kept(roll, half) {
             self.counts = count_all(keys);
         }

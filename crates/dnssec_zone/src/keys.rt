@@ -276,9 +276,16 @@ impl Keys {
             IsOverFrom roll (which half) ttl self.now end) }
         ensures missing { IfNone result (LacksStamp roll (which half) ttl self.now) }
     {
-        match self.derived.reported {
-            Some(wait) if wait.is_of(roll, half, ttl) => wait.over,
-            _ => over_from(&self.map, roll, half, ttl),
+        match self.derived.waits.over(roll, half, ttl) {
+            Some(over) => over,
+            None => over_from(&self.map, roll, half, ttl, None),
         }
+    }
+
+    /// Keeps what walks over the keys find out about a wait, so that the next call needs no walk.
+    pub fn find_wait(&mut self, roll: RollType, half: Half, ttl: u32)
+        ensures { self.new ≡ self.old }
+    {
+        self.derived.find_wait(&self.map, roll, half, ttl);
     }
 }

@@ -1,17 +1,20 @@
-//! When a wait is over: for a key, and for all keys. Also what is known of the wait that the last
-//! report began.
-ghost use Rattle.std.specs.Prelude.{◌≡◌, IsTrue, IfSome, IfNone};
+//! When a wait is over: for a key, and for all keys. Also what is kept of the waits in progress.
+ghost use Rattle.std.specs.Prelude.{◌≡◌, IsTrue, IfSome};
+ghost use Rattle.std.specs.Option.{option_and_then};
 ghost use Rattle.dnssec_key.specs.RollTable.{which};
-ghost use Rattle.dnssec_zone.specs.Inner.Over.{over_at};
-ghost use Rattle.dnssec_zone.specs.Inner.Reported.{over_for};
-ghost use Rattle.dnssec_zone.specs.Keys.{keys_in_map};
-ghost use Rattle.dnssec_zone.specs.Wait.{IsOverFrom, LacksStamp};
+ghost use Rattle.dnssec_key.specs.Setters.{setting_of, set_by};
+ghost use Rattle.dnssec_zone.specs.Inner.Over.{over_at, over_but, later};
+ghost use Rattle.dnssec_zone.specs.Inner.Reported.{IsKnown, IsLatest, IsByOthers, AreKnown};
+ghost use Rattle.dnssec_zone.specs.Inner.Reported.{over_for, known_after, known_beside};
+ghost use Rattle.dnssec_zone.specs.Keys.{Keys as AnyKeys, keys_in_map};
 
-use dnssec_key::{Half, Key, RollType, is_checked, stamp_named, stamp_read};
+use dnssec_key::{
+    Half, Key, RollType, Setting, Side, apply_setting, is_checked, stamp_named, stamp_read,
+};
 use std::collections::HashMap;
 use std::time::Duration;
 
-/// The wait that a report has begun.
+/// A wait that a report has begun, and what walks over the keys found out about it.
 #[derive(Clone, Copy)]
 pub(crate) struct ReportedWait {
     pub(crate) roll: RollType,
@@ -19,15 +22,25 @@ pub(crate) struct ReportedWait {
     pub(crate) ttl: u32,
     /// The nanosecond since 1970 from which it is over, or `None` if a key lacks its stamp.
     pub(crate) over: Option<u128>,
+    /// The same by all keys but one, if a setter had changed that one before the walk.
+    pub(crate) others: Option<Others>,
+}
+
+/// From when on a wait is over by all keys but the one with a tag.
+#[derive(Clone, Copy)]
+pub(crate) struct Others {
+    pub(crate) but: u16,
+    pub(crate) over: Option<u128>,
 }
 
 impl ReportedWait {
     /// Whether it is this wait.
-    pub(crate) fn is_of(self, roll: RollType, half: Half, ttl: u32) -> bool
-        ensures roll { IsTrue result → self.roll ≡ roll }
-        ensures half { IsTrue result → self.half ≡ half }
-        ensures ttl { IsTrue result → self.ttl ≡ ttl }
-        ensures same { self.roll ≡ roll → self.half ≡ half → self.ttl ≡ ttl → IsTrue result }
+    fn is_of(&self, roll: RollType, half: Half, ttl: u32) -> bool
+        ensures roll { IsTrue result → self.now.roll ≡ roll }
+        ensures half { IsTrue result → self.now.half ≡ half }
+        ensures ttl { IsTrue result → self.now.ttl ≡ ttl }
+        ensures same { self.now.roll ≡ roll → self.now.half ≡ half → self.now.ttl ≡ ttl
+            → IsTrue result }
     {
         self.roll == roll && self.half == half && self.ttl == ttl
     }
@@ -35,40 +48,319 @@ impl ReportedWait {
     /// The nanosecond since 1970 from which it is over for a key, or `None` if it lacks its stamp.
     // Out of line, so that a setter, which finds no wait as a rule, stays short.
     #[inline(never)]
-    fn over_for(self, key: &Key) -> Option<u128>
-        ensures { result ≡ over_at self.roll (which self.half) self.ttl key.now }
+    fn over_for(&self, key: &Key) -> Option<u128>
+        ensures { result ≡ over_at self.now.roll (which self.now.half) self.now.ttl key.now }
     {
         over_for(self.roll, self.half, self.ttl, key)
     }
+
+    /// The same wait after it saw a change in the key with a tag, if it is known by the others.
+    #[inline(never)]
+    fn beside(&self, key_tag: u16, over: Option<u128>) -> Option<ReportedWait>
+        ensures { result ≡ known_beside key_tag over self.now }
+    {
+        match self.others {
+            Some(others) if others.but == key_tag => Some(ReportedWait {
+                roll: self.roll,
+                half: self.half,
+                ttl: self.ttl,
+                over: later(others.over, over),
+                others: Some(others),
+            }),
+            _ => None,
+        }
+    }
 }
 
-/// All that a reported wait sees of a key.
-pub(crate) fn seen(reported: &Option<ReportedWait>, key: &Key) -> Option<u128>
-    ensures { result ≡ over_for reported.now key.now }
+/// The later of two moments, if both are known.
+fn later(one: Option<u128>, other: Option<u128>) -> Option<u128>
+    ensures { result ≡ later one other }
 {
-    match *reported {
+    match (one, other) {
+        (Some(one), Some(other)) => Some(one.max(other)),
+        _ => None,
+    }
+}
+
+/// All that a wait sees of a key.
+fn seen(wait: &Option<ReportedWait>, key: &Key) -> Option<u128>
+    ensures { result ≡ over_for wait.now key.now }
+{
+    match wait {
         Some(wait) => wait.over_for(key),
         None => None,
     }
 }
 
+/// What is known of a wait after it saw a change in the key with a tag.
+fn beside(wait: &Option<ReportedWait>, key_tag: u16, over: Option<u128>) -> Option<ReportedWait>
+    ensures { result ≡ option_and_then (known_beside key_tag over) wait.now }
+{
+    match wait {
+        Some(wait) => wait.beside(key_tag, over),
+        None => None,
+    }
+}
+
+/// What is known of the waits in progress. Two rolls at most go side by side, one of KSKs and one
+/// of ZSKs; a roll of both stands in the place of the KSKs.
+///
+/// A setter costs no walk. If a wait sees a change in a key, the next refused wait walks twice, and
+/// keeps what it finds by that key and by the others; further changes of that key then cost no
+/// walk. So in the worst case stamps of two keys are set in turn, and each wait walks.
+#[derive(Clone, Copy)]
+pub(crate) struct Waits {
+    pub(crate) of_ksks: Option<ReportedWait>,
+    pub(crate) of_zsks: Option<ReportedWait>,
+    /// The tag of the key in which a wait last saw a setter's change.
+    changed: Option<u16>,
+}
+
+/// What the waits see of a key.
+#[derive(Clone, Copy)]
+pub(crate) struct Sights {
+    pub(crate) of_ksks: Option<u128>,
+    pub(crate) of_zsks: Option<u128>,
+}
+
+impl Waits {
+    /// Nothing is known of any wait.
+    pub(crate) fn none() -> Waits
+        ensures { (keys : AnyKeys) → AreKnown result keys }
+    {
+        Waits {
+            of_ksks: None,
+            of_zsks: None,
+            changed: None,
+        }
+    }
+
+    /// Nothing is known of any wait any more.
+    pub(crate) fn forget(&mut self)
+        ensures { (keys : AnyKeys) → AreKnown self.new keys }
+    {
+        self.of_ksks = None;
+        self.of_zsks = None;
+    }
+
+    /// What is known of the wait on a roll's side.
+    fn of(&self, roll: RollType) -> &Option<ReportedWait>
+        ensures { (keys : AnyKeys) → AreKnown self.now keys → IsKnown result.now keys }
+    {
+        if is_of_zsks(roll) {
+            &self.of_zsks
+        } else {
+            &self.of_ksks
+        }
+    }
+
+    /// From when on a wait is over, if it is the one that is kept on its side.
+    pub(crate) fn over(&self, roll: RollType, half: Half, ttl: u32) -> Option<Option<u128>>
+        ensures { (keys : AnyKeys) → AreKnown self.now keys
+            → IfSome result (IsLatest (over_at roll (which half) ttl) keys) }
+    {
+        match self.of(roll) {
+            Some(wait) if wait.is_of(roll, half, ttl) => Some(wait.over),
+            _ => None,
+        }
+    }
+
+    /// What the waits see of a key.
+    fn seen(&self, key: &Key) -> Sights
+        ensures ksks { result.of_ksks ≡ over_for self.now.of_ksks key.now }
+        ensures zsks { result.of_zsks ≡ over_for self.now.of_zsks key.now }
+    {
+        Sights {
+            of_ksks: seen(&self.of_ksks, key),
+            of_zsks: seen(&self.of_zsks, key),
+        }
+    }
+
+    /// A setter has changed the key with a tag, and the waits see it as they do.
+    fn follow(&mut self, key_tag: u16, before: Sights, after: Sights)
+        ensures ksks { self.new.of_ksks
+            ≡ known_after key_tag before.of_ksks after.of_ksks self.old.of_ksks }
+        ensures zsks { self.new.of_zsks
+            ≡ known_after key_tag before.of_zsks after.of_zsks self.old.of_zsks }
+    {
+        if after.of_ksks != before.of_ksks {
+            self.of_ksks = beside(&self.of_ksks, key_tag, after.of_ksks);
+            self.changed = Some(key_tag);
+        }
+        if after.of_zsks != before.of_zsks {
+            self.of_zsks = beside(&self.of_zsks, key_tag, after.of_zsks);
+            self.changed = Some(key_tag);
+        }
+    }
+
+    /// Changes a key by hand. What is known of a wait stays if the wait sees no change.
+    #[inline(always)]
+    pub(crate) fn set(&mut self, key: &mut Key, setting: Setting)
+        ensures key { key.new ≡ set_by (setting_of setting) key.old }
+        ensures ksks { self.new.of_ksks ≡ known_after key.old.key_tag
+            (over_for self.old.of_ksks key.old)
+            (over_for self.old.of_ksks (set_by (setting_of setting) key.old)) self.old.of_ksks }
+        ensures zsks { self.new.of_zsks ≡ known_after key.old.key_tag
+            (over_for self.old.of_zsks key.old)
+            (over_for self.old.of_zsks (set_by (setting_of setting) key.old)) self.old.of_zsks }
+    {
+        // As a rule there is no wait.
+        if self.of_ksks.is_none() && self.of_zsks.is_none() {
+            apply_setting(key, setting);
+            return;
+        }
+        self.set_and_see(key, setting);
+    }
+
+    /// The same by what the waits see of the key.
+    // Out of line, so that a setter which finds no wait stays short.
+    #[inline(never)]
+    fn set_and_see(&mut self, key: &mut Key, setting: Setting)
+        ensures key { key.new ≡ set_by (setting_of setting) key.old }
+        ensures ksks { self.new.of_ksks ≡ known_after key.old.key_tag
+            (over_for self.old.of_ksks key.old)
+            (over_for self.old.of_ksks (set_by (setting_of setting) key.old)) self.old.of_ksks }
+        ensures zsks { self.new.of_zsks ≡ known_after key.old.key_tag
+            (over_for self.old.of_zsks key.old)
+            (over_for self.old.of_zsks (set_by (setting_of setting) key.old)) self.old.of_zsks }
+    {
+        let key_tag = key.key_tag();
+        let before = self.seen(key);
+        apply_setting(key, setting);
+        self.follow(key_tag, before, self.seen(key));
+    }
+
+    /// A report has begun a wait. That of the other side is found anew.
+    pub(crate) fn report(
+        &mut self,
+        keys: &HashMap<String, Key>,
+        roll: RollType,
+        half: Half,
+        ttl: u32,
+    )
+        ensures { AreKnown self.new (keys_in_map keys.now) }
+    {
+        if is_of_zsks(roll) {
+            self.of_ksks = renewed(&self.of_ksks, keys);
+            self.of_zsks = Some(found(keys, roll, half, ttl, None));
+        } else {
+            self.of_ksks = Some(found(keys, roll, half, ttl, None));
+            self.of_zsks = renewed(&self.of_zsks, keys);
+        }
+    }
+
+    /// The wait of a roll has moved the keys on. That of the other side is found anew.
+    pub(crate) fn go_on(&mut self, keys: &HashMap<String, Key>, roll: RollType)
+        ensures { AreKnown self.new (keys_in_map keys.now) }
+    {
+        if is_of_zsks(roll) {
+            self.of_ksks = renewed(&self.of_ksks, keys);
+            self.of_zsks = None;
+        } else {
+            self.of_ksks = None;
+            self.of_zsks = renewed(&self.of_zsks, keys);
+        }
+    }
+
+    /// Finds a wait, if it isn't the one that is kept on its side.
+    pub(crate) fn find(&mut self, keys: &HashMap<String, Key>, roll: RollType, half: Half, ttl: u32)
+        ensures { AreKnown self.old (keys_in_map keys.now)
+            → AreKnown self.new (keys_in_map keys.now) }
+    {
+        if self.over(roll, half, ttl).is_some() {
+            return;
+        }
+        let wait = Some(found(keys, roll, half, ttl, self.changed));
+        if is_of_zsks(roll) {
+            self.of_zsks = wait;
+        } else {
+            self.of_ksks = wait;
+        }
+    }
+}
+
+/// Whether the wait of a roll stands in the place of the ZSKs.
+fn is_of_zsks(roll: RollType) -> bool {
+    matches!(roll.column().side, Side::ZskSide)
+}
+
+/// A wait, as walks over the keys find it: one over all, and one over all but the key in which a
+/// wait saw a change, if there is one.
+fn found(
+    keys: &HashMap<String, Key>,
+    roll: RollType,
+    half: Half,
+    ttl: u32,
+    changed: Option<u16>,
+) -> ReportedWait
+    ensures { IsKnown (Some result) (keys_in_map keys.now) }
+{
+    ReportedWait {
+        roll,
+        half,
+        ttl,
+        over: over_from(keys, roll, half, ttl, None),
+        others: others_from(keys, roll, half, ttl, changed),
+    }
+}
+
+/// From when on a wait is over by all keys but one, if one is left out.
+fn others_from(
+    keys: &HashMap<String, Key>,
+    roll: RollType,
+    half: Half,
+    ttl: u32,
+    but: Option<u16>,
+) -> Option<Others>
+    ensures { IsByOthers roll (which half) ttl result (keys_in_map keys.now) }
+{
+    match but {
+        None => None,
+        Some(tag) => Some(Others {
+            but: tag,
+            over: over_from(keys, roll, half, ttl, Some(tag)),
+        }),
+    }
+}
+
+/// What is known of a wait after all keys may have changed: a walk finds it anew.
+fn renewed(known: &Option<ReportedWait>, keys: &HashMap<String, Key>) -> Option<ReportedWait>
+    ensures { IsKnown result (keys_in_map keys.now) }
+{
+    match known {
+        None => None,
+        Some(wait) => Some(found(keys, wait.roll, wait.half, wait.ttl, None)),
+    }
+}
+
 /// The nanosecond since 1970 from which a wait of `ttl` seconds is over, or `None` if a stamp is
-/// missing: a walk over the keys.
+/// missing: a walk over the keys, but for one with a tag that is left out.
 pub(crate) fn over_from(
     keys: &HashMap<String, Key>,
     roll: RollType,
     half: Half,
     ttl: u32,
+    but: Option<u16>,
 ) -> Option<u128>
-    ensures over { IfSome result (λ end.
-        IsOverFrom roll (which half) ttl (keys_in_map keys.now) end) }
-    ensures missing { IfNone result (LacksStamp roll (which half) ttl (keys_in_map keys.now)) }
+    ensures { IsLatest (over_but roll (which half) ttl but) (keys_in_map keys.now) result }
 {
     let mut over = 0;
     for key in keys.values() {
-        over = over.max(over_for(roll, half, ttl, key)?);
+        over = over.max(over_but(roll, half, ttl, but, key)?);
     }
     Some(over)
+}
+
+/// The nanosecond since 1970 from which nothing is left of a wait for a key, or `None` if its stamp
+/// is missing. It is the first of all for a key that is left out.
+#[inline(always)]
+fn over_but(roll: RollType, half: Half, ttl: u32, but: Option<u16>, key: &Key) -> Option<u128>
+    ensures { result ≡ over_but roll (which half) ttl but key.now }
+{
+    match but {
+        Some(tag) if key.key_tag() == tag => Some(0),
+        _ => over_for(roll, half, ttl, key),
+    }
 }
 
 /// The nanosecond since 1970 from which nothing is left of a wait for a key, or `None` if its stamp

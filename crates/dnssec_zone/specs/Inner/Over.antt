@@ -1,6 +1,6 @@
 -- The moment from which a wait is over, for one key and for all.
-use Rattle.std.specs.Prelude.{ℕ, ◌+◌, ◌*◌, Option, Some, if◌then◌else◌, max, nat_eq}
-use Rattle.std.specs.Option.{option_and_then, option_map}
+use Rattle.std.specs.Prelude.{ℕ, ◌+◌, ◌*◌, Option, None, Some, if◌then◌else◌, max, nat_eq}
+use Rattle.std.specs.Option.{option_map}
 use Rattle.dnssec_key.specs.declared.roll.RollType.{RollType}
 use Rattle.dnssec_key.specs.Key.{KeyParts}
 use Rattle.dnssec_key.specs.RollTable.{Half, half_of}
@@ -19,7 +19,14 @@ over_at roll half ttl k =
     then option_map (over_since ttl) (stamp_read roll half k)
     else Some 0
 
--- the later of the moment so far and that of a key, if both are known
-abbrev pub over_with : RollType → Half → ℕ → Option ℕ → KeyParts → Option ℕ
-over_with roll half ttl a k =
-    option_and_then (λ x. option_map (λ y. max x y) (over_at roll half ttl k)) a
+-- the same if the key with a tag is left out
+abbrev pub over_but : RollType → Half → ℕ → Option ℕ → KeyParts → Option ℕ
+over_but roll half ttl None k = over_at roll half ttl k
+over_but roll half ttl (Some tag) k =
+    if nat_eq k.key_tag tag then Some 0 else over_at roll half ttl k
+
+-- the later of two moments, if both are known
+abbrev pub later : Option ℕ → Option ℕ → Option ℕ
+later None b = None
+later (Some x) None = None
+later (Some x) (Some y) = Some (max x y)

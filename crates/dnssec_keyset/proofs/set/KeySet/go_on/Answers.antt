@@ -16,7 +16,7 @@ returns c = accepted-step c.args.self.now _
     c.in_ok-check_wait.ensures.reply)
     (ap Actions (c.in_ok-actions.ensures.same ∙ c.actions_in.ensures
     ∙ ap (actions_of c.args.rolltype) c.after_expiry.ensures))
-    (rw (← c.after_expiry-2.ensures, ← c.self.view_is) record {
+    (rw (← c.after_expiry-2.ensures, ← c.in_ok-check_wait.ensures.same, ← c.self.view_is) record {
       name = refl;
       rolls = c.move_to.ensures;
       lists = (waited c.self.invariant _ c.args.rolltype (which c.args.half) c.args.now.now

@@ -25,7 +25,7 @@ invariant_of-self-2 c =
           (counts-added i.derived.counts (keys_in_map i.map) n r (Some x) is c.self.invariant.1 x
           refl absent (fits-shown c.put_new.new.map c.len.ensures.unique
           (omega (arith, c.len.ensures.len, c.len.ensures.small)))),
-      rw c.add.ensures.reported tt,
+      c.add.ensures.waits _,
     )
 
 -- a tag in use is the first cause

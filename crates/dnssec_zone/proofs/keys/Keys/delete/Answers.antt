@@ -5,7 +5,7 @@ use Rattle.std.specs.FinMap.{get}
 use Rattle.dnssec_key.specs.{Inner.TagIndex.has, State.is_stale, Key.all_states}
 use Rattle.dnssec_zone.specs.{Inner.Counts.bit, Inner.Counts.passes, Inner.Counts.share}
 use Rattle.dnssec_zone.specs.{Keys.keys_in_map, Start.serves_as_kept}
-use Rattle.dnssec_zone.proofs.{Longest.known-removed, Counted.counts-alike, Counted.stale-serves}
+use Rattle.dnssec_zone.proofs.{Latest.known-removed, Counted.counts-alike, Counted.stale-serves}
 use Rattle.dnssec_zone.proofs.{Walks.shown, Walks.get-updated, Tags.TagsAgree-removed}
 use Rattle.dnssec_zone.proofs.keys.Keys.delete.Goals as goal
 
@@ -26,7 +26,10 @@ invariant_of-self c =
       rw c.delete.ensures.counts (counts-alike i.derived.counts (keys_in_map i.map) n r None is
           c.self.invariant.1 (λ w. ap (share (passes (serves_as_kept w)) r) found
           ∙ ap bit (stale-serves x.keytype stale w))),
-      rw c.delete.ensures.reported
-          (known-removed (keys_in_map i.map) n r x found is stale i.derived.reported
-          c.self.invariant.2),
+      rw c.delete.ensures.waits (
+        known-removed (keys_in_map i.map) n r x found is stale i.derived.waits.of_ksks
+            c.self.invariant.2.0,
+        known-removed (keys_in_map i.map) n r x found is stale i.derived.waits.of_zsks
+            c.self.invariant.2.1,
+      ),
     )

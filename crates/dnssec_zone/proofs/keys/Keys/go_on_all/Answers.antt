@@ -19,5 +19,5 @@ invariant_of-self c = (
   rw c.go_on.ensures.tags (tags-walked (walk c) (λ k. refl) _ c.self.invariant.0),
   counts-waited _ _ _ _ _ _ _ c.retain.ensures.was_unique c.retain.ensures.unique (walk c)
       c.self.invariant.1 c.go_on.ensures.moved c.go_on.ensures.kept,
-  rw c.go_on.ensures.reported tt,
+  c.go_on.ensures.waits,
 )

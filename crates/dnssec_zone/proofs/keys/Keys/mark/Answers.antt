@@ -37,7 +37,7 @@ loop-reference-preserved c =
             (f k) found refl
             (fits-shown n c.len.ensures.unique
             (omega (arith, c.len.ensures.len, c.len.ensures.small)))),
-        rw c.mark.ensures.reported tt,
+        c.mark.ensures.waits _,
       ),
       mark_more f (marked-twice c.args.mark.now) rs l.reference-index _ _ _ _
           c.loop-reference-test.true l.invariant.1 is,

@@ -14,5 +14,5 @@ invariant_of-result c = (
         let there : None ≡ Some k = sym none ∙ e in cc;
   },
   rw c.none.ensures.counts (counts-none (keys_in_map c.new.result) (λ q. search (rules, shown))),
-  rw c.none.ensures.reported tt,
+  c.none.ensures.waits _,
 )

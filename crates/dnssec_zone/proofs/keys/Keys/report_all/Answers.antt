@@ -20,5 +20,5 @@ invariant_of-self c = (
   rw c.report.ensures.tags (tags-walked (walk c) (λ k. refl) _ c.self.invariant.0),
   rw c.report.ensures.counts (counts-kept _ _ c.retain.ensures.was_unique
       c.retain.ensures.unique (walk c) (λ w k. refl) _ c.self.invariant.1),
-  c.report.ensures.reported,
+  c.report.ensures.waits,
 )

@@ -4,7 +4,7 @@ use Rattle.std.specs.{Prelude.if◌then◌else◌, Str.bytes_eq, Option.option_m
 use Rattle.dnssec_key.specs.{Inner.TagIndex.has, Setters.setting_of, Setters.set_by}
 use Rattle.dnssec_zone.specs.{Inner.Derived.IsDerived, Keys.keys_in_map}
 use Rattle.dnssec_zone.proofs.{Walks.put-changed, Walks.same-written, Walks.shown}
-use Rattle.dnssec_zone.proofs.{Counted.counts-set, Counted.fits-shown, Longest.known-after}
+use Rattle.dnssec_zone.proofs.{Counted.counts-set, Counted.fits-shown, Latest.known-after}
 use Rattle.dnssec_zone.proofs.{Tags.tags-changed, Tags.kept_set}
 use Rattle.std.specs.FinMap as map
 use Rattle.dnssec_zone.proofs.keys.Keys.set.Goals as goal
@@ -40,14 +40,19 @@ invariant_of-self-2 c =
     let is : (q : List ℕ) → map.get (keys_in_map n) q
     ≡ option_map (λ k. if bytes_eq r q then f k else k) (map.get (keys_in_map i.map) q) =
     λ q. search (rules, shown) in
-    let put = put-changed f (keys_in_map i.map) (keys_in_map n) r k found is in (
-      rw c.set.ensures.tags (tags-changed (keys_in_map i.map) (keys_in_map n) r f
-          (kept_set setting) is (has i.derived.tags) c.self.invariant.0),
+    let put = put-changed f (keys_in_map i.map) (keys_in_map n) r k found is in
+    let tags = tags-changed (keys_in_map i.map) (keys_in_map n) r f (kept_set setting) is
+    (has i.derived.tags) c.self.invariant.0 in (
+      rw c.set.ensures.tags tags,
       rw c.set.ensures.counts
           (counts-set setting i.derived.counts (keys_in_map i.map) (keys_in_map n) r k found put
           (fits-shown n c.len.ensures.unique
           (omega (arith, c.len.ensures.len, c.len.ensures.small)))
           c.self.invariant.1),
-      rw c.set.ensures.reported (known-after (keys_in_map i.map) (keys_in_map n) r k (f k) found put
-          i.derived.reported c.self.invariant.2),
+      (
+        rw c.set.ensures.ksks (known-after (keys_in_map i.map) (keys_in_map n) r k (f k) found put
+            (kept_set setting k) tags.apart i.derived.waits.of_ksks c.self.invariant.2.0),
+        rw c.set.ensures.zsks (known-after (keys_in_map i.map) (keys_in_map n) r k (f k) found put
+            (kept_set setting k) tags.apart i.derived.waits.of_zsks c.self.invariant.2.1),
+      ),
     )

@@ -16,7 +16,7 @@ invariant_of-result c =
     let same : keys_in_map c.in_ok-clone.field-0 ≡ keys_in_map i.map =
     ap from_entries (entries_by_bytes-clones i.map.entries c.in_ok-clone.field-0.entries
     c.in_ok-clone.ensures.cases) in
-    rw (same, copy.ensures.counts, copy.ensures.reported) (
+    rw (same, copy.ensures.counts, copy.ensures.waits) (
       record {
         says = λ t. rw (copy.ensures.tags t) (c.self.invariant.0.says t);
         apart = c.self.invariant.0.apart;

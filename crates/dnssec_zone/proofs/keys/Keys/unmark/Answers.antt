@@ -20,5 +20,5 @@ invariant_of-self c = (
   rw c.recount.ensures.tags (tags-walked (walk c) (λ k. kept_unmarked c.args.roll _ _ k) _
       c.self.invariant.0),
   c.recount.ensures.counts,
-  rw c.recount.ensures.reported tt,
+  c.recount.ensures.waits _,
 )

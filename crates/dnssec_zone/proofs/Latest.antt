@@ -1,0 +1,349 @@
+-- The latest of the moments from which a wait is over for keys: what a walk finds, what it answers
+-- to a wait, and how it follows a key that changes or goes.
+use Rattle.std.proofs.Common.{◌≡◌, ℕ, ◌≤◌, ◌+◌, Bool, true, false, List, [], ◌∷◌, Some, refl}
+use Rattle.std.proofs.Common.{sym, ◌∙◌, max, arith, not, min, None, ap, map, subst}
+use Rattle.std.specs.Prelude.{nat_lt, Option, is_none, ◌*◌, ◌-◌, ◌&&◌, ◌||◌, if◌then◌else◌}
+use Rattle.std.specs.Prelude.{unwrap_or, IfNone, IfSome, nat_eq}
+use Rattle.std.specs.{List.list_any, List.fold, FinMap.get, FinMap.remove, FinMap.values}
+use Rattle.std.specs.{Option.option_eq, Option.option_map_or, Str.bytes_eq}
+use Rattle.std.specs.HashMap.{HashMap, IsUnique, values as hash_values}
+use Rattle.std.specs.{String.string_eq, declared.string.String.String}
+use Rattle.std.specs.Cmp.Lexicographic.{bytes_decides}
+use Rattle.std.proofs.lemmas.Bool.{or_from, or_left, or_right, cond_both}
+use Rattle.std.proofs.lemmas.Bool.Decides.{nat_tests}
+use Rattle.dnssec_key.specs.{Key.KeyParts, Key.all_states, RollTable.Half, RollTable.column}
+use Rattle.dnssec_key.specs.{RollTable.half_of, RollTable.which, declared.roll.RollType.RollType}
+use Rattle.dnssec_key.specs.{declared.kind.KeyType.KeyType, State.is_stale}
+use Rattle.dnssec_zone.specs.Wait.{early_by, lacks_stamp, time_left}
+use Rattle.dnssec_zone.specs.Wait.{wait_in_phase, IsOverFrom, LacksStamp}
+use Rattle.dnssec_zone.specs.{Keys.Keys, Keys.keys_in_map, Keys.some_key, Keys.TagsApart}
+use Rattle.dnssec_zone.specs.Inner.Over.{over_at, over_but, later}
+use Rattle.dnssec_zone.specs.Inner.Reported.{IsLatest, IsKnown, IsByOthers, over_for, known_after}
+use Rattle.dnssec_zone.specs.Inner.Reported.{known_beside, by_others}
+use Rattle.dnssec_zone.specs.Inner.Counts.{count_in}
+use Rattle.dnssec_zone.specs.declared.wait_end.ReportedWait.{ReportedWait}
+use Rattle.dnssec_zone.specs.declared.wait_end.Others.{Others}
+use Rattle.dnssec_zone.proofs.{Walks.some_key-shown, Tests.some_or_none}
+use Rattle.dnssec_zone.proofs.Counted.{some-alike, some_key-counted, count-at, count-same}
+use Rattle.dnssec_zone.proofs.Counted.{get-without}
+use Rattle.dnssec_zone.proofs.Longest.{longest-by, none-left, some-left}
+
+module _ (f : KeyParts → Option ℕ) where
+  -- a key has no moment
+  abbrev pub lacks : KeyParts → Bool
+  lacks k = is_none (f k)
+
+  -- a key's moment is past n
+  abbrev pub past : ℕ → KeyParts → Bool
+  past n k = nat_lt n (unwrap_or (f k) 0)
+
+  -- the latest moment so far, and that of a key
+  abbrev pub step : Option ℕ → KeyParts → Option ℕ
+  step a k = later a (f k)
+
+  -- ---- the walk
+
+  lost : (ks : List KeyParts) → fold step None ks ≡ None
+  lost [] = refl
+  lost (k ∷ ks) = lost ks
+
+  -- a walk that finds a key without a moment
+  pub walk-lost : (a : ℕ) (k : KeyParts) (ks : List KeyParts) → f k ≡ None
+      → fold step (Some a) (k ∷ ks) ≡ None
+  walk-lost a k ks absent = ap (λ o. fold step (later (Some a) o) ks) absent ∙ lost ks
+
+  -- what a walk finds if it begins at a
+  abbrev Finds : List KeyParts → ℕ → Option ℕ → Type 0
+  Finds ks a None = list_any lacks ks ≡ true
+  Finds ks a (Some end) = (list_any lacks ks ≡ false)
+      × ((n : ℕ) → (nat_lt n a || list_any (past n) ks) ≡ nat_lt n end)
+
+  finds : (ks : List KeyParts) (a : ℕ) → Finds ks a (fold step (Some a) ks)
+  finds [] a = (refl, λ n. grind arith)
+  finds (k ∷ ks) a = some_or_none
+      (λ o. Finds (k ∷ ks) a (fold step (later (Some a) o) ks)) (f k)
+      (λ e. rw (lost ks) (or_left _ _ (ap is_none e)))
+      (λ m e. more m e _ (finds ks (max a m)))
+    where
+      more : (m : ℕ) → f k ≡ Some m → (o : Option ℕ) → Finds ks (max a m) o → Finds (k ∷ ks) a o
+      more m e None missing = or_right _ _ missing
+      more m e (Some end) rest = (
+        or_from _ _ (ap is_none e) rest.0,
+        λ n. grind (arith, nat_tests, rest.1 n, e),
+      )
+
+  -- so a walk over a hash map finds the latest
+  pub walked : {Y S : Type 0} (m : HashMap (String Y) KeyParts S) → IsUnique string_eq m
+      → (o : Option ℕ) → o ≡ fold step (Some 0) (hash_values m) → IsLatest f (keys_in_map m) o
+  walked m unique o is = found o (rw is (finds (hash_values m) 0))
+    where
+      found : (o : Option ℕ) → Finds (hash_values m) 0 o → IsLatest f (keys_in_map m) o
+      found None missing = record {
+        lacks = some_key-shown lacks m unique ∙ missing;
+        past = tt;
+      }
+      found (Some end) h = record {
+        lacks = some_key-shown lacks m unique ∙ h.0;
+        past = λ n. some_key-shown (past n) m unique ∙ (grind (arith, nat_tests, h.1 n));
+      }
+
+  -- ---- a key is put in, taken out or exchanged
+
+  -- what is seen at a reference; of no key what is seen of one that is over at once
+  abbrev pub seen : Option KeyParts → Option ℕ
+  seen o = option_map_or f o (Some 0)
+
+  seen-lacks : (o : Option KeyParts) → option_map_or lacks o false ≡ is_none (seen o)
+  seen-lacks None = refl
+  seen-lacks (Some k) = refl
+
+  seen-past : (n : ℕ) (o : Option KeyParts)
+      → option_map_or (past n) o false ≡ nat_lt n (unwrap_or (seen o) 0)
+  seen-past n None = grind (arith, nat_tests)
+  seen-past n (Some k) = refl
+
+  -- no change is seen
+  pub latest-alike : (m n : Keys) (r : List ℕ) (o : Option KeyParts)
+      → ((q : List ℕ) → get n q ≡ (if bytes_eq r q then o else get m q))
+      → seen (get m r) ≡ seen o → (x : Option ℕ) → IsLatest f m x → IsLatest f n x
+  latest-alike m n r o is same x old = record {
+    lacks = some-alike lacks m n r o is (seen-lacks (get m r) ∙ ap is_none same
+        ∙ sym (seen-lacks o)) ∙ old.lacks;
+    past = follow x old.past;
+  }
+    where
+      follow : (x : Option ℕ)
+          → IfSome x (λ end. (n : ℕ) → some_key (past n) m ≡ nat_lt n end)
+          → IfSome x (λ end. (i : ℕ) → some_key (past i) n ≡ nat_lt i end)
+      follow None h = tt
+      follow (Some end) h = λ i. some-alike (past i) m n r o is (seen-past i (get m r)
+          ∙ ap (λ s. nat_lt i (unwrap_or s 0)) same ∙ sym (seen-past i o)) ∙ h i
+
+-- tests that agree on each key
+some-same : (p q : KeyParts → Bool) (keys : Keys) → ((k : KeyParts) → p k ≡ q k)
+    → some_key p keys ≡ some_key q keys
+some-same p q keys same = λ i. list_any (λ k. same k i) (values keys)
+
+-- ---- one key and all others
+
+-- a key passes that isn't the one with a tag
+abbrev another : ℕ → (KeyParts → Bool) → KeyParts → Bool
+another tag p k = not (nat_eq k.key_tag tag) && p k
+
+-- some key passes if the one at a reference does, or another one
+some-split : (p : KeyParts → Bool) (m : Keys) (r : List ℕ) (k : KeyParts) → get m r ≡ Some k
+    → TagsApart m → some_key p m ≡ (p k || some_key (another k.key_tag p) m)
+some-split p m r k found apart =
+    let rest : count_in (λ q. another k.key_tag p) (remove m r) ≡ count_in (λ q. p) (remove m r) =
+    count-same (λ q. another k.key_tag p) (λ q. p) (remove m r) (λ q l at. other q l at) in
+    grind (
+      arith,
+      nat_tests,
+      some_key-counted p m,
+      some_key-counted (another k.key_tag p) m,
+      count-at (λ q. p) m r,
+      count-at (λ q. another k.key_tag p) m r,
+      rest,
+      found,
+    )
+  where
+    other : (q : List ℕ) (l : KeyParts) → get (remove m r) q ≡ Some l
+        → another k.key_tag p l ≡ p l
+    other q l at = grind (arith, nat_tests, bytes_decides, get-without m r q, apart r q k l found)
+
+-- the latest of all, by the one key and the others
+joined : (roll : RollType) (half : Half) (ttl : ℕ) (m : Keys) (r : List ℕ) (k : KeyParts)
+    → get m r ≡ Some k → TagsApart m → (x : Option ℕ)
+    → IsLatest (over_but roll half ttl (Some k.key_tag)) m x
+    → IsLatest (over_at roll half ttl) m (later x (over_at roll half ttl k))
+joined roll half ttl m r k found apart x others = record {
+  lacks = some-split (lacks f) m r k found apart ∙ ap (λ b. lacks f k || b)
+      (some-same _ _ m masked ∙ others.lacks) ∙ none x (f k);
+  past = follow x (f k) refl others.past;
+}
+  where
+    f : KeyParts → Option ℕ
+    f = over_at roll half ttl
+
+    g : KeyParts → Option ℕ
+    g = over_but roll half ttl (Some k.key_tag)
+
+    masked : (l : KeyParts) → another k.key_tag (lacks f) l ≡ lacks g l
+    masked l = grind (arith, nat_tests)
+
+    masked-past : (n : ℕ) (l : KeyParts) → another k.key_tag (past f n) l ≡ past g n l
+    masked-past n l = grind (arith, nat_tests)
+
+    none : (a b : Option ℕ) → (is_none b || is_none a) ≡ is_none (later a b)
+    none a b = grind arith
+
+    follow : (a b : Option ℕ) → f k ≡ b
+        → IfSome a (λ end. (n : ℕ) → some_key (past g n) m ≡ nat_lt n end)
+        → IfSome (later a b) (λ end. (n : ℕ) → some_key (past f n) m ≡ nat_lt n end)
+    follow None b e h = tt
+    follow (Some x) None e h = tt
+    follow (Some x) (Some y) e h = λ n. some-split (past f n) m r k found apart
+        ∙ ap (λ b. past f n k || b) (some-same _ _ m (masked-past n) ∙ h n)
+        ∙ (grind (arith, nat_tests, e))
+
+-- ---- what the latest answers to a wait
+
+-- what is left of a span of time at a moment, by the moment from which nothing is
+abbrev pub left_of : ℕ → ℕ → ℕ → ℕ
+left_of span now end = min span (end - now)
+
+module _ (roll : RollType) (half : Half) (ttl : ℕ) where
+  missing-same : (k : KeyParts) → lacks_stamp roll half k ≡ lacks (over_at roll half ttl) k
+  missing-same k = grind arith
+
+  -- without a TTL no key holds a wait up
+  at-once : (k : KeyParts) → ttl ≡ 0 → unwrap_or (over_at roll half ttl k) 0 ≤ 0
+  at-once k none = grind (arith, nat_tests)
+
+  -- what is left for a key at a moment
+  left-over : (now : ℕ) (k : KeyParts) → time_left roll half ttl now k
+      ≡ left_of (ttl * 1_000_000_000) now (unwrap_or (over_at roll half ttl k) 0)
+  left-over now k = grind (arith, nat_tests)
+
+  more-left : (span now n end : ℕ)
+      → nat_lt n (left_of span now end) ≡ (nat_lt n span && nat_lt (n + now) end)
+  more-left span now n end = grind (arith, nat_tests)
+
+  both : (b : Bool) (p : KeyParts → Bool) (ks : List KeyParts)
+      → list_any (λ k. b && p k) ks ≡ (b && list_any p ks)
+  both true p ks = refl
+  both false p [] = refl
+  both false p (k ∷ ks) = both false p ks
+
+  module _ (keys : Keys) where
+    longest : (now end : ℕ)
+        → ((n : ℕ) → some_key (past (over_at roll half ttl) n) keys ≡ nat_lt n end)
+        → fold max 0 (map (time_left roll half ttl now) (values keys))
+        ≡ left_of (ttl * 1_000_000_000) now end
+    longest now end is = longest-by (time_left roll half ttl now) (values keys) _ (λ n.
+        some-same _ _ keys (λ k. ap (nat_lt n) (left-over now k) ∙ more-left _ now n _)
+        ∙ both (nat_lt n (ttl * 1_000_000_000)) (past (over_at roll half ttl) (n + now))
+        (values keys)
+        ∙ ap (λ b. nat_lt n (ttl * 1_000_000_000) && b) (is (n + now))
+        ∙ sym (more-left _ now n end))
+
+    -- without a TTL a wait is over from the first moment on
+    first : (end : ℕ)
+        → ((n : ℕ) → some_key (past (over_at roll half ttl) n) keys ≡ nat_lt n end)
+        → ttl ≡ 0 → end ≤ 0
+    first end is none =
+        let never : some_key (past (over_at roll half ttl) 0) keys ≡ false =
+        some-same _ (λ k. false) keys (λ k. grind (arith, nat_tests, at-once k none))
+        ∙ both false (λ k. false) (values keys) in
+        grind (arith, nat_tests, is 0, never)
+
+    -- a missing stamp bars the wait
+    pub latest-lacks : IsLatest (over_at roll half ttl) keys None → LacksStamp roll half ttl keys
+    latest-lacks is now = rw (some-same _ _ keys missing-same, is.lacks) refl
+
+    -- else it is over from the latest moment on
+    pub latest-over : (end : ℕ) → IsLatest (over_at roll half ttl) keys (Some end)
+        → IsOverFrom roll half ttl keys end
+    latest-over end is = record {
+      early = λ now less. left now
+          ∙ some-left _ (grind (arith, less, first end is.past));
+      over = λ now late. left now ∙ none-left _ (omega (arith, late));
+    }
+      where
+        left : (now : ℕ) → wait_in_phase roll half (Some ttl) now keys
+            ≡ early_by (left_of (ttl * 1_000_000_000) now end)
+        left now = rw (some-same _ _ keys missing-same, is.lacks, longest now end is.past) refl
+
+    -- so much for either
+    pub latest-is : (o : Option ℕ) → IsLatest (over_at roll half ttl) keys o
+        → IfSome o (IsOverFrom roll half ttl keys) × IfNone o (LacksStamp roll half ttl keys)
+    latest-is None is = (tt, latest-lacks is)
+    latest-is (Some end) is = (latest-over end is, tt)
+
+-- ---- what is known of a wait, after a key has changed or gone
+
+-- no change is seen
+known-alike : (m n : Keys) (r : List ℕ) (o : Option KeyParts)
+    → ((q : List ℕ) → get n q ≡ (if bytes_eq r q then o else get m q))
+    → (wait : ReportedWait)
+    → seen (over_for (Some wait)) (get m r) ≡ seen (over_for (Some wait)) o
+    → ((tag : ℕ) → seen (over_but wait.roll (which wait.half) wait.ttl (Some tag)) (get m r)
+    ≡ seen (over_but wait.roll (which wait.half) wait.ttl (Some tag)) o)
+    → IsKnown (Some wait) m → IsKnown (Some wait) n
+known-alike m n r o is wait same each known = (
+  latest-alike (over_for (Some wait)) m n r o is same wait.over known.0,
+  others wait.others known.1,
+)
+  where
+    others : (x : Option Others) → IsByOthers wait.roll (which wait.half) wait.ttl x m
+        → IsByOthers wait.roll (which wait.half) wait.ttl x n
+    others None h = tt
+    others (Some x) h = latest-alike (over_but wait.roll (which wait.half) wait.ttl (Some x.but))
+        m n r o is (each x.but) x.over h
+
+-- what a wait sees of a key, if the one with a tag is left out
+abbrev but : ReportedWait → ℕ → KeyParts → Option ℕ
+but wait tag = over_but wait.roll (which wait.half) wait.ttl (Some tag)
+
+-- a setter has changed the key at a reference
+pub known-after : (m n : Keys) (r : List ℕ) (k l : KeyParts) → get m r ≡ Some k
+    → ((q : List ℕ) → get n q ≡ (if bytes_eq r q then Some l else get m q))
+    → l.key_tag ≡ k.key_tag → TagsApart n → (known : Option ReportedWait) → IsKnown known m
+    → IsKnown (known_after k.key_tag (over_for known k) (over_for known l) known) n
+known-after m n r k l found is tag apart None old = tt
+known-after m n r k l found is tag apart (Some wait) old = cond_both
+    (option_eq nat_eq (over_for (Some wait) l) (over_for (Some wait) k)) (Some wait)
+    (known_beside k.key_tag (over_for (Some wait) l) wait) (λ o. IsKnown o n)
+    (λ e.
+    let same : over_for (Some wait) l ≡ over_for (Some wait) k = equal _ _ e in
+    known-alike m n r (Some l) is wait (ap (seen (over_for (Some wait))) found ∙ sym same)
+    (λ t. ap (seen (but wait t)) found ∙ (grind (arith, same, tag))) old)
+    (λ e. beside wait.others refl old.1)
+  where
+    equal : (a b : Option ℕ) → option_eq nat_eq a b ≡ true → a ≡ b
+    equal a b e = grind (arith, nat_tests)
+
+    there : get n r ≡ Some l
+    there = is r ∙ (grind (arith, bytes_decides))
+
+    rest : (t : ℕ) → t ≡ l.key_tag → (x : Option ℕ) → IsLatest (but wait t) m x
+        → IsLatest (but wait t) n x
+    rest t e x h = latest-alike (but wait t) m n r (Some l) is
+        (ap (seen (but wait t)) found ∙ (grind (arith, nat_tests, e, tag))) x h
+
+    beside : (x : Option Others) → wait.others ≡ x
+        → IsByOthers wait.roll (which wait.half) wait.ttl x m
+        → IsKnown (by_others k.key_tag (over_for (Some wait) l) wait x) n
+    beside None e h = tt
+    beside (Some x) e h = cond_both (nat_eq x.but k.key_tag)
+        (Some (record wait { over = later x.over (over_for (Some wait) l) })) None
+        (λ o. IsKnown o n)
+        (λ t.
+        let is_its : x.but ≡ l.key_tag = grind (arith, nat_tests, t, tag) in
+        let kept = rest x.but is_its x.over h in (
+          joined wait.roll (which wait.half) wait.ttl n r l there apart x.over
+              (subst (λ t. IsLatest (but wait t) n x.over) is_its kept),
+          rw e kept,
+        ))
+        (λ t. tt)
+
+-- ---- a stale key that goes
+
+-- no wait checks it
+stale-unchecked : (roll : RollType) (half : Half) (t : KeyType) → all_states is_stale t ≡ true
+    → (half_of roll half).checks t ≡ false
+unfolding column
+stale-unchecked roll half t stale = grind arith
+
+-- so what is known of a wait stays when it goes
+pub known-removed : (m n : Keys) (r : List ℕ) (k : KeyParts) → get m r ≡ Some k
+    → ((q : List ℕ) → get n q ≡ (if bytes_eq r q then None else get m q))
+    → all_states is_stale k.keytype ≡ true
+    → (known : Option ReportedWait) → IsKnown known m → IsKnown known n
+known-removed m n r k found is stale None old = tt
+known-removed m n r k found is stale (Some wait) old =
+    let none = stale-unchecked wait.roll (which wait.half) k.keytype stale in
+    known-alike m n r None is wait
+    (ap (seen (over_for (Some wait))) found ∙ (grind (arith, none)))
+    (λ t. ap (seen (over_but wait.roll (which wait.half) wait.ttl (Some t))) found
+    ∙ (grind (arith, none))) old
