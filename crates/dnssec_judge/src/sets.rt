@@ -5,6 +5,6 @@ mod bits;
 mod held;
 mod numbers;
 
-pub use bits::Bits;
-pub use held::OpenSet;
-pub use numbers::Numbers;
+pub(crate) use bits::Bits;
+pub(crate) use held::OpenSet;
+pub(crate) use numbers::Numbers;

@@ -15,7 +15,7 @@ const WORD: usize = 64;
 
 /// A set of small numbers, as a bit for each. Numbers below 64 take no memory of the allocator.
 #[derive(Debug, Drop)]
-pub struct Bits {
+pub(crate) struct Bits {
     /// The numbers below 64.
     first: u64,
     /// The others, in words of 64 numbers.
@@ -24,7 +24,7 @@ pub struct Bits {
 
 impl Bits {
     /// No numbers.
-    pub fn new(alloc: Global) -> Self
+    pub(crate) fn new(alloc: Global) -> Self
         ensures { (n : ℕ) → has result n ≡ false }
     {
         Bits {
@@ -34,7 +34,7 @@ impl Bits {
     }
 
     /// These numbers.
-    pub fn of(alloc: Global, numbers: &[usize]) -> Result<Self, Error>
+    pub(crate) fn of(alloc: Global, numbers: &[usize]) -> Result<Self, Error>
         ensures ok { IfOk result (λ bits. (n : ℕ) →
             has bits n ≡ list_any (λ number. nat_eq number n) numbers.now) }
         ensures err { IfErr result (λ e. e ≡ OutOfMemory) }
@@ -47,7 +47,7 @@ impl Bits {
     }
 
     /// The same set.
-    pub fn try_clone(&self) -> Result<Self, Error>
+    pub(crate) fn try_clone(&self) -> Result<Self, Error>
         ensures ok { IfOk result (λ copy. words_of copy ≡ words_of self.now) }
         ensures err { IfErr result (λ e. e ≡ OutOfMemory) }
     {
@@ -102,7 +102,7 @@ impl Bits {
     }
 
     /// Puts a number in.
-    pub fn put(&mut self, number: usize) -> Result<(), Error>
+    pub(crate) fn put(&mut self, number: usize) -> Result<(), Error>
         ensures ok { OnOk result ((n : ℕ) → has self.new n
             ≡ (if nat_eq number n then true else has self.old n)) }
         ensures err { IfErr result (λ e. e ≡ OutOfMemory) }
@@ -113,7 +113,7 @@ impl Bits {
     }
 
     /// Keeps only the numbers that are in another set too.
-    pub fn keep(&mut self, other: &Bits)
+    pub(crate) fn keep(&mut self, other: &Bits)
         ensures { (n : ℕ) → has self.new n ≡ (has self.old n && has other.now n) }
     {
         self.first &= other.first;
@@ -123,7 +123,7 @@ impl Bits {
     }
 
     /// Whether the number is in the set.
-    pub fn has(&self, number: usize) -> bool
+    pub(crate) fn has(&self, number: usize) -> bool
         ensures { result ≡ has self.now number }
     {
         (self.word(number / WORD) >> (number % WORD)) & 1 == 1
@@ -131,7 +131,7 @@ impl Bits {
 
     /// Whether no number is in it.
     #[inline(always)]
-    pub fn is_empty(&self) -> bool
+    pub(crate) fn is_empty(&self) -> bool
         ensures yes { result ≡ true → (n : ℕ) → has self.now n ≡ false }
         ensures no { result ≡ false → (n : ℕ) × (has self.now n ≡ true) }
     {
@@ -140,7 +140,7 @@ impl Bits {
 
     /// Whether the sets have a number in common.
     #[inline(always)]
-    pub fn meets(&self, other: &Bits) -> bool
+    pub(crate) fn meets(&self, other: &Bits) -> bool
         ensures yes { result ≡ true → Share (words_of self.now) (words_of other.now) }
         ensures no { result ≡ false → Share (words_of self.now) (words_of other.now) → ⊥ }
     {
@@ -149,7 +149,7 @@ impl Bits {
 
     /// Whether the three sets have a number in common.
     #[inline(always)]
-    pub fn meets_both(&self, one: &Bits, other: &Bits) -> bool
+    pub(crate) fn meets_both(&self, one: &Bits, other: &Bits) -> bool
         ensures yes { result ≡ true →
             ShareAll (words_of self.now) (words_of one.now) (words_of other.now) }
         ensures no { result ≡ false →
@@ -160,14 +160,14 @@ impl Bits {
 
     /// Whether it is the same set. All sets are without words at the end that are 0, or two that
     /// are the same may be taken for two.
-    pub fn is(&self, other: &Bits) -> bool
+    pub(crate) fn is(&self, other: &Bits) -> bool
         ensures { result ≡ true → words_of self.now ≡ words_of other.now }
     {
         self.first == other.first && self.rest == other.rest
     }
 
     /// A number that is the same for the same set, and for others mostly not.
-    pub fn digest(&self, seed: u64) -> u64 {
+    pub(crate) fn digest(&self, seed: u64) -> u64 {
         let mut digest = mix(seed, self.first);
         for word in &self.rest {
             digest = mix(digest, *word);

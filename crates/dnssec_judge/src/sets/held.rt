@@ -12,11 +12,11 @@ use std::alloc::Global;
 /// A set that caches may hold, by the numbers of its keys. It is kept once for all positions that
 /// publish it, and known by the position at which it came.
 #[derive(Debug, Drop)]
-pub struct OpenSet {
+pub(crate) struct OpenSet {
     /// Since this position caches may hold it without a break.
-    pub since: usize,
+    pub(crate) since: usize,
     /// The last position at which it was published, but not at the one before.
-    pub last: usize,
+    pub(crate) last: usize,
     keys: Bits,
     /// The keys that sign it, if it is a DNSKEY set.
     signers: Bits,
@@ -26,7 +26,7 @@ pub struct OpenSet {
 
 impl OpenSet {
     /// No keys, as at position 0.
-    pub fn none(alloc: Global) -> Self
+    pub(crate) fn none(alloc: Global) -> Self
         ensures since { result.since ≡ 0 }
         ensures last { result.last ≡ 0 }
         ensures keys { (n : ℕ) → has result.keys n ≡ false }
@@ -36,7 +36,7 @@ impl OpenSet {
     }
 
     /// The set of a position, by its keys and signers.
-    pub fn new(at: usize, keys: Bits, signers: Bits) -> Self
+    pub(crate) fn new(at: usize, keys: Bits, signers: Bits) -> Self
         ensures { parts_of result ≡ ((words_of keys, words_of signers), at, at) }
     {
         let digest = signers.digest(keys.digest(0));
@@ -50,7 +50,7 @@ impl OpenSet {
     }
 
     /// The same set.
-    pub fn try_clone(&self) -> Result<Self, Error>
+    pub(crate) fn try_clone(&self) -> Result<Self, Error>
         ensures ok { IfOk result (λ h. parts_of h ≡ parts_of self.now) }
         ensures err { IfErr result (λ e. e ≡ OutOfMemory) }
     {
@@ -64,12 +64,12 @@ impl OpenSet {
     }
 
     /// Sets with other digests are other sets.
-    pub fn digest(&self) -> u64 {
+    pub(crate) fn digest(&self) -> u64 {
         self.digest
     }
 
     /// Whether it has the same keys, and the same keys sign it.
-    pub fn is(&self, other: &OpenSet) -> bool
+    pub(crate) fn is(&self, other: &OpenSet) -> bool
         ensures { result ≡ true → set_of self.now ≡ set_of other.now }
     {
         self.digest == other.digest && self.keys.is(&other.keys) && self.signers.is(&other.signers)
@@ -77,21 +77,21 @@ impl OpenSet {
 
     /// It is published at this position too, after others.
     #[inline(always)]
-    pub fn show_at(&mut self, at: usize)
+    pub(crate) fn show_at(&mut self, at: usize)
         ensures { parts_of self.new ≡ (set_of self.old, self.old.since, at) }
     {
         self.last = at;
     }
 
     /// Whether it has no keys.
-    pub fn is_empty(&self) -> bool
+    pub(crate) fn is_empty(&self) -> bool
         ensures { result ≡ has_none (words_of self.now.keys) }
     {
         self.keys.is_empty()
     }
 
     /// Keeps only the keys and signers that another set has too.
-    pub fn keep(&mut self, other: &OpenSet)
+    pub(crate) fn keep(&mut self, other: &OpenSet)
         ensures keys { (n : ℕ) → has self.new.keys n
             ≡ (has self.old.keys n && has other.now.keys n) }
         ensures signers { (n : ℕ) → has self.new.signers n
@@ -102,7 +102,7 @@ impl OpenSet {
     }
 
     /// Whether the number is that of a key or of a signer.
-    pub fn has(&self, number: usize) -> bool
+    pub(crate) fn has(&self, number: usize) -> bool
         ensures { result ≡ (has self.now.keys number || has self.now.signers number) }
     {
         self.keys.has(number) || self.signers.has(number)
@@ -110,7 +110,7 @@ impl OpenSet {
 
     /// Whether one of its keys, as those of a DS set, is in the DNSKEY set and signs it.
     #[inline(always)]
-    pub fn names_key_of(&self, dnskey: &OpenSet) -> bool
+    pub(crate) fn names_key_of(&self, dnskey: &OpenSet) -> bool
         ensures { result ≡ meet_three (words_of self.now.keys) (words_of dnskey.now.keys)
             (words_of dnskey.now.signers) }
     {
@@ -119,7 +119,7 @@ impl OpenSet {
 
     /// Whether it holds with a DNSKEY set: there is no DS, or it names a key of that.
     #[inline(always)]
-    pub fn holds_with_keys(&self, dnskey: &OpenSet) -> bool
+    pub(crate) fn holds_with_keys(&self, dnskey: &OpenSet) -> bool
         ensures { result ≡ keys_hold (set_of self.now) (set_of dnskey.now) }
     {
         self.is_empty() || self.names_key_of(dnskey)
@@ -127,7 +127,7 @@ impl OpenSet {
 
     /// Whether one of its keys, as those of a DNSKEY set, signs the zone.
     #[inline(always)]
-    pub fn holds_with_signers(&self, zone: &OpenSet) -> bool
+    pub(crate) fn holds_with_signers(&self, zone: &OpenSet) -> bool
         ensures { result ≡ zone_holds (set_of self.now) (set_of zone.now) }
     {
         self.keys.meets(&zone.keys)

@@ -20,7 +20,7 @@ const FEW: usize = 8;
 /// A key of a record has the number of the place at which it stands here. Numbers of keys that have
 /// left are given to other keys.
 #[derive(Debug, Drop)]
-pub struct Numbers {
+pub(crate) struct Numbers {
     keys: Vec<Option<PublishedKey>>,
     /// By the position of its add, the number of a key.
     by_added: HashMap<usize, usize>,
@@ -32,7 +32,7 @@ pub struct Numbers {
 
 impl Numbers {
     /// No key has a number.
-    pub fn new(alloc: Global) -> Self
+    pub(crate) fn new(alloc: Global) -> Self
         ensures table { IsTable result }
         ensures none { (n : ℕ) → key_at result n ≡ None }
     {
@@ -45,7 +45,7 @@ impl Numbers {
     }
 
     /// A copy, with the same numbers.
-    pub fn try_clone(&self, alloc: Global) -> Result<Self, Error>
+    pub(crate) fn try_clone(&self, alloc: Global) -> Result<Self, Error>
         ensures same { IfOk result (λ copy. (n : ℕ) → key_at copy n ≡ key_at self.now n) }
         ensures table { IfOk result (λ copy. IsTable self.now ↔ IsTable copy) }
         ensures err { IfErr result (λ e. e ≡ OutOfMemory) }
@@ -68,7 +68,7 @@ impl Numbers {
 
     /// The numbers of the keys of a list, or `None` if it is the list of before. It reads only what
     /// may have changed, and there most keys stand where they stood before.
-    pub fn read(
+    pub(crate) fn read(
         &mut self,
         alloc: Global,
         list: &[PublishedKey],
@@ -171,7 +171,7 @@ impl Numbers {
     }
 
     /// The number of a key. It gets one if it has none.
-    pub fn number_of(&mut self, key: &PublishedKey) -> Result<usize, Error>
+    pub(crate) fn number_of(&mut self, key: &PublishedKey) -> Result<usize, Error>
         ensures ok { IfOk result (λ n. key_at self.new n ≡ Some (id_of key.now)) }
         ensures table { OnOk result (IsTable self.old → IsTable self.new) }
         ensures grows { OnOk result (IsTable self.old → Grows self.old self.new) }
@@ -244,19 +244,19 @@ impl Numbers {
     }
 
     /// Whether it is time to give back the numbers of keys that have left.
-    pub fn are_enough(&self) -> bool {
+    pub(crate) fn are_enough(&self) -> bool {
         self.enough <= self.keys.len()
     }
 
     /// One more than the greatest number.
-    pub fn end(&self) -> usize
+    pub(crate) fn end(&self) -> usize
         ensures { (n : ℕ) → result ≤ n → key_at self.now n ≡ None }
     {
         self.keys.len()
     }
 
     /// Gives a number back. `renew` is then due.
-    pub fn give_back(&mut self, number: usize)
+    pub(crate) fn give_back(&mut self, number: usize)
         ensures others { (n : ℕ) → (n ≡ number → ⊥) → key_at self.new n ≡ key_at self.old n }
         ensures none { key_at self.new number ≡ None }
         ensures table { IsTable self.old → IsTable self.new }
@@ -267,7 +267,7 @@ impl Numbers {
     }
 
     /// Notes which numbers no key has, after some were given back.
-    pub fn renew(&mut self, alloc: Global) -> Result<(), Error>
+    pub(crate) fn renew(&mut self, alloc: Global) -> Result<(), Error>
         ensures same { OnOk result ((n : ℕ) → key_at self.new n ≡ key_at self.old n) }
         ensures table { OnOk result (IsTable self.old → IsTable self.new) }
         ensures err { IfErr result (λ e. e ≡ OutOfMemory) }
