@@ -254,13 +254,15 @@ def two_rolls_waits(count):
     return lines(keys, begun, waits)
 
 
-def waits_after_stamps(count):
-    """A wait of many keys, made too early, after each a stamp that is set by hand."""
+def waits_after_stamps(count, turn=1):
+    """A wait of many keys, made too early, after each a stamp of one of some keys that is set by
+    hand."""
     zsks = [f"A{i}" for i in range(count // 6)]
     keys = [f"add-zsk {name} - 13 {i + 10} 150 yes" for i, name in enumerate(zsks)]
     begun = [f"start zsk-roll Z0 {','.join(zsks)} 200", "report1 zsk-roll 3600 210"]
     turns = (line for i in range(5 * count // 12)
-             for line in (f"set-visible A0 {210 + i % 2}", "wait1 zsk-roll 300"))
+             for line in (f"set-visible A{i % turn} {210 + i // turn % 2}",
+                          "wait1 zsk-roll 300"))
     return lines(keys, begun, turns)
 
 
@@ -373,6 +375,8 @@ ROWS = [
     Row("waits of two rolls in turn", 24096, two_rolls_waits, "lines", refused=20080),
     Row("a stamp by hand, then a refused wait", 24096, waits_after_stamps, "lines",
         refused=10040),
+    Row("stamps of two keys in turn, then a refused wait", 24096,
+        lambda count: waits_after_stamps(count, 2), "lines · keys", refused=10040),
     Row("broken at once, then keys published", 4096, broken_first, "lines²; lines",
         chain="broken"),
     Row("no two sets the same, broken at last", 8192, broken_last, "lines²", chain="broken"),
