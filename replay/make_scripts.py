@@ -51,7 +51,7 @@ class Script:
         types = list(ROLLS)
         self.wanted = [types[number % 6]]
         self.first_roll(self.wanted[0])
-        neighbours = ROLLS[self.wanted[0]]["tolerates"].split() or types
+        neighbours = [*filter(ROLLS[self.wanted[0]].tolerates, types)] or types
         self.wanted += self.random.choice([[], [self.random.choice(types)], neighbours[-1:]])
         self.run()
 
@@ -137,11 +137,11 @@ class Script:
         return not rolls or self.chance(0.5) and self.tolerates(roll)
 
     def tolerates(self, roll):
-        return all(other in ROLLS[roll]["tolerates"].split() for other in self.keyset.phases)
+        return all(map(ROLLS[roll].tolerates, self.keyset.phases))
 
     def start(self, roll):
         """Starts a roll from keys in use to new ones of the same algorithms."""
-        kinds = ROLLS[roll]["kinds"].split()
+        kinds = [*ROLLS[roll].kinds]
         old = self.some(self.named(kinds, "!old present | !old signer"))
         if self.chance(0.1):
             old += self.named(kinds, "stale")[:1]
@@ -231,7 +231,7 @@ class Script:
         )
         rolls = self.keyset.phases if cause == "again" else filter(self.tolerates, ROLLS)
         roll = self.random.choice(sorted(rolls) or list(ROLLS))
-        kinds = ROLLS[roll]["kinds"].split()
+        kinds = [*ROLLS[roll].kinds]
         old = self.named(kinds, "!old present")
         new = self.named(kinds, "!old !present !signer !at_parent")[:1]
         if not new:

@@ -11,20 +11,14 @@ import time
 from pathlib import Path
 from unittest import mock
 
+from keyset.rolls import ROLLS
 from tests.command import page_commands, pieces, roll_pictures, testkeys
 from tests.command.roll_pictures import answers, examples
 from tests.command.terminal import TOP, folder, private_halves, typed
 from tests.command.time_taken import lengths
 
-# The calls of a roll, by the kinds of sets that its start and its two waits ask to watch.
-ROLLS = {
-    "ksk-roll": ("K1", "K2", "dnskey", "ds", "dnskey"),
-    "ksk-double-ds-roll": ("K1", "K2", "ds", "dnskey", "ds"),
-    "zsk-roll": ("Z1", "Z2", "dnskey", "zone", "dnskey"),
-    "zsk-double-signature-roll": ("Z1", "Z2", "dnskey zone", "dnskey zone", ""),
-    "csk-roll": ("K1,Z1", "C1", "dnskey", "ds zone", "dnskey"),
-    "algorithm-roll": ("K1,Z1", "C1", "dnskey zone", "ds", "dnskey zone"),
-}
+# The old keys of a roll and its new one, by the roles that it rolls.
+LISTS = {("ksk",): ("K1", "K2"), ("zsk",): ("Z1", "Z2"), ("ksk", "zsk"): ("K1,Z1", "C1")}
 KEYS = {"K2": "add-ksk K2 - 13", "Z2": "add-zsk Z2 - 13", "C1": "add-csk C1 - 13"}
 TTLS = {"ds": 300, "dnskey": 60, "zone": 120}
 DELAYS = {"ds": 50, "dnskey": 5, "zone": 7}
@@ -83,7 +77,7 @@ FALSE = {"false-moment.script"}
 
 def course(roll):
     """The moments and TTLs of a roll with these TTLs and delays, by docs/RUNBOOKS.md."""
-    *_, first, second, last = (kinds.split() for kinds in ROLLS[roll])
+    first, second, last = ROLLS[roll].watched
 
     def spread(kinds):
         # After a DS set CDS leaves the zone too.
@@ -109,7 +103,8 @@ def plans():
     """The plan of each roll has the moments, TTLs, sets and verdicts that the guides and the tables
     say; and its lines are accepted one by one by `call`."""
     first = (TOP / "examples" / "ksk-roll.script").read_text().splitlines()[:9]
-    for roll, (old, new, *_) in ROLLS.items():
+    for roll, row in ROLLS.items():
+        old, new = LISTS[row.roles]
         report1, ttl1, wait1, report2, ttl2, wait2, end = course(roll)
         add = f"{KEYS[new]} 9 {BEGIN} yes"
         wanted = [

@@ -17,6 +17,7 @@ from pathlib import Path
 
 from jsonschema.validators import validator_for
 
+from keyset.rolls import ALGORITHM_ROLL, KSK_ROLL, ROLLS, ZSK_ROLL
 from tests.gate.tools import EVERY, TOP, Wrong
 
 SCHEMA = json.loads((TOP / "docs" / "status.schema.json").read_text())
@@ -26,18 +27,10 @@ ROOM = 1 << 16
 # The latest moment that a script can say, and a moment after all that a script can say.
 LATE, PAST = (1 << 64) - 1, "past-time"
 # A roll of each side, and why none of them takes in a key.
-STARTS = ("ksk-roll", "zsk-roll", "algorithm-roll")
+STARTS = (KSK_ROLL, ZSK_ROLL, ALGORITHM_ROLL)
 NOT_TAKEN = ("refused: key has the wrong type\n", "refused: key is in the wrong state\n")
 
-SIDES = {
-    "ksk-roll": "k",
-    "ksk-double-ds-roll": "k",
-    "zsk-roll": "z",
-    "zsk-double-signature-roll": "z",
-    "csk-roll": "kz",
-    "algorithm-roll": "kz",
-}
-ORDER = list(SIDES)
+ORDER = list(ROLLS)
 
 MEMBERS = {
     "": ["zone", "chain", "published", "keys", "rolls", "ended"],
@@ -150,7 +143,7 @@ class Lines:
             roll, old, new = fields[:3]
             parts = [[key for key in keys.split(",") if key != "-"] for keys in (old, new)]
             self.listed[roll] = parts
-            self.ended = [one for one in self.ended if not set(SIDES[one]) & set(SIDES[roll])]
+            self.ended = [*filter(ROLLS[roll].tolerates, self.ended)]
         elif word in ("done", "abort"):
             del self.listed[fields[0]]
             if word == "abort":

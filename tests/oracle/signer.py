@@ -2,8 +2,9 @@
 
 from collections import Counter
 
+from keyset.rolls import WATCHED
 from tables import SETS, KeySet
-from tests.oracle.book import ASKS, COURSES, WATCHED, Wrong
+from tests.oracle.book import ASKS, COURSES, Wrong
 from tests.oracle.points import (
     A_SECOND, AT_ONCE, BEFORE_START, CDS_BY_ALL, CDS_BY_SIGNERS, CDS_BY_ZONE, CDS_LEFT, CDS_ON_ONE,
     CDS_STAYS, CDS_UNCHANGED, CDS_UNCOUNTED, DS_OWN, EARLY, EARLY_ENDS, KEYS_UNSEEN, LOWERED,

@@ -19,13 +19,13 @@ from concurrent.futures import ThreadPoolExecutor
 from dataclasses import dataclass
 
 from keyset import programs
+from keyset.rolls import rolls_of
 from tables import KeySet
 from tests import TOP
 from tests.oracle import bad_days, what_next
 from tests.oracle.spread import KINDS
 
 QUESTIONS, LAST, TTLS = 4000, 2**64 - 1, (0, 1, 60, 300, 3600, 2**31, 2**32 - 1)
-ROLLS = (("ksk-roll", "ksk-double-ds-roll"), ("zsk-roll", "zsk-double-signature-roll"))
 MOMENT = re.compile(r"(?:start|report\d|wait\d) .* (\d+)")
 
 
@@ -67,7 +67,7 @@ def accepted(lines: Sequence[str]) -> Iterator[str]:
 
 
 def policy(dice: random.Random, most: int) -> list[str]:
-    rolls = ["csk-roll"] if dice.random() < 0.3 else [dice.choice(of) for of in ROLLS]
+    rolls = [*rolls_of("csk")] if dice.random() < 0.3 else [dice.choice(of) for of in map(rolls_of, ("ksk", "zsk"))]
     lines = []
     for role in {roll[:3] for roll in rolls}:
         if dice.random() < 0.6:

@@ -14,7 +14,7 @@ import sys
 import time
 from itertools import permutations
 
-from tables import ROLLS
+from keyset.rolls import ROLLS
 from tests.gate.tools import NOTES
 from tests.oracle import runbooks
 from tests.oracle.book import left_out, runbooks as book
