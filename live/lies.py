@@ -4,8 +4,8 @@ import asyncio
 import time
 
 from lost import zsk_beside
-from one_signer import DOUBLE_SIGNATURE, KEYS, KSK, ZSK, first_keys, with_least_ttl
-from rolls import ALGORITHM, DOUBLE_DS, Roll, spoken_of
+from one_signer import KEYS, first_keys, with_least_ttl
+from rolls import ALGORITHM, DOUBLE_DS, DOUBLE_SIGNATURE, KSK, ZSK, Roll, spoken_of
 from script import rounded_down
 from two_signers import (
     both_perform, end_in_step, in_step_keys, providers, shared, start_in_step,
