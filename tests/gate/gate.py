@@ -214,6 +214,7 @@ def prove_and_test(free, folder):
         After("command.transcripts", after=["keyset"]),
         After("command.test_rolling", after=["keyset"]),
         After("scripts.nexts", after=["keyset"]),
+        After("scripts.rolls", after=["keyset"]),
         After("scripts.automatic", after=["keyset"]),
         archive,
         library,

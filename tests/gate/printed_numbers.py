@@ -23,8 +23,8 @@ FIGURES = TOP / "docs" / "tests.txt"
 # The tests that print what they have done.
 PARTS = {
     *("automatic", "command", "dnssec_tests", "examples", "install", "library", "long"),
-    *("memory", "mistakes", "networks", "nexts", "notes", "rolling", "runbooks", "sessions"),
-    "sets",
+    *("memory", "mistakes", "networks", "nexts", "notes", "rolling", "rolls", "runbooks"),
+    *("sessions", "sets"),
 }
 
 ROW = re.compile(r"(?P<where>\S[^:]*): (?P<much>.+)")

@@ -1,0 +1,64 @@
+"""Compares the table of the rolls (`keyset/rolls.py`) with the program. In the courses of `sets.py`
+the keys have the same flags and stamps after each call of a roll, and after an early end. The
+program answers the stored scripts as the table says, also what it refuses."""
+
+import json
+import sys
+from collections.abc import Iterator
+
+from tables import KeySet, answers
+from tests.gate.tools import EVERY, PROGRAM, STATUS, Wrong, run
+from tests.scripts import sets
+
+FLAGS, STAMPS = sets.FLAG_NAMES, sets.STAMP_NAMES
+Keys = dict[str, tuple[list[set[str]], list[int]]]
+
+
+def asked(script: list[str], *program: object) -> str:
+    return run(*program, input="\n".join([*script, ""]).encode())
+
+
+def by_program(script: list[str]) -> Keys:
+    """The flags and the stamps of each key after a script."""
+    return {
+        key["reference"]: ([{flag for flag in FLAGS if role[flag]} for role in key["roles"]],
+                           [key[stamp] for stamp in STAMPS])
+        for key in json.loads(asked(script, *STATUS))["keys"]
+    }
+
+
+def by_table(script: list[str]) -> Keys:
+    keyset = KeySet()
+    for line in script[1:]:
+        keyset.call(line)
+    return {name: (key.states, [key.stamps.get(stamp) for stamp in STAMPS])
+            for name, key in keyset.keys.items() if key.kind != "include"}
+
+
+def steps() -> Iterator[list[str]]:
+    """Each course up to each call of its roll, and to an early end."""
+    for _, before, calls, roll in sets.courses():
+        before = [line for line in before if " I " not in line]
+        yield [*before, calls[0], f"abort {roll}"]
+        yield from ([*before, *calls[:count]] for count in range(1, len(calls) + 1))
+
+
+def main() -> int:
+    scripts, stored = [*steps()], [*sets.stored_scripts()][::EVERY]
+    try:
+        for script in scripts:
+            if by_program(script) != by_table(script):
+                raise Wrong(f"after {script[-1]} keys differ from those of the table")
+        for name, script, _ in stored:
+            if asked(script, PROGRAM).splitlines() != answers(script):
+                raise Wrong(f"{name}: the program doesn't answer by the table")
+    except Wrong as wrong:
+        print(f"rolls: {wrong}")
+        return 1
+    print(f"rolls: after {len(scripts)} calls of {len([*sets.courses()])} courses the keys, and of "
+          f"{len(stored)} stored scripts the answers are those of the table")
+    return 0
+
+
+if __name__ == "__main__":
+    sys.exit(main())
