@@ -179,15 +179,7 @@ def expect_roll(library, handle, roll, counts):
         expect(is_ok(library.would(handle, line)) == accepted, f"{line}: next is {roll['next']}")
         counts["next"] += accepted
     if end is not None:
-        wait = f"{roll['next']} {name}"
-        if end == PAST:
-            end = LATE + 1
-        else:
-            expect(is_ok(library.would(handle, f"{wait} {end}")), f"{wait} {end}")
-        # (If nothing is waited for, there may be no second before.)
-        if end > 0:
-            early = library.would(handle, f"{wait} {end - 1}")
-            expect(early.startswith("refused: wait for duration"), f"{wait} {end - 1}: {early}")
+        expect_wait(library, handle, f"{roll['next']} {name}", end)
         counts["waits"] += 1
     elif roll["next"].startswith("wait"):
         # A key lacks its stamp, so no moment is late enough.
@@ -198,6 +190,18 @@ def expect_roll(library, handle, roll, counts):
     else:
         waits = roll["next"].startswith("wait")
         expect(roll["waits_for"] == ("caches" if waits else "you"), "whom it waits for")
+
+
+def expect_wait(library, handle, wait, end):
+    """A wait is accepted at its end, and no second before."""
+    if end == PAST:
+        end = LATE + 1
+    else:
+        expect(is_ok(library.would(handle, f"{wait} {end}")), f"{wait} {end}")
+    # (If nothing is waited for, there may be no second before.)
+    if end > 0:
+        early = library.would(handle, f"{wait} {end - 1}")
+        expect(early.startswith("refused: wait for duration"), f"{wait} {end - 1}: {early}")
 
 
 def state_of(role):

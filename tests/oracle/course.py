@@ -21,15 +21,7 @@ class Follower(Operator):
 
     def roll(self, roll, old, new, name=None):
         """A roll, or the first keys, from the start to the deletion of the old keys."""
-        often = 0.6 if {SAME_KEY, EARLY_ENDS} & self.leaves else 0.15
-        if not self.in_step and self.dice.random() < often:
-            # (It may have been the other roll of such KSKs.)
-            like = KSK_ROLLS if roll in KSK_ROLLS else [roll]
-            early = self.dice.choice(like)
-            yield from self.ended_early(early, old, new)
-            must = KSK_DOUBLE_DS_ROLL == early == roll and SAME_KEY not in self.leaves
-            if must or SAME_KEY not in self.leaves and self.dice.random() < 0.5:
-                new = [self.another(key) for key in new]
+        new = yield from self.begun_in_vain(roll, old, new)
         steps = self.book[name or roll]
         yield from self.comes_to(steps[0])
         began, actions = self.rounded_down(), self.start(roll, old, new)
@@ -50,11 +42,28 @@ class Follower(Operator):
                 since = yield from self.slip(half, roll, ttl, steps[half])
                 if since is None:
                     actions = yield from self.wait(f"wait{half}", roll, ttl)
+        self.end(roll, old)
+        self.done[name or roll] += 1
+
+    def end(self, roll, old, *others):
+        """The end of a roll, and the deletion of its old keys and of others."""
         self.leaving -= set(old)
         self.call(f"done {roll}")
-        for key in old:
+        for key in (*old, *others):
             self.call(f"delete {key}")
-        self.done[name or roll] += 1
+
+    def begun_in_vain(self, roll, old, new):
+        """Now and then a start is ended early. Gives the new keys of the next one."""
+        often = 0.6 if {SAME_KEY, EARLY_ENDS} & self.leaves else 0.15
+        if self.in_step or self.dice.random() >= often:
+            return new
+        # (It may have been the other roll of such KSKs.)
+        early = self.dice.choice(KSK_ROLLS if roll in KSK_ROLLS else [roll])
+        yield from self.ended_early(early, old, new)
+        must = KSK_DOUBLE_DS_ROLL == early == roll and SAME_KEY not in self.leaves
+        if must or SAME_KEY not in self.leaves and self.dice.random() < 0.5:
+            return [self.another(key) for key in new]
+        return new
 
     def slip(self, half, roll, ttl, step):
         """Now and then a wait is accepted too early because of a false line, and acted upon. Then
@@ -154,10 +163,7 @@ class Follower(Operator):
         since = yield from self.do(UNSIGNED[1], actions)
         yield from self.watch(UNSIGNED[1], since)
         self.is_steady = False
-        self.leaving -= set(old)
-        self.call(f"done {roll}")
-        for name in [*old, key]:
-            self.call(f"delete {name}")
+        self.end(roll, old, key)
         self.done[GONE] += 1
 
     # The course of a zone

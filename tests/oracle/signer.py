@@ -154,14 +154,9 @@ class Operator:
             sets = [kept for kept in sets if kind == "zone" and not kept.value]
         if NOT_KEPT in self.leaves:
             return max((kept.ttl for kept in sets), default=0)
-        return max(
-            (
-                keeps(kept.ttl)
-                for kept in sets
-                if kept not in self.gone or now < self.gone[kept] + keeps(kept.ttl)
-            ),
-            default=0,
-        )
+        held = (kept for kept in sets
+                if kept not in self.gone or now < self.gone[kept] + keeps(kept.ttl))
+        return max((keeps(kept.ttl) for kept in held), default=0)
 
     # Calls
 

@@ -58,7 +58,8 @@ def run(word: str, lines: Sequence[str]) -> str:
 
 def policy_at_random(dice: random.Random, now: int) -> Policy:
     """What is wanted of a zone's keys from now on."""
-    rolls = dice.choice([rolls_of("csk"), tuple(dice.choice(rolls_of(it)) for it in ("ksk", "zsk"))])
+    of_two = tuple(dice.choice(rolls_of(kind)) for kind in ("ksk", "zsk"))
+    rolls = dice.choice([rolls_of("csk"), of_two])
     policy = Policy.of(dice.choice(ALGORITHMS), rolls)
     policy.delete_after = dice.choice((0, 0, 30, 90))
     for renewal in policy.renewals.values():

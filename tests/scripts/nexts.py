@@ -67,9 +67,10 @@ def accepted(lines: Sequence[str]) -> Iterator[str]:
 
 
 def policy(dice: random.Random, most: int) -> list[str]:
-    rolls = [*rolls_of("csk")] if dice.random() < 0.3 else [dice.choice(of) for of in map(rolls_of, ("ksk", "zsk"))]
+    kinds = ["csk"] if dice.random() < 0.3 else ["ksk", "zsk"]
+    rolls = [dice.choice(rolls_of(kind)) for kind in kinds]
     lines = []
-    for role in {roll[:3] for roll in rolls}:
+    for role in kinds:
         if dice.random() < 0.6:
             lifetime = dice.choice((100, 10**4, 10**5, 10**9, most, 2 * most))
             lines.append(f"{role}-lifetime {min(lifetime, LAST)}")

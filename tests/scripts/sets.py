@@ -33,8 +33,8 @@ report2 algorithm-roll 60 90
 wait2 algorithm-roll 150
 done algorithm-roll"""
 
-# The keys that come in, and the lists of the roll to them, by what a policy renews by the roll: from
-# the first keys, or from the CSK that another course brings in.
+# The keys that come in, and the lists of the roll to them, by what a policy renews by the roll:
+# from the first keys, or from the CSK that another course brings in.
 COURSES = {
     "ksk": (["add-ksk K2 - 13 3 160 yes"], "K1 K2"),
     "zsk": (["add-zsk Z2 - 13 3 160 yes"], "Z1 Z2"),
