@@ -109,7 +109,7 @@ class Script:
     def first_roll(self, after):
         """The algorithm roll without old keys that gives the zone its chain."""
         kinds = [["ksk", "zsk"], ["ksk", "zsk"], ["ksk", "csk", "zsk"]]
-        if after in ("csk-roll", "algorithm-roll"):
+        if len(ROLLS[after].kinds) > 1:
             kinds += [["csk"], ["zsk", "csk"]]
         new = [self.add(kind) for kind in self.random.choice(kinds)]
         self.call("start", "algorithm-roll", "-", ",".join(new), self.tick())
@@ -147,7 +147,7 @@ class Script:
             old += self.named(kinds, "stale")[:1]
         fresh = self.random.choice([["csk"], ["ksk", "zsk"]]) if len(kinds) > 1 else kinds
         algorithms = {self.keyset.keys[name].algorithm for name in old}
-        if roll == "algorithm-roll":
+        if not ROLLS[roll].same_algorithms:
             algorithms = {self.random.choice([8, 13, 15])}
         if self.chance(0.2):
             fresh = fresh + fresh[:1]

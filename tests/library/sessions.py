@@ -18,10 +18,9 @@ from pathlib import Path
 from jsonschema.validators import validator_for
 
 from keyset.rolls import ALGORITHM_ROLL, KSK_ROLL, ROLLS, ZSK_ROLL
-from tests.gate.tools import EVERY, TOP, Wrong
+from tests.gate.tools import TOP, Wrong, stored_scripts
 
 SCHEMA = json.loads((TOP / "docs" / "status.schema.json").read_text())
-STORED = TOP / "replay" / "scripts.txt"
 
 ROOM = 1 << 16
 # The latest moment that a script can say, and a moment after all that a script can say.
@@ -246,13 +245,6 @@ def expect_status(library, handle, lines, counts):
     return status
 
 
-def stored_scripts():
-    for part in STORED.read_text().split("\n== ")[1::EVERY]:
-        name, _, rest = part.partition("\n")
-        script, _, answers = rest.partition("-- answers\n")
-        yield name, script.splitlines(), answers.splitlines(keepends=True)
-
-
 def play(library, script, answers, counts):
     handle, lines = library.open(script[0].encode()), Lines()
     due, status = {}, expect_status(library, handle, lines, counts)
@@ -279,7 +271,7 @@ def main():
     counts = dict.fromkeys(("statuses", "deletions", "starts", "waits", "next"), 0)
     for name, script, answers in stored_scripts():
         try:
-            play(library, script, answers, counts)
+            play(library, script.splitlines(), answers.splitlines(keepends=True), counts)
         except Wrong as wrong:
             print(f"{name}: {wrong}")
             return 1

@@ -7,15 +7,15 @@ import sys
 from collections.abc import Iterator
 
 from tables import KeySet, answers
-from tests.gate.tools import EVERY, PROGRAM, STATUS, Wrong, run
+from tests.gate.tools import PROGRAM, STATUS, Wrong, run, stored_scripts
 from tests.scripts import sets
 
 FLAGS, STAMPS = sets.FLAG_NAMES, sets.STAMP_NAMES
 Keys = dict[str, tuple[list[set[str]], list[int]]]
 
 
-def asked(script: list[str], *program: object) -> str:
-    return run(*program, input="\n".join([*script, ""]).encode())
+def asked(script: str, *program: object) -> str:
+    return run(*program, input=script.encode())
 
 
 def by_program(script: list[str]) -> Keys:
@@ -23,7 +23,7 @@ def by_program(script: list[str]) -> Keys:
     return {
         key["reference"]: ([{flag for flag in FLAGS if role[flag]} for role in key["roles"]],
                            [key[stamp] for stamp in STAMPS])
-        for key in json.loads(asked(script, *STATUS))["keys"]
+        for key in json.loads(asked("\n".join([*script, ""]), *STATUS))["keys"]
     }
 
 
@@ -32,25 +32,26 @@ def by_table(script: list[str]) -> Keys:
     for line in script[1:]:
         keyset.call(line)
     return {name: (key.states, [key.stamps.get(stamp) for stamp in STAMPS])
-            for name, key in keyset.keys.items() if key.kind != "include"}
+            for name, key in keyset.keys.items()}
 
 
 def steps() -> Iterator[list[str]]:
     """Each course up to each call of its roll, and to an early end."""
     for _, before, calls, roll in sets.courses():
+        # (A public key has no role.)
         before = [line for line in before if " I " not in line]
         yield [*before, calls[0], f"abort {roll}"]
         yield from ([*before, *calls[:count]] for count in range(1, len(calls) + 1))
 
 
 def main() -> int:
-    scripts, stored = [*steps()], [*sets.stored_scripts()][::EVERY]
+    scripts, stored = [*steps()], [*stored_scripts()]
     try:
         for script in scripts:
             if by_program(script) != by_table(script):
                 raise Wrong(f"after {script[-1]} keys differ from those of the table")
         for name, script, _ in stored:
-            if asked(script, PROGRAM).splitlines() != answers(script):
+            if asked(script, PROGRAM).splitlines() != answers(script.splitlines()):
                 raise Wrong(f"{name}: the program doesn't answer by the table")
     except Wrong as wrong:
         print(f"rolls: {wrong}")

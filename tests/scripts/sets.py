@@ -15,10 +15,9 @@ import time
 
 from keyset.rolls import ALGORITHM_ROLL, CSK_ROLL, ROLLS
 from tables import KeySet
-from tests import TOP
+from tests.gate.tools import TOP, Wrong, stored_scripts
 
 PROGRAM = TOP / "crates" / "callers" / "out" / "callers"
-STORED = TOP / "replay" / "scripts.txt"
 
 FIRST_KEYS = """\
 zone example.com
@@ -86,10 +85,6 @@ SET_NAMES = ["ds", "dnskey", "dnskey_signers", "zone_signers"]
 # How these characters are printed in a text with quotes.
 ESCAPED = str.maketrans({'"': '\\"', "\\": "\\\\"})
 STAMP_NAMES = ["creation", "published", "visible", "ds_visible", "rrsig_visible", "withdrawn"]
-
-
-class Wrong(Exception):
-    pass
 
 
 def roll_lines(roll, lists, start):
@@ -261,20 +256,13 @@ def check(name, script, stored, parts):
         raise Wrong(f"{name}: the record differs from that of the tables: {script}")
 
 
-def stored_scripts():
-    """The stored scripts with their answers, by their names."""
-    for part in STORED.read_text().split("\n== ")[1:]:
-        name, rest = part.split("\n", 1)
-        script, answers = rest.split("\n-- answers\n")
-        yield name, script.split("\n"), answers.rstrip("\n")
-
-
 def main():
     began = time.monotonic()
     scripts = [(course[0], lines, None) for course in courses() for lines in scripts_of(*course)]
     scripts.append(("many keys", [*many_keys()], None))
     made = len(scripts)
-    scripts += stored_scripts()
+    scripts += ((name, script.splitlines(), told.rstrip("\n"))
+                for name, script, told in stored_scripts())
     given = "\n\n".join("\n".join(script) for _, script, _ in scripts)
     ran = subprocess.run([PROGRAM], input=given, capture_output=True, text=True, check=True)
     parts = iter(ran.stdout.split("\n\n"))
