@@ -47,8 +47,8 @@ WATCHED = {
     for record, kind in (("Dnskey", "dnskey"), ("Rrsig", "zone"), ("Ds", "ds"))
 }
 
-# Two texts: a word, and a condition or what is written. And three: a word, a condition, and what is
-# written; or a stamp, and whose it is.
+# A pair is a word and a condition, or a word and what is written. A triple is a word, a condition
+# and what is written, or a stamp, a word and a condition.
 Pair = tuple[str, str]
 Triple = tuple[str, str, str]
 
