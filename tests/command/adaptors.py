@@ -347,8 +347,13 @@ def hooks():
             said = str(failure)
         if says not in said:
             yield f"hook {command}: {said}"
+    yield from hook_asks()
     if "it says" not in _said(lambda: Hook(ZONE, "echo '{\"dnskey\": -1, \"zone\": 5}'").ttls()):
         yield "hook: a TTL below 0 is taken"
+
+
+def hook_asks():
+    """A hook is asked for all that a signer needs to know of a key."""
     with folder():
         keys, name = make(), "pkcs11:id=%01"
         of = keys["K1"].file
@@ -518,8 +523,8 @@ exit 1
 """
 # What PowerDNS says if SQLite is locked in the midst of a change.
 UNSAID = "Internal Server Error"
-# What fails, how often, what it says then, and how often it runs at least and at most: a command, or
-# a request by this method.
+# What fails, how often, what it says then, and how often it runs at least and at most: a command,
+# or a request by this method.
 LOCKS = (
     ("tool", 2, daemon.LOCKED, 3, 3), ("tool", 9, daemon.LOCKED, 2, 4),
     ("tool", 9, "no such key", 1, 1), ("PATCH", 2, UNSAID, 3, 3), ("PATCH", 9, UNSAID, 2, 4),

@@ -123,8 +123,8 @@ def module(number, place, text, items):
     head = "\n".join(f"    {line}" for line in [*uses, *owns])
     body = "\n".join(f"        {line}" for line in text)
     return (
-        f"/// {place}\nmod example{number} {{\n{head}\n\n    pub fn example({given}) -> {result} {{\n"
-        f"{body}\n        Ok(())\n    }}\n}}\n"
+        f"/// {place}\nmod example{number} {{\n{head}\n\n"
+        f"    pub fn example({given}) -> {result} {{\n{body}\n        Ok(())\n    }}\n}}\n"
     )
 
 

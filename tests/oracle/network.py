@@ -114,8 +114,8 @@ class Network:
 
     def position(self, kind, number, value, versions):
         """That of the last call by then that asks for these sets, or another one if the notes name
-        it; if the sets are those of before, the same one. The first version is what was there before
-        the first call."""
+        it; if the sets are those of before, the same one. The first version is what was there
+        before the first call."""
         if not versions:
             return 0
         by_then = self.servers[kind].times[number] + self.ahead
@@ -151,7 +151,7 @@ class Network:
         for at, position in enumerate(self.record):
             if position.report and self.first < at:
                 step = base(self.record, at)
-                kinds = SPEAKS_OF[position.report.roll][position.report.second].split()
+                kinds = SPEAKS_OF[position.report.roll][position.report.second]
                 came = {kind: origin(self.record, kind, step) for kind in kinds}
                 yield PastReport(at, position.moment, position.report.ttl, step, came)
 

@@ -33,11 +33,11 @@ from collections import Counter
 from itertools import permutations
 
 from judge import chain_line
-from tables import ROLLS
+from keyset.rolls import ALGORITHM_ROLL, KSK_DOUBLE_DS_ROLL, ROLLS
 from tests.oracle.book import EARLY_END, FIRST_KEYS, Wrong, left_out, runbooks
 from tests.oracle.course import BESIDE, SLIPS, Follower
 from tests.oracle.pair import JOINED, LEFT, Pair
-from tests.oracle.points import ALGORITHM, BREAKS, DOUBLE_DS, NO_CHAIN, ORDERS, PAIRS, POINTS
+from tests.oracle.points import BREAKS, NO_CHAIN, ORDERS, PAIRS, POINTS
 from tests.oracle.signer import GONE, Stuck
 from tests.oracle.zone import Broken, World
 
@@ -113,7 +113,7 @@ def leave_out(book, points, orders, wrong):
 def main():
     began, wrong = time.monotonic(), []
     orders = random.Random(0).sample([*permutations(ROLLS)], 60)
-    orders += [order for order in ([DOUBLE_DS] * 8, [ALGORITHM] * 8) for _ in range(5)]
+    orders += [[roll] * 8 for roll in (KSK_DOUBLE_DS_ROLL, ALGORITHM_ROLL) for _ in range(5)]
     try:
         book, unsaid = runbooks(), left_out(POINTS + PAIRS)
         for point in unsaid:

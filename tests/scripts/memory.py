@@ -19,10 +19,9 @@ import time
 from dataclasses import dataclass
 from pathlib import Path
 
-from tests.gate.tools import CRATES, NOTES, PROGRAM, STATUS, STRICT, TOP, Wrong, run
+from tests.gate.tools import CRATES, NOTES, PROGRAM, STATUS, STRICT, Wrong, run, stored_scripts
 
 CALLERS = CRATES / "callers" / "out" / "callers"
-STORED = TOP / "replay" / "scripts.txt"
 
 # The scripts that the works begin with.
 SCRIPTS = ("rolls-beside-many-keys", "public-keys-published-one-by-one")
@@ -180,21 +179,16 @@ def run_once(allocator):
         raise Wrong(f"keyset notes: a further question runs the script again: {made} requests")
 
 
-def stored_script(name):
-    """The lines of a stored script."""
-    part = STORED.read_text().split(f"\n== {name}\n")[1]
-    return part.split("-- answers\n")[0]
-
-
 def main():
     began, total = time.monotonic(), 0
+    stored = {name: script for name, script, _ in stored_scripts()}
     try:
         with tempfile.TemporaryDirectory() as folder:
             allocator = build(folder)
             total += in_turn(allocator, NAMES, "")
             for name in SCRIPTS:
                 for letter in [*WORKS][1:]:
-                    total += in_turn(allocator, letter, stored_script(name))
+                    total += in_turn(allocator, letter, stored[name])
             programs = sum(in_turn_of_program(allocator, *asked) for asked in ASKED.items())
             expect_none(allocator)
             run_once(allocator)

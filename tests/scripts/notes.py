@@ -14,7 +14,7 @@ import sys
 import time
 from itertools import permutations
 
-from tables import ROLLS
+from keyset.rolls import ROLLS
 from tests.gate.tools import NOTES
 from tests.oracle import runbooks
 from tests.oracle.book import left_out, runbooks as book
@@ -265,18 +265,22 @@ def main():
     if wrong:
         print(*wrong[:20], sep="\n")
         return 1
-    waits = sum(question.due is None for question in questions)
-    sharp = sum(question.most is not None for question in questions)
     print(
-        f"notes: {len(orders)} zones, {len(questions)} answers, of which {waits} say not yet, are"
-        f" those of the rule, and {sharp} of them no more than rule 1; {back} times a parent went"
+        f"notes: {len(orders)} zones, {of_questions(questions)}; {back} times a parent went"
         f" back, over no step; with one second less 3 of {zones} zones break; {len(ANSWERS)} notes"
         f" and {len(INPUTS)} inputs with and without faults; {CALLS} calls beside a reference of"
         f" {len(LONG):,} bytes in {ROOM >> 20} MB; {tried} notes lack a digit, {early} publish"
-        " before a call; no report before its step;"
-        f" {time.monotonic() - began:.0f} s"
+        f" before a call; no report before its step; {time.monotonic() - began:.0f} s"
     )
     return 0
+
+
+def of_questions(questions):
+    """What the answers to questions were compared with."""
+    waits = sum(question.due is None for question in questions)
+    sharp = sum(question.most is not None for question in questions)
+    return (f"{len(questions)} answers, of which {waits} say not yet, are those of the rule, and"
+            f" {sharp} of them no more than rule 1")
 
 
 if __name__ == "__main__":
