@@ -1,7 +1,7 @@
 -- Which keys stand around a change: for `read_sets`, for the place of one key, and for a judge.
-use Rattle.std.proofs.Common.{◌≡◌, ◌≤◌, ◌<◌, ◌-◌, ◌∙◌, ℕ, zero, suc, List, [], ◌∷◌, ◌++◌, map, length}
-use Rattle.std.proofs.Common.{take, drop, Bool, true, false, refl, sym, ap, subst, arith, insert, remove}
-use Rattle.std.proofs.Common.{append-nil}
+use Rattle.std.proofs.Common.{◌≡◌, ◌≤◌, ◌<◌, ◌-◌, ◌∙◌, ℕ, zero, suc, List, [], ◌∷◌, ◌++◌, map}
+use Rattle.std.proofs.Common.{length, take, drop, Bool, true, false, refl, sym, ap, subst, arith}
+use Rattle.std.proofs.Common.{insert, remove, append-nil}
 use Rattle.std.proofs.lemmas.List.{length-drop, length-map, length-take-le, map-append}
 use Rattle.std.proofs.lemmas.List.{take-append-drop}
 use Rattle.std.specs.Prelude.{Option}
@@ -52,18 +52,21 @@ ids keys = map id_of keys
 front-of : (keys : List PublishedKey) (i : ℕ) → i ≤ length keys → length (ids (take i keys)) ≡ i
 front-of keys i le = length-map (take i keys) id_of ∙ length-take-le i keys le
 
-back-of : (keys : List PublishedKey) (i n : ℕ) → n ≡ length keys - i → length (ids (drop i keys)) ≡ n
+back-of : (keys : List PublishedKey) (i n : ℕ) → n ≡ length keys - i
+    → length (ids (drop i keys)) ≡ n
 back-of keys i n is = length-map (drop i keys) id_of ∙ length-drop i keys ∙ sym is
 
 in-two : (keys : List PublishedKey) (i : ℕ) → ids keys ≡ ids (take i keys) ++ ids (drop i keys)
-in-two keys i = ap ids (sym (take-append-drop i keys)) ∙ map-append id_of (take i keys) (drop i keys)
+in-two keys i = ap ids (sym (take-append-drop i keys)) ∙ map-append id_of (take i keys)
+    (drop i keys)
 
 in-three : (keys : List PublishedKey) (i : ℕ)
     → ids keys ≡ ids (take i keys) ++ (ids (take 1 (drop i keys)) ++ ids (drop (suc i) keys))
 in-three keys i =
     let rest : drop 1 (drop i keys) ≡ drop (suc i) keys = after keys i in
     in-two keys i ∙ ap (λ (l : List Id). ids (take i keys) ++ l)
-    (in-two (drop i keys) 1 ∙ ap (λ (l : List PublishedKey). ids (take 1 (drop i keys)) ++ ids l) rest)
+    (in-two (drop i keys) 1 ∙ ap (λ (l : List PublishedKey). ids (take 1 (drop i keys)) ++ ids l)
+        rest)
   where
     after : (keys : List PublishedKey) (i : ℕ) → drop 1 (drop i keys) ≡ drop (suc i) keys
     after [] zero = refl
@@ -86,7 +89,8 @@ keeps-there keys i n within is = record {
 }
 
 -- or goes
-pub keeps-without : (old new : List PublishedKey) (i n : ℕ) → i < length old → n ≡ length old - suc i
+pub keeps-without : (old new : List PublishedKey) (i n : ℕ) → i < length old
+    → n ≡ length old - suc i
     → new ≡ remove old i → KeepsFrame (record { front = i; back = n }) (ids old) (ids new)
 keeps-without old new i n within is gone = record {
   front = ids (take i old);
