@@ -27,7 +27,8 @@ use Rattle.dnssec_policy.specs.declared.policy.Policy.{Policy}
 use Rattle.dnssec_policy.specs.declared.policy.Scheme.{Scheme}
 use Rattle.dnssec_policy.specs.declared.policy.Scheme.TheVariants.{Split, SingleType}
 use Rattle.dnssec_policy.specs.Keys.{first_of, goes, has_role, is_in_use, is_new, is_unwanted}
-use Rattle.dnssec_policy.specs.Keys.{new_keys, references_where, role_of, roles_of, serves, with_key}
+use Rattle.dnssec_policy.specs.Keys.{new_keys, references_where, role_of, roles_of, serves}
+use Rattle.dnssec_policy.specs.Keys.{with_key}
 use Rattle.dnssec_policy.specs.View.{View}
 use Rattle.dnssec_policy.proofs.May.{IsChange, IsRenewal, IsStart, is_renewal}
 
@@ -379,7 +380,8 @@ free policy v roll old news s = subst (λ old. keyset.start_refusal roll v.set o
     renewed r =
         let n = one-new policy v.set (role_of roll) news r.news_are in
         let g = works-goes roll r.key r.renews r.works in
-        subst (λ news. keyset.start_refusal roll v.set (references_where (goes roll) v.set.keys) news
+        subst (λ news. keyset.start_refusal roll v.set (references_where (goes roll) v.set.keys)
+        news
         ≡ None) n.1
         (one-free policy v.set roll begins (role_of roll) n.0 n.2 (role-kind roll n.2.key n.2.has)
         (role-serves roll n.2.key n.2.has)

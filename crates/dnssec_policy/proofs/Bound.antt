@@ -1,6 +1,6 @@
 -- How long a report counts, and that it is said once all servers have its sets.
-use Rattle.std.proofs.Common.{◌≡◌, ℕ, ◌+◌, ◌≤◌, Bool, true, false, List, [], ◌∷◌, Option}
-use Rattle.std.proofs.Common.{None, Some, Result, Ok, Err, max, refl, sym, ap, subst, ◌∙◌, arith, fold}
+use Rattle.std.proofs.Common.{◌≡◌, ℕ, ◌+◌, ◌≤◌, Bool, true, false, List, [], ◌∷◌, Option, None}
+use Rattle.std.proofs.Common.{Some, Result, Ok, Err, max, refl, sym, ap, subst, ◌∙◌, arith, fold}
 use Rattle.std.proofs.Common.{if◌then◌else◌}
 use Rattle.std.proofs.lemmas.Bool.{and_parts, le-leb}
 use Rattle.std.specs.Prelude.{◌&&◌, ◌-◌, nat_le, nat_lt, unwrap_or}
@@ -30,8 +30,8 @@ use Rattle.dnssec_policy.specs.Laws.{EndsAreInTime, NoneLiesAheadOf, ReportsAreI
 use Rattle.dnssec_policy.specs.Laws.{ReportsCountNoLonger}
 use Rattle.dnssec_policy.specs.Next.{next_of, phase_next}
 use Rattle.dnssec_policy.specs.Todo.{Make, Todo, rank}
-use Rattle.dnssec_policy.specs.Ttls.{at_most_due, higher_with, highest_of, if_retired, keeps, lasting}
-use Rattle.dnssec_policy.specs.Ttls.{report_takes}
+use Rattle.dnssec_policy.specs.Ttls.{at_most_due, higher_with, highest_of, if_retired, keeps}
+use Rattle.dnssec_policy.specs.Ttls.{lasting, report_takes}
 use Rattle.dnssec_policy.specs.View.{View, reach_in}
 use Rattle.dnssec_policy.proofs.{InTime.by-rank, Said.may, Spreads.Spread}
 use Rattle.dnssec_policy.proofs.Order.{rank-le, roll-said}
@@ -62,7 +62,8 @@ module _ (now : ℕ) where
   one-more base h a (Published position ttl moment) w le =
       let was = w.ttl in let older = w.older in let expired = w.expired in record {
         ttl = omega arith;
-        older = older-within (max h ttl) a.ttl a.older (nat_lt a.position base) (omega (arith, older))
+        older = older-within (max h ttl) a.ttl a.older (nat_lt a.position base)
+            (omega (arith, older))
             (omega (arith, was));
         expired = omega (arith, expired);
       }
@@ -267,7 +268,8 @@ in-time policy v roll half step ahead highest phase known there small =
     let said : report_next v roll half (v.step roll) ≡ Make (keyset.Report roll half long v.now) =
     ap (report_next v roll half) known
     ∙ ap (report_or v roll half step.origins) some.1
-    ∙ ap (λ (t : Bool). if t then Make (keyset.Report roll half long v.now) else later v.now) fits in
+    ∙ ap (λ (t : Bool). if t then Make (keyset.Report roll half long v.now) else later v.now) fits
+    in
     let next = on half phase ∙ said in
     by-rank (next_of policy v) (phase_next v roll (phase_of v.set.rolls roll))
     (rank-le (next_of policy v) (phase_next v roll (phase_of v.set.rolls roll))

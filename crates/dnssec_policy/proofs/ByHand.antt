@@ -15,9 +15,11 @@ use Rattle.dnssec_run.proofs.Grow.{at_end, front, world_front}
 use Rattle.dnssec_policy.specs.declared.policy.Policy.{Policy}
 use Rattle.dnssec_policy.specs.declared.why.Why.{Why}
 use Rattle.dnssec_policy.specs.Automatic.{is_add}
-use Rattle.dnssec_policy.specs.ByHand.{at_if_by_hand, by_hand_at, first_by_hand, is_by_hand, is_others}
+use Rattle.dnssec_policy.specs.ByHand.{at_if_by_hand, by_hand_at, first_by_hand, is_by_hand}
+use Rattle.dnssec_policy.specs.ByHand.{is_others}
 use Rattle.dnssec_policy.specs.Laws.{AutomaticRunsAreUntouched}
-use Rattle.dnssec_policy.specs.Next.{answer_of, lasts, next_of, stuck_of, unless_by_hand, unless_lasting}
+use Rattle.dnssec_policy.specs.Next.{answer_of, lasts, next_of, stuck_of, unless_by_hand}
+use Rattle.dnssec_policy.specs.Next.{unless_lasting}
 use Rattle.dnssec_policy.specs.Todo.{Make, NotBefore, Stuck, Todo}
 use Rattle.dnssec_policy.specs.View.{View}
 use Rattle.dnssec_policy.proofs.{Automatic.only, May.May, Said.may}

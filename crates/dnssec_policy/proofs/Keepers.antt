@@ -26,7 +26,8 @@ use Rattle.dnssec_policy.specs.Kept.{AutomaticRunsServeKeepers, IsAutomaticKeepi
 use Rattle.dnssec_policy.specs.Kept.{KeptAlgorithmsSign, keeping}
 use Rattle.dnssec_policy.specs.Ttls.{keeps, lasting}
 use Rattle.dnssec_policy.specs.View.{View}
-use Rattle.dnssec_policy.proofs.{Automatic.automatic-plain, May.May, Said.may, Whole.automatic-whole}
+use Rattle.dnssec_policy.proofs.{Automatic.automatic-plain, May.May, Said.may}
+use Rattle.dnssec_policy.proofs.{Whole.automatic-whole}
 use Rattle.dnssec_policy.proofs.Kept.{kept_before, kept_fact, still-due, still-true}
 use Rattle.dnssec_policy.proofs.Notes.{all-by-notes, none-ahead}
 
@@ -62,7 +63,8 @@ module _ (s : ℕ) where
       let ttl-is : t ≡ ttl = cc in
       let enough = counts v.highest r (is_second half) m.4 t le m.6 (retires r (is_second half) Ds)
       refl in
-      let found = still-due s v.before v.facts v.now r (is_second half) (origin_in (m.2).origins) m.4
+      let found = still-due s v.before v.facts v.now r (is_second half)
+      (origin_in (m.2).origins) m.4
       (λ speaks. let less = counts v.highest r (is_second half) m.4 t le m.6 true speaks in
       let fits = m.7 in omega (arith, less, fits)) m.5 in
       let most = found.2 in

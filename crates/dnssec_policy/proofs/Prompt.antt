@@ -47,7 +47,8 @@ use Rattle.dnssec_policy.specs.declared.why.Why.TheVariants as why
 use Rattle.dnssec_policy.specs.InProgress.{later, once_there, report_next, report_or, report_with}
 use Rattle.dnssec_policy.specs.InProgress.{roll_next, wait_next}
 use Rattle.dnssec_policy.specs.Keys.{first_over, has_left, is_unwanted, ksk_roll, leaves_from}
-use Rattle.dnssec_policy.specs.Keys.{new_keys, renewal_of, role_of, roles_of, wants_others, zsk_roll}
+use Rattle.dnssec_policy.specs.Keys.{new_keys, renewal_of, role_of, roles_of, wants_others}
+use Rattle.dnssec_policy.specs.Keys.{zsk_roll}
 use Rattle.dnssec_policy.specs.Laws.{IsPrompt, IsSoon, UntilOver}
 use Rattle.dnssec_policy.specs.Next.{at_moment, change, deletion, deletions, may_begin, next_of}
 use Rattle.dnssec_policy.specs.Next.{once_all_ended, once_ended, phase_next, renewal, renewals}

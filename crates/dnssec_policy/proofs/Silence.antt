@@ -22,11 +22,12 @@ use Rattle.dnssec_policy.specs.declared.why.Why.{Why}
 use Rattle.dnssec_policy.specs.declared.why.Why.TheVariants.{Barred, OldKeyInUse}
 use Rattle.dnssec_policy.specs.InProgress.{roll_next}
 use Rattle.dnssec_policy.specs.Keys.{first_over, is_left_over, is_unwanted, ksk_roll, new_keys}
-use Rattle.dnssec_policy.specs.Keys.{renewal_of, role_of, roles_of, rolls_of, wants_others, zsk_roll}
+use Rattle.dnssec_policy.specs.Keys.{renewal_of, role_of, roles_of, rolls_of, wants_others}
+use Rattle.dnssec_policy.specs.Keys.{zsk_roll}
 use Rattle.dnssec_policy.specs.Laws.{IsStuck, IsUnderWay, NothingIsSilent}
 use Rattle.dnssec_policy.specs.Next.{at_moment, change, next_of, renewal, start_with}
-use Rattle.dnssec_policy.specs.Stuck.{barred_if, is_over, is_reached, keys_why, may_begin, phase_why}
-use Rattle.dnssec_policy.specs.Stuck.{renewal_why, renewals_why, rolls_why, starts_why}
+use Rattle.dnssec_policy.specs.Stuck.{barred_if, is_over, is_reached, keys_why, may_begin}
+use Rattle.dnssec_policy.specs.Stuck.{phase_why, renewal_why, renewals_why, rolls_why, starts_why}
 use Rattle.dnssec_policy.specs.Stuck.{why_of}
 use Rattle.dnssec_policy.specs.Todo.{NotBefore, Rest, Todo, rank}
 use Rattle.dnssec_policy.specs.View.{View}

@@ -28,7 +28,8 @@ is_others_key (Some k) = is_others_kind k.keytype
 abbrev pub is_others : KeySetParts → List ℕ → Bool
 is_others set q = is_others_key (get set.keys q)
 
--- The call ends a roll early, or sets a flag or a time of a key. Other signers' keys may come and go.
+-- The call ends a roll early, or sets a flag or a time of a key. Other signers' keys may come and
+-- go.
 abbrev pub is_by_hand : KeySetParts → Call → Bool
 is_by_hand set (AbortRoll roll) = true
 is_by_hand set call = not (sets_only_others (is_others set) call)

@@ -1,4 +1,5 @@
--- Validators that ask for a chain by each algorithm of a DS set, also after they have dropped the set:
+-- Validators that ask for a chain by each algorithm of a DS set, also after they have dropped the
+-- set:
 -- with a DNSKEY set in a cache they keep the algorithms of the DS set by which they checked it.
 use Rattle.std.specs.Prelude.{◌≡◌, ℕ, ◌+◌, ◌*◌, ◌<◌, ◌≤◌, ◌⊎◌, true, List, slice_get, Some}
 use Rattle.std.specs.List.{Contains}
@@ -37,7 +38,8 @@ IsAutomaticKeeping seconds name calls entries network time =
     (is_add call ≡ true) ⊎ ((said : IsSaid name calls entries network time n call)
     × (seconds ≤ keeps said.view.highest))
 
--- then validators find a chain by each algorithm, also of a DS set that they dropped so many seconds
+-- then validators find a chain by each algorithm, also of a DS set that they dropped so many
+-- seconds
 -- ago
 abbrev pub AutomaticRunsServeKeepers : Type 0
 AutomaticRunsServeKeepers =

@@ -26,7 +26,8 @@ pub data Todo : Type 0 where
   -- nothing
   Rest : Todo
 
--- What is asked of CDS and CDNSKEY beside it. They are in the zone while the DS set changes. They leave
+-- What is asked of CDS and CDNSKEY beside it. They are in the zone while the DS set changes. They
+-- leave
 -- once all servers of the parent give it, and that is noted only once no server gives them.
 abbrev pub cds_with : Todo → Option Cds
 cds_with (Publish Ds) = Some In

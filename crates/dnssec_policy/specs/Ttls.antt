@@ -48,7 +48,8 @@ AreHighest before facts h = (kind : SetKind) → ttl_in h kind ≡ highest_of be
 abbrev pub keeps : (SetKind → ℕ) → ℕ
 keeps ttl = ttl Dnskey + 1
 
--- The TTL of a report, by the TTL that is due for what it speaks of. One that speaks of DS sets also
+-- The TTL of a report, by the TTL that is due for what it speaks of. One that speaks of DS sets
+-- also
 -- counts the algorithms that validators keep with DNSKEY sets; and CDS, a set of the zone, which
 -- left before the report.
 abbrev pub lasting : (SetKind → ℕ) → RollType → Bool → ℕ → ℕ

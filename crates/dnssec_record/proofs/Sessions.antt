@@ -50,7 +50,8 @@ pub advances : (name : List ℕ) (calls : List Call) (entries : List Entry) {say
     → StandsAfter name calls entries old → (m : Makes says old.recorder new.recorder outcome)
     → news ≡ (if outcome.may_publish then Some new.recorder.published else None)
     → ((entries : List Entry) (e : Entry) → ComesNext entries e outcome.mark outcome.moment news
-    → KeepsLast entries outcome.frames news → Knows entries old.judge → Knows (entries ++ e ∷ []) new.judge)
+    → KeepsLast entries outcome.frames news → Knows entries old.judge
+    → Knows (entries ++ e ∷ []) new.judge)
     → (turn : Turn) → turn ≡ turn_after (turn_of m.call) outcome.reply
     → map as_listed new.courses.listed.items
     ≡ listed_after (map as_listed old.courses.listed.items) turn

@@ -66,7 +66,7 @@ in-three keys i =
     let rest : drop 1 (drop i keys) ≡ drop (suc i) keys = after keys i in
     in-two keys i ∙ ap (λ (l : List Id). ids (take i keys) ++ l)
     (in-two (drop i keys) 1 ∙ ap (λ (l : List PublishedKey). ids (take 1 (drop i keys)) ++ ids l)
-        rest)
+    rest)
   where
     after : (keys : List PublishedKey) (i : ℕ) → drop 1 (drop i keys) ≡ drop (suc i) keys
     after [] zero = refl

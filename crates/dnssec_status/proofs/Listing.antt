@@ -1,6 +1,6 @@
 -- Listings in the order of their references: those of a key stand together.
-use Rattle.std.proofs.Common.{◌≡◌, ◌≢◌, ℕ, ◌+◌, ◌<◌, ◌++◌, List, Bool, true, false, ap, sym, refl, ◌∙◌}
-use Rattle.std.proofs.Common.{arith, length, take, drop, take-append-drop, subst, length-drop}
+use Rattle.std.proofs.Common.{◌≡◌, ◌≢◌, ℕ, ◌+◌, ◌<◌, ◌++◌, List, Bool, true, false, ap, sym, refl}
+use Rattle.std.proofs.Common.{◌∙◌, arith, length, take, drop, take-append-drop, subst, length-drop}
 use Rattle.std.proofs.Common.{length-take}
 use Rattle.std.proofs.lemmas.List.Folds.{list_any-append, list_any_none}
 use Rattle.std.proofs.lemmas.Bool.{true≢false}
@@ -67,7 +67,8 @@ module _ {X : Type 0} (p : X → Bool) where
       let up_to = take end xs in
       let all : list_any p xs ≡ (list_any p up_to || list_any p (drop end xs)) =
       ap (list_any p) (sym (take-append-drop end xs)) ∙ list_any-append p up_to (drop end xs) in
-      let front : list_any p up_to ≡ (list_any p (take begin up_to) || list_any p (drop begin up_to)) =
+      let front : list_any p up_to ≡ (list_any p (take begin up_to) || list_any p
+      (drop begin up_to)) =
       ap (list_any p) (sym (take-append-drop begin up_to))
       ∙ list_any-append p (take begin up_to) (drop begin up_to) in
       let no_more = none_after xs end after in

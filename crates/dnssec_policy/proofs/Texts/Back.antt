@@ -160,7 +160,8 @@ so_far l o m q = record {
 
 -- a line that stands only if something is said is read as that
 step : (scheme : Scheme) (line : ℕ → List ℕ) (d : Option ℕ → PolicyDraft) (P : ℕ → Type 0)
-    (o : Option ℕ) → IfSome o P → ((n : ℕ) → P n → line_after scheme (d None) (line n) ≡ Ok (d (Some n)))
+    (o : Option ℕ) → IfSome o P → ((n : ℕ) → P n → line_after scheme (d None) (line n) ≡ Ok
+    (d (Some n)))
     → (n : ℕ) (rest : List (List ℕ))
     → (m : ℕ) × (read_from scheme n (d None) (said_lines line o ++ rest)
     ≡ read_from scheme m (d o) rest)
@@ -180,7 +181,8 @@ last scheme l o m q n k small =
 split-back : (k : KskMethod) (z : ZskMethod) (p : Policy) → IsSayableRenewal p.ksk
     → IsSayableRenewal p.zsk → IsNumber p.delete_after
     → read_from (Split k z) 2 no_wish
-    ((renewal_lines Ksk p.ksk ++ renewal_lines Zsk p.zsk) ++ bare word.DeleteAfter p.delete_after ∷ [])
+    ((renewal_lines Ksk p.ksk ++ renewal_lines Zsk p.zsk)
+    ++ bare word.DeleteAfter p.delete_after ∷ [])
     ≡ Ok (record (so_far p.ksk.lifetime p.ksk.once p.zsk.lifetime p.zsk.once) {
       delete_after = Some p.delete_after;
     })

@@ -1,6 +1,6 @@
 -- A text that is made of lines, or a line that is made of fields, is cut where it was joined.
-use Rattle.std.proofs.Common.{◌≡◌, ℕ, ◌==◌, ◌∙◌, ◌++◌, ◌∷◌, List, [], All, Bool, false, true, not, ap, sym}
-use Rattle.std.proofs.Common.{◌&&◌, append_assoc, arith, refl}
+use Rattle.std.proofs.Common.{◌≡◌, ℕ, ◌==◌, ◌∙◌, ◌++◌, ◌∷◌, List, [], All, Bool, false, true, not}
+use Rattle.std.proofs.Common.{ap, sym, ◌&&◌, append_assoc, arith, refl}
 use Rattle.std.proofs.lemmas.Bool.Decides.{nat_tests}
 use Rattle.std.proofs.lemmas.List.Splits.{slice_split_at, slice_split_none}
 use Rattle.std.proofs.lemmas.List.Sums.{AllPass-from_list_all}

@@ -1,6 +1,6 @@
 -- Two facts that say the same are one; and the fact that stands on a line.
-use Rattle.std.proofs.Common.{◌≡◌, ℕ, zero, suc, ◌<◌, ◌∙◌, ◌∷◌, List, [], Bor, Some, ap, arith, get_or}
-use Rattle.std.proofs.Common.{length, map, refl, subst, sym}
+use Rattle.std.proofs.Common.{◌≡◌, ℕ, zero, suc, ◌<◌, ◌∙◌, ◌∷◌, List, [], Bor, Some, ap, arith}
+use Rattle.std.proofs.Common.{get_or, length, map, refl, subst, sym}
 use Rattle.std.proofs.lemmas.List.{length-map}
 use denote.Bor.{now}
 use Rattle.dnssec_script.proofs.Texts.{text_at}

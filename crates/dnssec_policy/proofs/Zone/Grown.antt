@@ -1,8 +1,8 @@
 -- A zone whose calls are automatic goes on by a call that is said, or by an add; and with one fact
 -- more.
 use Rattle.std.proofs.Common.{◌≡◌, ◌⊎◌, ℕ, suc, ◌+◌, ◌<◌, ◌≤◌, ◌∙◌, ◌++◌, ◌∷◌, List, [], ap, arith}
-use Rattle.std.proofs.Common.{filter, get_or, inl, inr, length, length-append, map, refl, subst, sym}
-use Rattle.std.proofs.Common.{Bool, if◌then◌else◌, true}
+use Rattle.std.proofs.Common.{filter, get_or, inl, inr, length, length-append, map, refl, subst}
+use Rattle.std.proofs.Common.{sym, Bool, if◌then◌else◌, true}
 use Rattle.std.proofs.Math.Seq.{get_or-append_seam}
 use Rattle.std.proofs.lemmas.{List.get_or_append_left, List.map-append}
 use Rattle.std.proofs.lemmas.List.Elements.{filter-append}
@@ -68,7 +68,8 @@ module _ (name : List ℕ) (calls : List Call) (entries : List Entry) (asked : L
           ∙ sym (length-append entries (on.entry ∷ []));
       automatic = λ network time are in_time.
           let are' = subst
-          (λ (noted : ZoneNotes). AreTrue noted.notes.before noted.notes.facts network time) same are in
+          (λ (noted : ZoneNotes). AreTrue noted.notes.before noted.notes.facts network time) same
+          are in
           grows name calls entries network time call on.entry so.after.stands.records.run.count
           (so.automatic network time are' (in_time-front asked moment network in_time))
           (said network time are'

@@ -26,4 +26,5 @@ loop-roll-preserved c =
     let roll = get_or items i ksk.KskRoll in
     c.once_ended-so_far.ensures no_end
     ∙ ap (λ (t : Todo). once_ended v roll (v.last roll) t) c.loop-roll.invariant
-    ∙ sym (ended-more v (todo_of a.state.now.moment a.todo) items i ksk.KskRoll c.loop-roll-test.true)
+    ∙ sym (ended-more v (todo_of a.state.now.moment a.todo) items i ksk.KskRoll
+    c.loop-roll-test.true)

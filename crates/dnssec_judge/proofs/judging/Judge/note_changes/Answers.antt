@@ -88,7 +88,8 @@ returns-clause-ok c es e next keep h =
       verdict = none-found es e j.found new.found none h.verdict
           (found-or-safe more (length more) (search (length more)) new.found
           c.is_some-2.result
-          (λ t. c.in_ok-look.ensures.found t (length more) here g.within still g.ds.keeps g.dnskey.keeps
+          (λ t. c.in_ok-look.ensures.found t (length more) here g.within still g.ds.keeps
+          g.dnskey.keeps
           g.zone.keeps g.tested ∙ ap search here)
           (λ t. c.in_ok-look.ensures.none t ∙ still)
           (judged more (length more) (omega arith) w.numbers g.table w.ds w.dnskey w.zone

@@ -17,8 +17,10 @@ returns-clause-same c entries =
     let ds = c.in_ok-try_clone-2.ensures.ok in
     let dnskey = c.in_ok-try_clone-3.ensures.ok in
     let zone = c.in_ok-try_clone-4.ensures.ok in (
-      copy-knows entries j k.numbers k.ds k.dnskey k.zone numbers.table.0 numbers.same ds dnskey zone,
-      copy-knows entries k j.numbers j.ds j.dnskey j.zone numbers.table.1 (λ n. sym (numbers.same n))
+      copy-knows entries j k.numbers k.ds k.dnskey k.zone numbers.table.0 numbers.same ds dnskey
+          zone,
+      copy-knows entries k j.numbers j.ds j.dnskey j.zone numbers.table.1
+          (λ n. sym (numbers.same n))
           (same-back j.ds k.ds ds) (same-back j.dnskey k.dnskey dnskey)
           (same-back j.zone k.zone zone),
     )

@@ -11,9 +11,11 @@ returns g c front middle back is front_len back_len =
     let cut : c.min.result ≡ length front =
     omega (arith, c.min.ensures, whole, length-append front (middle ++ back), front_len) in
     let first : c.split_at.result.0.now ≡ front =
-    c.split_at.ensures.front ∙ (λ i. take (cut i) (is i)) ∙ take-append_seam front (middle ++ back) in
+    c.split_at.ensures.front ∙ (λ i. take (cut i) (is i))
+    ∙ take-append_seam front (middle ++ back) in
     let rest : c.split_at.result.1.now ≡ middle ++ back =
-    c.split_at.ensures.back ∙ (λ i. drop (cut i) (is i)) ∙ drop-append_seam front (middle ++ back) in
+    c.split_at.ensures.back ∙ (λ i. drop (cut i) (is i))
+    ∙ drop-append_seam front (middle ++ back) in
     let left : c.saturating_sub.result ≡ length middle =
     omega (arith, c.saturating_sub.ensures, ap length rest, length-append middle back, back_len) in (
       first,

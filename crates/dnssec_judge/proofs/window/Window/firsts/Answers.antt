@@ -17,7 +17,8 @@ loop-span-preserved-in_default c =
     let left = deque_iter_rest c.next.new.self in
     let rest : deque_iter_rest c.loop-span.span-iterator ≡ c.in-Some.span.now ∷ left =
     c.in-Some.ensures.steps in
-    let kept = λ (n : ℕ) (k : Keeps n c.args.self.now). subst (λ (ss : List Span). AreKept sets ss) rest (so.kept n k) in
+    let kept = λ (n : ℕ) (k : Keeps n c.args.self.now). subst
+    (λ (ss : List Span). AreKept sets ss) rest (so.kept n k) in
     record {
       kept = λ n k. (kept n k).2;
       found = λ n k test. absurd (none-some (kept n k).0.held
@@ -32,7 +33,8 @@ loop-span-preserved-in_default-get c =
     let left = deque_iter_rest c.next.new.self in
     let rest : deque_iter_rest c.loop-span.span-iterator ≡ c.in-Some.span.now ∷ left =
     c.in-Some.ensures.steps in
-    let kept = λ (n : ℕ) (k : Keeps n c.args.self.now). subst (λ (ss : List Span). AreKept sets ss) rest (so.kept n k) in
+    let kept = λ (n : ℕ) (k : Keeps n c.args.self.now). subst
+    (λ (ss : List Span). AreKept sets ss) rest (so.kept n k) in
     let past = rw c.in_default-get.is at c.get.ensures.lookup.3 in
     record {
       kept = λ n k. (kept n k).2;
@@ -57,7 +59,8 @@ loop-span-preserved-then-meet c =
     let s = c.in-Some.span.now in
     let left = deque_iter_rest c.next.new.self in
     let rest : deque_iter_rest c.loop-span.span-iterator ≡ s ∷ left = c.in-Some.ensures.steps in
-    let kept = λ (n : ℕ) (k : Keeps n c.args.self.now). subst (λ (ss : List Span). AreKept sets ss) rest (so.kept n k) in
+    let kept = λ (n : ℕ) (k : Keeps n c.args.self.now). subst
+    (λ (ss : List Span). AreKept sets ss) rest (so.kept n k) in
     let was = c.meet.ensures.was c.if-meet.true in
     record {
       kept = λ n k. (kept n k).2;
@@ -85,7 +88,8 @@ loop-span-preserved c =
     let s = c.in-Some.span.now in
     let left = deque_iter_rest c.next.new.self in
     let rest : deque_iter_rest c.loop-span.span-iterator ≡ s ∷ left = c.in-Some.ensures.steps in
-    let kept = λ (n : ℕ) (k : Keeps n c.args.self.now). subst (λ (ss : List Span). AreKept sets ss) rest (so.kept n k) in
+    let kept = λ (n : ℕ) (k : Keeps n c.args.self.now). subst
+    (λ (ss : List Span). AreKept sets ss) rest (so.kept n k) in
     let place = c.in-Some-place_since.place in
     let f : First = record { at = c.max-at.result; set = c.in-Some-get.set } in
     let items : c.push.new.self.items ≡ fs ++ f ∷ [] = search rules in

@@ -17,7 +17,8 @@ loop-ds-preserved c n m k x lt is = elim (cases_lt k c.loop-ds.ds-index) [
       let it : c.ds-item.result ≡ x = c.ds-item.is
       ∙ get_or_default items i c.ds-item.result x c.loop-ds-test.true
       ∙ ap (λ j. get_or items j x) at ∙ is in
-      subst (λ (x : OpenSet). (all_in c.args.dnskey.now (λ q. keys_hold (set_of x) q)) ≡ true) it (sym (c.keys_hold_with.ensures n m) ∙ c.if-not-keys_hold_with.false)
+      subst (λ (x : OpenSet). (all_in c.args.dnskey.now (λ q. keys_hold (set_of x) q)) ≡ true) it
+      (sym (c.keys_hold_with.ensures n m) ∙ c.if-not-keys_hold_with.false)
 ]
 
 pub returns : goal.returns

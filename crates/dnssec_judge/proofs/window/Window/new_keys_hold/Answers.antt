@@ -18,7 +18,11 @@ loop-keys-preserved c n m z k x lt is = elim (cases_lt k c.loop-keys.keys-index)
       let it : c.keys-item.result ≡ x = c.keys-item.is
       ∙ get_or_default items i c.keys-item.result x c.loop-keys-test.true
       ∙ ap (λ j. get_or items j x) at ∙ is in
-      subst (λ (x : OpenSet). (all_in c.args.ds.now (λ p. keys_hold p (set_of x)) && all_in c.args.zone.now (λ z. zone_holds (set_of x) z)) ≡ true) it (and_from _ _ (sym (c.ds_hold_with.ensures n m) ∙ c.if-not-ds_hold_with.false) (sym (c.signers_hold_with.ensures n z) ∙ c.if-not-signers_hold_with.false))
+      subst (λ (x : OpenSet). (all_in c.args.ds.now (λ p. keys_hold p (set_of x))
+      && all_in c.args.zone.now (λ z. zone_holds (set_of x) z)) ≡ true) it
+      (and_from _ _ (sym (c.ds_hold_with.ensures n m)
+      ∙ c.if-not-ds_hold_with.false) (sym (c.signers_hold_with.ensures n z)
+      ∙ c.if-not-signers_hold_with.false))
 ]
 
 pub returns : goal.returns

@@ -8,4 +8,5 @@ use Rattle.dnssec_judge.proofs.window.Window.new_keys_hold.Given as goal
 
 abbrev pub invariant-loop-keys : goal.invariant-loop-keys
 invariant-loop-keys l = (n : ℕ) → Keeps n l.ds → Keeps n l.zone → (k : ℕ) (x : OpenSet)
-    → k < l.keys-index → get_or l.keys-items k x ≡ x → (all_in l.ds (λ p. keys_hold p (set_of x)) && all_in l.zone (λ z. zone_holds (set_of x) z)) ≡ true
+    → k < l.keys-index → get_or l.keys-items k x ≡ x → (all_in l.ds
+    (λ p. keys_hold p (set_of x)) && all_in l.zone (λ z. zone_holds (set_of x) z)) ≡ true

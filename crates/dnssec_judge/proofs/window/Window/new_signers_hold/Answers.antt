@@ -17,7 +17,8 @@ loop-zone-preserved c n m k x lt is = elim (cases_lt k c.loop-zone.zone-index) [
       let it : c.zone-item.result ≡ x = c.zone-item.is
       ∙ get_or_default items i c.zone-item.result x c.loop-zone-test.true
       ∙ ap (λ j. get_or items j x) at ∙ is in
-      subst (λ (x : OpenSet). (all_in c.args.dnskey.now (λ q. zone_holds q (set_of x))) ≡ true) it (sym (c.keys_hold_with_signers.ensures n m) ∙ c.if-not-keys_hold_with_signers.false)
+      subst (λ (x : OpenSet). (all_in c.args.dnskey.now (λ q. zone_holds q (set_of x))) ≡ true) it
+      (sym (c.keys_hold_with_signers.ensures n m) ∙ c.if-not-keys_hold_with_signers.false)
 ]
 
 pub returns : goal.returns

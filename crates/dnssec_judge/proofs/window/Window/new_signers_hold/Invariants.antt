@@ -7,4 +7,5 @@ use Rattle.dnssec_judge.proofs.window.Window.new_signers_hold.Given as goal
 
 abbrev pub invariant-loop-zone : goal.invariant-loop-zone
 invariant-loop-zone l = (n : ℕ) → Keeps n l.dnskey → (k : ℕ) (x : OpenSet)
-    → k < l.zone-index → get_or l.zone-items k x ≡ x → (all_in l.dnskey (λ q. zone_holds q (set_of x))) ≡ true
+    → k < l.zone-index → get_or l.zone-items k x ≡ x → (all_in l.dnskey
+    (λ q. zone_holds q (set_of x))) ≡ true

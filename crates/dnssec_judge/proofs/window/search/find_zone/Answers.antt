@@ -10,7 +10,8 @@ use Rattle.dnssec_judge.proofs.window.search.find_zone.Goals as goal
 
 pub returns-then-not-holds_with_signers : goal.returns-then-not-holds_with_signers
 returns-then-not-holds_with_signers c =
-    let search = λ (fs : List First). first_failing (zone_holds (set_of c.args.keys.now)) 0 (firsts_of fs) in
+    let search = λ (fs : List First). first_failing (zone_holds (set_of c.args.keys.now)) 0
+    (firsts_of fs) in
     let zone = c.args.zone.now in let i = c.loop-signers.signers-index in
     let f = c.signers-item.result in
     let here = at_drop_more search zone i f c.loop-signers-test.true
@@ -23,7 +24,8 @@ returns-then-not-holds_with_signers c =
 
 pub loop-signers-preserved : goal.loop-signers-preserved
 loop-signers-preserved c =
-    let search = λ (fs : List First). first_failing (zone_holds (set_of c.args.keys.now)) 0 (firsts_of fs) in
+    let search = λ (fs : List First). first_failing (zone_holds (set_of c.args.keys.now)) 0
+    (firsts_of fs) in
     let zone = c.args.zone.now in let i = c.loop-signers.signers-index in
     let f = c.signers-item.result in
     let here = at_drop_more search zone i f c.loop-signers-test.true
@@ -34,6 +36,7 @@ loop-signers-preserved c =
 
 pub returns : goal.returns
 returns c =
-    let search = λ (fs : List First). first_failing (zone_holds (set_of c.args.keys.now)) 0 (firsts_of fs) in
+    let search = λ (fs : List First). first_failing (zone_holds (set_of c.args.keys.now)) 0
+    (firsts_of fs) in
     sym (at_drop_all search c.args.zone.now c.loop-signers.signers-index c.loop-signers-test.false)
     ∙ c.loop-signers.invariant

@@ -14,6 +14,7 @@ returns c =
     let rs = c.args.references.now in
     let old = string_bytes c.args.text.now in
     c.loop-reference.invariant
-    ∙ ap (λ (qs : List (Bor (List ℕ))). old ++ flat_map (λ (r : Bor (List ℕ)). codes "," ++ r.now) qs)
+    ∙ ap (λ (qs : List (Bor (List ℕ))). old ++ flat_map
+    (λ (r : Bor (List ℕ)). codes "," ++ r.now) qs)
     (take_all c.loop-reference.reference-index rs c.loop-reference-test.false)
     ∙ ap (λ t. old ++ t) (sym (flat_map-map (λ (q : List ℕ). codes "," ++ q) now rs))

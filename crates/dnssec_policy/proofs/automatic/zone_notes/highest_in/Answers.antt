@@ -9,14 +9,16 @@ use Rattle.dnssec_policy.proofs.automatic.zone_notes.highest_in.Goals as goal
 
 pub returns-in_default : goal.returns-in_default
 returns-in_default c = λ moments before facts are.
-    absurd (no-notes moments c.args.lines.now before facts (omega (arith, c.in_default.ensures.cases))
+    absurd (no-notes moments c.args.lines.now before facts
+    (omega (arith, c.in_default.ensures.cases))
     are)
 
 pub returns-in_default-read_before : goal.returns-in_default-read_before
 returns-in_default-read_before c = λ moments before facts are.
     let both = first-line moments _ _ _ before facts c.in-Some.ensures.cases.0 are in
     let none : None ≡ Some (before_says before) =
-    sym (ap (option_map before_says) c.in_default-read_before.is) ∙ c.read_before.ensures ∙ both.0 in
+    sym (ap (option_map before_says) c.in_default-read_before.is) ∙ c.read_before.ensures
+    ∙ both.0 in
     cc
 
 pub returns : goal.returns

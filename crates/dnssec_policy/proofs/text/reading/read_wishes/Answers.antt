@@ -1,6 +1,6 @@
 -- Each turn reads one line.
-use Rattle.std.proofs.Common.{[], ◌+◌, ◌∙◌, ◌∷◌, ◌≡◌, Bor, List, ap, arith, drop, length, map, refl, sym}
-use Rattle.std.proofs.Common.{Err, drop_of_length-le, suc, ◌<◌, ℕ}
+use Rattle.std.proofs.Common.{[], ◌+◌, ◌∙◌, ◌∷◌, ◌≡◌, Bor, List, ap, arith, drop, length, map, refl}
+use Rattle.std.proofs.Common.{sym, Err, drop_of_length-le, suc, ◌<◌, ℕ}
 use Rattle.std.proofs.lemmas.List.{length-map}
 use Rattle.std.proofs.Math.Seq.{drop-cons}
 use Rattle.dnssec_script.proofs.Texts.{shown_at, text_at, within_shown}

@@ -1,6 +1,6 @@
 -- A copy makes the call, and takes the place of the session if the call is accepted.
-use Rattle.std.proofs.Common.{[], IfErr, Result, Err, Ok, ap, false, length-append, refl, rules, sym, true}
-use Rattle.std.proofs.Common.{◌++◌, ◌∙◌, ◌∷◌, ◌≡◌}
+use Rattle.std.proofs.Common.{[], IfErr, Result, Err, Ok, ap, false, length-append, refl, rules}
+use Rattle.std.proofs.Common.{sym, true, ◌++◌, ◌∙◌, ◌∷◌, ◌≡◌}
 use Rattle.dnssec_run.specs.Record.{is_accepted}
 use Rattle.dnssec_record.proofs.Sessions.{answered, copied, speaks}
 use Rattle.dnssec_record.proofs.session.Session.accept.Goals as goal

@@ -29,7 +29,8 @@ returns c roll part =
     let after : IsPartitionPoint (λ x. le x ≡ true) (λ x. le x ≡ false) xs end =
     subst (λ (ls : Lent). IsPartitionPoint (λ x. le x ≡ true) (λ x. le x ≡ false) ls end)
     c.deref.ensures.value
-    (IsPartitionPoint-from_clause le c.deref.result.now end c.partition_point-end.ensures.partitioned
+    (IsPartitionPoint-from_clause le c.deref.result.now end
+    c.partition_point-end.ensures.partitioned
     (subst (IsPartitionedBy le) (sym c.deref.ensures.value)
     (parted_le reference_of q xs c.self.invariant))
     (λ a r f k. (search rules, search rules))) in

@@ -26,7 +26,8 @@ returns-clause-table c t =
     ∙ ap (λ (m : Numbers). if nat_eq key.1 p then Some number else get nat_eq m.by_added p) kept) in
     table-grown old new number key none here others
     (λ n e. c.find.ensures.none c.in_default.is t n e)
-    (λ p h. subst IsSome (sym (at p)) (some-update (nat_eq key.1 p) number (get nat_eq old.by_added p) h))
+    (λ p h. subst IsSome (sym (at p)) (some-update (nat_eq key.1 p) number
+    (get nat_eq old.by_added p) h))
     (subst IsSome (sym (ap (λ m. get nat_eq m key.1) c.in_ok-write.ensures.kept
     ∙ c.in_ok-insert.ensures.updates.1)) refl) t
 

@@ -11,8 +11,8 @@ use Rattle.dnssec_run.specs.Frames.{KeepsFrame}
 use Rattle.dnssec_run.specs.Published.{Id, id_of}
 use Rattle.dnssec_judge.specs.Numbers.{StandFor, key_at}
 use Rattle.dnssec_judge.specs.declared.sets.numbers.Numbers.{Numbers}
-use Rattle.dnssec_judge.proofs.Table.{InThree, in-three, stand-both, stand-on, stand-once, stand-push}
-use Rattle.dnssec_judge.proofs.Table.{stand-three}
+use Rattle.dnssec_judge.proofs.Table.{InThree, in-three, stand-both, stand-on, stand-once}
+use Rattle.dnssec_judge.proofs.Table.{stand-push, stand-three}
 use Rattle.dnssec_judge.proofs.sets.numbers.Numbers.read.Goals as goal
 
 -- the ids of the keys of a list with one more
@@ -51,7 +51,8 @@ loop-key-preserved c t =
       c.in_ok-number.ensures.table so.0,
       λ n k e. grows n k (so.1 n k e),
       λ front h. subst (λ (ns : List ℕ). StandFor new ns (front ++ map id_of (take (i + 1) list)))
-          (sym pushed) (subst (StandFor new (c.loop-key.numbers.items ++ c.in_ok-number.number ∷ []))
+          (sym pushed) (subst (StandFor new (c.loop-key.numbers.items
+          ++ c.in_ok-number.number ∷ []))
           (append_assoc front ids (id ∷ []) ∙ ap (λ more. front ++ more)
           (sym (one-more list i c.key-item.result c.loop-key-test.true c.key-item.is)))
           (stand-push new c.loop-key.numbers.items (front ++ ids) c.in_ok-number.number id
@@ -116,9 +117,11 @@ returns-then-are-clause-ok c was t h keeps =
     let before = c.args.before.now in let list = c.args.list.now in let frame = c.args.frame in
     let o = old self before list was frame h keeps in
     let n = new self before list was frame h keeps in
-    let p = c.parts.ensures o.one o.two o.three o.whole (old-front self before list was frame h keeps)
+    let p = c.parts.ensures o.one o.two o.three o.whole
+    (old-front self before list was frame h keeps)
     (old-back self before list was frame h keeps) in
-    let q = c.parts-2.ensures n.one n.two n.three n.whole (new-front self before list was frame h keeps)
+    let q = c.parts-2.ensures n.one n.two n.three n.whole
+    (new-front self before list was frame h keeps)
     (new-back self before list was frame h keeps) in
     all-same self before list was frame h keeps _ _ p.1 q.1 (c.are.ensures.yes c.if-are.true)
 
@@ -128,15 +131,18 @@ returns-clause-ok c was t h keeps =
     let before = c.args.before.now in let list = c.args.list.now in let frame = c.args.frame in
     let o = old self before list was frame h keeps in
     let n = new self before list was frame h keeps in
-    let p = c.parts.ensures o.one o.two o.three o.whole (old-front self before list was frame h keeps)
+    let p = c.parts.ensures o.one o.two o.three o.whole
+    (old-front self before list was frame h keeps)
     (old-back self before list was frame h keeps) in
-    let q = c.parts-2.ensures n.one n.two n.three n.whole (new-front self before list was frame h keeps)
+    let q = c.parts-2.ensures n.one n.two n.three n.whole
+    (new-front self before list was frame h keeps)
     (new-back self before list was frame h keeps) in
     let so = c.loop-key.invariant t in
     let read = c.loop-key.self in
     let changed = c.parts-2.result.1.now in
     let begun : c.extend_from_slice.new.self.items ≡ c.parts.result.0.now = search rules in
-    let ended : c.extend_from_slice-2.new.self.items ≡ c.loop-key.numbers.items ++ c.parts.result.2.now =
+    let ended : c.extend_from_slice-2.new.self.items ≡ c.loop-key.numbers.items
+    ++ c.parts.result.2.now =
     search rules in
     let front : StandFor self c.extend_from_slice.new.self.items keeps.front =
     subst (λ (ns : List ℕ). StandFor self ns keeps.front) (sym (begun ∙ p.0)) o.is_one in
@@ -148,7 +154,8 @@ returns-clause-ok c was t h keeps =
     (take_all c.loop-key.key-index changed c.loop-key-test.false ∙ q.1) ∙ n.is_two in
     let all : StandFor read (c.loop-key.numbers.items ++ c.parts.result.2.now)
     ((keeps.front ++ keeps.is) ++ keeps.back) =
-    stand-both read c.loop-key.numbers.items c.parts.result.2.now (keeps.front ++ keeps.is) keeps.back
+    stand-both read c.loop-key.numbers.items c.parts.result.2.now
+    (keeps.front ++ keeps.is) keeps.back
     (subst (λ (ks : List Id). StandFor read c.loop-key.numbers.items (keeps.front ++ ks)) middle
     (so.2 keeps.front front)) back in (
       subst (λ (ns : List ℕ). StandFor read ns (map id_of list)) (sym ended)

@@ -22,7 +22,8 @@ returns-clause-news c before table stands keep =
         bits-mean t (words_of c.in_ok-keys.keys) c.renew.new.self.keys.items keys stand.0
             (λ n. c.in_ok-keys.ensures.ok n
             ∙ ap (λ (ns : List ℕ). list_any (λ m. nat_eq m n) ns) c.deref.ensures.value),
-        bits-mean t (words_of c.in_ok-signers.signers) c.renew.new.self.signers.items signers stand.1
+        bits-mean t (words_of c.in_ok-signers.signers) c.renew.new.self.signers.items signers
+            stand.1
             (λ n. c.in_ok-signers.ensures.ok n
             ∙ ap (λ (ns : List ℕ). list_any (λ m. nat_eq m n) ns) c.deref-2.ensures.value),
       ),

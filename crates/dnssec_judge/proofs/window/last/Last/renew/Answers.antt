@@ -11,7 +11,8 @@ returns-then-has_others-clause-set c before table stands keep =
       stand-on c.read_list.new.numbers c.read_list-2.new.numbers _ _
           (signers.grows (keys.table table)) (keys.list before.0 table stands.0 keep.0),
       signers.list before.1 (keys.table table)
-          (stand-on c.args.numbers.now c.read_list.new.numbers _ _ (keys.grows table) stands.1) keep.1,
+          (stand-on c.args.numbers.now c.read_list.new.numbers _ _ (keys.grows table) stands.1)
+          keep.1,
     )
 
 pub returns-then-has_others-clause-same : goal.returns-then-has_others-clause-same
@@ -25,7 +26,8 @@ returns-clause-set c before table stands keep =
       stand-on c.read_list.new.numbers c.read_list-2.new.numbers _ _
           (signers.grows (keys.table table)) (keys.list before.0 table stands.0 keep.0),
       signers.list before.1 (keys.table table)
-          (stand-on c.args.numbers.now c.read_list.new.numbers _ _ (keys.grows table) stands.1) keep.1,
+          (stand-on c.args.numbers.now c.read_list.new.numbers _ _ (keys.grows table) stands.1)
+          keep.1,
     )
 
 pub returns-clause-same : goal.returns-clause-same

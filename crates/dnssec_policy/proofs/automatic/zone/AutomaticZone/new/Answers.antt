@@ -8,5 +8,6 @@ returns c = record {
   after = c.in_ok-new.ensures;
   highest = c.new-2.ensures.highest;
   count = refl;
-  automatic = λ network time are in_time n call here. absurd (omega (arith, slice_get_within [] n call here));
+  automatic = λ network time are in_time n call here. absurd
+      (omega (arith, slice_get_within [] n call here));
 }

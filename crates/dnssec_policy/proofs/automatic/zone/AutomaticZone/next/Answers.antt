@@ -37,6 +37,7 @@ returns c =
             (sym c.notes.ensures) are;
       };
       now = refl;
-      said = ap (λ (at : Option ℕ). answer_of c.args.policy.now at (view_of state said.0)) (sym so.first)
+      said = ap (λ (at : Option ℕ). answer_of c.args.policy.now at (view_of state said.0))
+          (sym so.first)
           ∙ sym said.2;
     }) c.next.ensures
