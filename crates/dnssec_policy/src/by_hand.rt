@@ -29,8 +29,8 @@ impl FirstByHand {
         FirstByHand { at: None }
     }
 
-    /// Whether the call, made of this key set, ends a roll early, or sets a flag or a time of a key.
-    /// Keys of other signers may be put in and taken out.
+    /// Whether the call, made of this key set, ends a roll early, or sets a flag or a time of a
+    /// key. Keys of other signers may be put in and taken out.
     pub fn is_by_hand(keyset: &KeySet, call: &Call<'_>) -> bool
         ensures { result ≡ is_by_hand keyset.now call.now }
     {

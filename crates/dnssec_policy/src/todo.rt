@@ -128,8 +128,8 @@ impl<'a> Next<'a> {
         }
     }
 
-    /// What is asked of CDS and CDNSKEY beside it, if anything: they are in the zone while the DS set
-    /// changes, and leave before it is noted that all servers of the parent give it.
+    /// What is asked of CDS and CDNSKEY beside it, if anything: they are in the zone while the DS
+    /// set changes, and leave before it is noted that all servers of the parent give it.
     pub fn cds(&self) -> Option<Cds>
         ensures { (now : ℕ) → result ≡ cds_with (todo_of now self.now) }
     {

@@ -93,8 +93,8 @@ impl HighestTtls {
         u64::from(self.dnskey) + 1
     }
 
-    /// The TTL of a report, by the TTL that is due for the sets that it speaks of. One that speaks of
-    /// DS sets also counts the algorithms that validators keep with DNSKEY sets, and CDS.
+    /// The TTL of a report, by the TTL that is due for the sets that it speaks of. One that speaks
+    /// of DS sets also counts the algorithms that validators keep with DNSKEY sets, and CDS.
     pub(crate) fn lasting(&self, roll: RollType, second: bool, due: u64) -> u64
         requires { due ≤ 4_294_967_296 }
         ensures { result ≡ lasting (ttl_in self.now) roll second due }

@@ -24,8 +24,8 @@ pub enum Why {
     Barred { roll: RollType },
     /// A key is on its way out and in use, and no roll takes it out: it was set by hand.
     OldKeyInUse,
-    /// The call at this position, counted from 1, was made by hand: a roll was ended early, or a flag
-    /// or a time of a key set.
+    /// The call at this position, counted from 1, was made by hand: a roll was ended early, or a
+    /// flag or a time of a key set.
     ByHand { at: usize },
 }
 

@@ -38,8 +38,8 @@ pub(crate) const NOT_SAID: u32 = 13;
 #[derive(Drop)]
 pub struct Answered {
     /// 0 answered, 1 malformed, 3 out of memory: as the program `keyset` ends. 4 short of room, 5
-    /// for a closed session, 12 for a lost one, 13 if what a policy says is not said. It is never 2,
-    /// the program's status if a device has failed.
+    /// for a closed session, 12 for a lost one, 13 if what a policy says is not said. It is never
+    /// 2, the program's status if a device has failed.
     pub status: u32,
     /// Answered, or not said: how many bytes were written. Short of room: how many bytes the answer
     /// needs. Else 0.

@@ -144,8 +144,8 @@ pub extern "C" fn keyset_open(alloc: Global, line: &[u8], session: &mut Handle) 
 /// Makes the call of the line, and writes its answer into the front of `out`.
 ///
 /// After a status of 0 or 4 the call is made, and `keyset_told` writes the answer again. After 1 or
-/// 3 the session is as it was. Only after 12 it is lost: memory ran out after a part of the call was
-/// made, so it is closed, and its lines open it anew.
+/// 3 the session is as it was. Only after 12 it is lost: memory ran out after a part of the call
+/// was made, so it is closed, and its lines open it anew.
 #[unsafe(no_mangle)]
 pub extern "C" fn keyset_call(
     alloc: Global,

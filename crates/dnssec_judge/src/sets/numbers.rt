@@ -1,8 +1,7 @@
 //! The keys of a record as small numbers.
-ghost use Rattle.std.specs.Prelude.{◌↔◌};
-ghost use Rattle.std.specs.Prelude.{◌≡◌, ◌≤◌, ◌-◌, ℕ, false, true, Option, None, Some, map, nat_eq};
-ghost use Rattle.std.specs.Prelude.{◌++◌, IfOk, IfErr, IfSome, IsSome, List, OnOk, length, slice_get};
-ghost use Rattle.std.specs.Prelude.{vec_len};
+ghost use Rattle.std.specs.Prelude.{◌↔◌, ◌≡◌, ◌≤◌, ◌-◌, ℕ, false, true, Option, None, Some, map};
+ghost use Rattle.std.specs.Prelude.{nat_eq, ◌++◌, IfOk, IfErr, IfSome, IsSome, List, OnOk, length};
+ghost use Rattle.std.specs.Prelude.{slice_get, vec_len};
 ghost use Rattle.std.specs.{HashMap.get, Option.option_copied, Option.option_map};
 ghost use Rattle.dnssec_base.specs.declared.error.Error.TheVariants.{OutOfMemory};
 ghost use Rattle.dnssec_run.specs.Frames.{KeepsFrame};

@@ -15,13 +15,13 @@ use dnssec_record::{Fields, all_lines};
 use std::alloc::Global;
 
 /// What to do next, as `answer_next` says it. The text has the lines of a policy, an empty line, a
-/// script, an empty line, and its notes, whose last line is `next` and a second since 1970; one more
-/// empty line may stand at its end.
+/// script, an empty line, and its notes, whose last line is `next` and a second since 1970; one
+/// more empty line may stand at its end.
 ///
 /// # Errors
 ///
-/// Those of `answer_next`. If the last line doesn't ask, a line is missing after the notes, and that
-/// is a fault of theirs.
+/// Those of `answer_next`. If the last line doesn't ask, a line is missing after the notes, and
+/// that is a fault of theirs.
 ///
 /// ```rust
 /// let text = "policy 13 ksk-roll zsk-roll\n\nzone example.com\n\nbefore 60 60 60\nnext 100\n";

@@ -80,8 +80,8 @@ impl AutomaticZone {
         })
     }
 
-    /// The zone after the lines of a script and of the notes beside it, as it was kept. If its calls
-    /// were automatic, and its notes are the same, so they are of this one.
+    /// The zone after the lines of a script and of the notes beside it, as it was kept. If its
+    /// calls were automatic, and its notes are the same, so they are of this one.
     ///
     /// # Errors
     ///

@@ -60,9 +60,9 @@ fn shorter(roll: RollType, lifetime: Option<u64>, takes: u64) -> Option<TooShort
 /// The first lifetime of the policy that is shorter than its roll takes, by the highest TTLs noted:
 /// its keys would have to be renewed before they are in use alone. First that of KSKs or CSKs.
 ///
-/// A roll takes at least its two waits. That after a report counts as a second more than the highest
-/// TTL of the sets that the report speaks of (RFC 7583, section 3); after one that speaks of DS sets
-/// also what validators and caches hold after these.
+/// A roll takes at least its two waits. That after a report counts as a second more than the
+/// highest TTL of the sets that the report speaks of (RFC 7583, section 3); after one that speaks
+/// of DS sets also what validators and caches hold after these.
 ///
 /// ```rust
 /// if let Some(fault) = too_short(&policy, &highest) {

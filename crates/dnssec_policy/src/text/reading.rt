@@ -50,8 +50,8 @@ fn read_lines(lines: &[&[u8]]) -> Result<Policy, PolicyFault>
 ///   is renewed. Without it, keys are renewed only on demand.
 /// - `ksk-once`, `zsk-once` or `csk-once`, with a second since 1970: from then on, keys are renewed
 ///   that were published before it.
-/// - `delete-after`: how many seconds after it was withdrawn a key is deleted. Without it, no longer
-///   than it has to stay.
+/// - `delete-after`: how many seconds after it was withdrawn a key is deleted. Without it, no
+///   longer than it has to stay.
 ///
 /// # Errors
 ///
