@@ -7,7 +7,7 @@ use Rattle.std.proofs.lemmas.List.Sorted.{IsPartitionPoint-from_clause, IsPartit
 use Rattle.std.proofs.lemmas.Option.{get_or_from_slice_get, slice_get_within}
 use Rattle.std.specs.{List.Contains, Prelude.slice_get}
 use Rattle.dnssec_judge.specs.declared.sets.held.OpenSet.{OpenSet}
-use Rattle.dnssec_judge.proofs.OneByOne.Sets.{non-decreasing}
+use Rattle.dnssec_judge.proofs.OneByOne.Ages.{non-decreasing}
 use Rattle.dnssec_judge.specs.Inner.Window.{AreByAge}
 use Rattle.dnssec_judge.proofs.window.Window.new_sets.Goals as goal
 

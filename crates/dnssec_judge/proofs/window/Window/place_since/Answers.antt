@@ -6,7 +6,7 @@ use Rattle.std.proofs.lemmas.Bool.{ltb-true, ltb-false}
 use Rattle.std.proofs.lemmas.List.Sorted.{IsPartitionPoint-from_clause, IsPartitionedBy-ltb}
 use Rattle.std.proofs.lemmas.Option.{get_or_from_slice_get, slice_get_read, slice_get_within}
 use Rattle.dnssec_judge.specs.declared.sets.held.OpenSet.{OpenSet}
-use Rattle.dnssec_judge.proofs.OneByOne.Sets.{found-since, non-decreasing, none-since}
+use Rattle.dnssec_judge.proofs.OneByOne.Ages.{found-since, non-decreasing, none-since}
 use Rattle.dnssec_judge.specs.Inner.Window.{AreByAge, came_since}
 use Rattle.dnssec_judge.proofs.window.Window.place_since.Goals as goal
 

@@ -1,0 +1,161 @@
+//! Which sets a window holds, each once, and what helps with many.
+ghost use Rattle.std.specs.Prelude.{◌≡◌, ◌++◌, ◌∷◌, ℕ, suc, []};
+ghost use Rattle.std.specs.Prelude.{Option, None, Some, slice_get, IfOk, IfErr, IfSome, OnOk};
+ghost use Rattle.dnssec_base.specs.declared.error.Error.TheVariants.{OutOfMemory};
+ghost use Rattle.dnssec_judge.specs.{Sets.set_of, declared.sets.held.OpenSet.OpenSet};
+ghost use Rattle.dnssec_judge.specs.Inner.Window.{AreByAge, HasCommon, IsHelped, IsIn, IsOpen};
+ghost use Rattle.dnssec_judge.specs.Inner.Window.{IsPut, Keeps, StillRests, came_since};
+ghost use Rattle.dnssec_judge.specs.Inner.Window.{stretches_of};
+
+use super::{Many, Window};
+use crate::sets::OpenSet;
+use dnssec_keyset::Error;
+use std::alloc::Global;
+
+/// Up to this many sets a window grows by one, since few rolls need more; then twofold. More than
+/// these are many.
+const FEW: usize = 4;
+
+impl Window {
+    /// Holds a set that is published, and answers since when it is there: the same set if it is
+    /// found, else a new one.
+    pub(super) fn put(&mut self, alloc: Global, set: OpenSet) -> Result<usize, Error>
+        ensures kept { OnOk result (self.new
+            ≡ record (self.old) { sets = self.new.sets; many = self.new.many }) }
+        ensures put { IfOk result (λ since. (n : ℕ) → set.since ≡ suc n → set.last ≡ suc n →
+            Keeps n self.old →
+            IsPut set.since (set_of set) self.old.sets.items since self.new.sets.items) }
+        ensures common { OnOk result ((n : ℕ) → Keeps n self.old → HasCommon self.new) }
+        ensures err { IfErr result (λ e. e ≡ OutOfMemory) }
+    {
+        let Some(place) = self.place_of(&set) else {
+            let since = set.since;
+            self.hold(alloc, set)?;
+            return Ok(since);
+        };
+        self.sets[place].show_at(set.since);
+        Ok(self.sets[place].since)
+    }
+
+    /// Holds a set that came.
+    fn hold(&mut self, alloc: Global, set: OpenSet) -> Result<(), Error>
+        ensures kept { OnOk result (self.new
+            ≡ record (self.old) { sets = self.new.sets; many = self.new.many }) }
+        ensures sets { OnOk result (self.new.sets.items ≡ self.old.sets.items ++ set ∷ []) }
+        ensures common { OnOk result (HasCommon self.old → HasCommon self.new) }
+        ensures err { IfErr result (λ e. e ≡ OutOfMemory) }
+    {
+        self.make_room(alloc)?;
+        self.help_with(&set)?;
+        self.sets.push(set)?;
+        Ok(())
+    }
+
+    /// Prepares for one set more.
+    fn make_room(&mut self, alloc: Global) -> Result<(), Error>
+        ensures kept { OnOk result (self.new
+            ≡ record (self.old) { sets = self.new.sets; many = self.new.many }) }
+        ensures sets { OnOk result (self.new.sets.items ≡ self.old.sets.items) }
+        ensures common { OnOk result (HasCommon self.old → HasCommon self.new) }
+        ensures err { IfErr result (λ e. e ≡ OutOfMemory) }
+    {
+        if self.sets.len() < FEW {
+            self.sets.reserve_exact(1)?;
+            return Ok(());
+        }
+        if self.sets.len() == FEW {
+            self.help(alloc)?;
+        }
+        Ok(())
+    }
+
+    /// Makes anew what helps with many sets.
+    fn help(&mut self, alloc: Global) -> Result<(), Error>
+        ensures kept { OnOk result (self.new ≡ record (self.old) { many = self.new.many }) }
+        ensures common { OnOk result (HasCommon self.new) }
+        ensures err { IfErr result (λ e. e ≡ OutOfMemory) }
+    {
+        let many = Many::of(alloc, &self.sets)?;
+        self.many = Some(Box::new(alloc, many)?);
+        Ok(())
+    }
+
+    /// Has a set that comes among the many, if they are.
+    fn help_with(&mut self, set: &OpenSet) -> Result<(), Error>
+        ensures kept { self.new ≡ record (self.old) { many = self.new.many } }
+        ensures new { OnOk result (IsHelped self.new.many set.now) }
+        ensures others { OnOk result ((h : OpenSet) → IsHelped self.old.many h →
+            IsHelped self.new.many h) }
+        ensures err { IfErr result (λ e. e ≡ OutOfMemory) }
+    {
+        match &mut self.many {
+            Some(many) => Many::add(&mut **many, set),
+            None => Ok(()),
+        }
+    }
+
+    /// The place of the same set, if it is found.
+    fn place_of(&self, set: &OpenSet) -> Option<usize>
+        ensures { IfSome result (λ place. (h : OpenSet) ×
+            (slice_get self.now.sets.items place ≡ Some h) × (set_of h ≡ set_of set.now)) }
+    {
+        let Some(many) = &self.many else {
+            return self.sets.iter().position(|other| other.is(set));
+        };
+        let place = self.place_since(many.find(set)?)?;
+        match self.sets.get(place) {
+            Some(other) if other.is(set) => Some(place),
+            _ => None,
+        }
+    }
+
+    /// The place of the set that came at a position.
+    pub(super) fn place_since(&self, since: usize) -> Option<usize>
+        ensures some { IfSome result (λ place. AreByAge self.now.sets.items → (h : OpenSet) ×
+            (slice_get self.now.sets.items place ≡ Some h)
+            × (came_since self.now.sets.items since ≡ Some h)) }
+        ensures none { result ≡ None → AreByAge self.now.sets.items →
+            came_since self.now.sets.items since ≡ None }
+    {
+        let place = self.sets.partition_point(|set| set.since < since);
+        match self.sets.get(place) {
+            Some(set) if set.since == since => Some(place),
+            _ => None,
+        }
+    }
+
+    /// Drops the sets that have no span left.
+    pub(super) fn drop_sets(&mut self, alloc: Global) -> Result<(), Error>
+        ensures kept { OnOk result (self.new
+            ≡ record (self.old) { sets = self.new.sets; many = self.new.many }) }
+        ensures spans { OnOk result ((n : ℕ) → Keeps n self.old →
+            stretches_of self.new ≡ stretches_of self.old) }
+        ensures keeps { OnOk result ((n : ℕ) → Keeps n self.old →
+            Keeps n self.new × StillRests n self.old self.new) }
+        ensures err { IfErr result (λ e. e ≡ OutOfMemory) }
+    {
+        let begin = self.begin();
+        if self.sets.iter().all(|set| begin <= set.last) {
+            return Ok(());
+        }
+        self.sets.retain(|set| begin <= set.last);
+        if self.sets.len() <= FEW {
+            self.many = None;
+            self.sets.shrink_to_fit();
+            return Ok(());
+        }
+        self.help(alloc)?;
+        Ok(())
+    }
+
+    /// What is common to all sets, if there are many.
+    pub(super) fn common(&self) -> Option<&OpenSet>
+        ensures { IfSome result (λ common. (n : ℕ) → Keeps n self.now → (h : OpenSet) →
+            IsOpen self.now h → IsIn common.now h) }
+    {
+        match &self.many {
+            Some(many) => Some(many.common()),
+            None => None,
+        }
+    }
+}
