@@ -371,8 +371,9 @@ FAULT = OK.replace("200 OK", "500 x")
 # What comes over the wire, and what is said of it.
 WIRES = (
     (OK.format(2, "[]"), "has no zone"), (OK.format(9, "[]"), "IncompleteRead"), ("", "Remote end"),
-    ("no HTTP\r\n\r\n", ": no HTTP"), ("HTTP/1.1 302 x\r\nLocation: http://127.0.0.2/\r\n"
-     "Content-Length: 0\r\n\r\n", "302: refused"),
+    ("no HTTP\r\n\r\n", ": no HTTP"),
+    ("HTTP/1.1 302 x\r\nLocation: http://127.0.0.2/\r\nContent-Length: 0\r\n\r\n",
+     "302: refused"),
     ("HTTP/1.1 401 Unauthorized\r\nContent-Length: 2\r\n\r\n{}", "401: refused"),
     ("HTTP/1.1 422 x\r\nContent-Length: 15\r\n\r\n{\"error\": \"no\"}", "422: no"),
     (None, "timed out"),
@@ -518,8 +519,8 @@ exit 1
 """
 # What PowerDNS says if SQLite is locked in the midst of a change.
 UNSAID = "Internal Server Error"
-# What fails, how often, what it says then, and how often it runs at least and at most: a command, or
-# a request by this method.
+# What fails, how often, what it says then, and how often it runs at least and at most: a command,
+# or a request by this method.
 LOCKS = (
     ("tool", 2, daemon.LOCKED, 3, 3), ("tool", 9, daemon.LOCKED, 2, 4),
     ("tool", 9, "no such key", 1, 1), ("PATCH", 2, UNSAID, 3, 3), ("PATCH", 9, UNSAID, 2, 4),

@@ -9,7 +9,8 @@ from tests.command.terminal import TOP, typed
 
 PAGES = sorted({*TOP.glob("*.md"), *TOP.glob("docs/*.md"), *TOP.glob("*/README.md")})
 PAGES = [it for it in PAGES if it.name != "CHANGELOG.md"]
-WORDS = "init|import|call|status|check|plan|draw|act|ceremony|watch|zones|policy|tick|roll|next|store"
+WORDS = ("init|import|call|status|check|plan|draw|act|ceremony|watch|zones|policy|tick|roll|next"
+         "|store")
 # A line of a block, or a text between backquotes, that begins with the command.
 IN_BLOCK = re.compile(r"^(?:\$ )?(vaqsider .*)$", re.MULTILINE)
 INLINE = re.compile(rf"(?<!`)`((?:vaqsider |(?=(?:{WORDS}) (?:S|SCRIPT|FOLDER|ZONE)\b))[^`]*)`")
@@ -71,8 +72,6 @@ def taken():
             yield f"{part}: there is no such option"
 
 
-
-
 def run():
     """README's first steps bring two new keys into a zone, and `init` prints the line of the first
     call. After them each line without a server's name is run: it is refused at most."""
@@ -83,6 +82,7 @@ def run():
         Path(key).with_suffix(".private").touch()
     Path("example.com.zone").write_text(Path("zone").read_text())
     section = (TOP / "command" / "README.md").read_text().split("\n## ")[1]
+    said = []
     for line in IN_BLOCK.findall(section):
         word, *words = shlex.split(line)[1:]
         words = [part for it in words for part in ([ksk, zsk] if "*" in it else [it])]

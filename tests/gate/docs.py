@@ -274,8 +274,8 @@ def main():
         document.walk()
         blocks, quoted = blocks + document.blocks, quoted + document.quoted
         links += check_links(path, wrong)
-    wrong += [*pictures.differing(), *contracts.differing(), *unknown_names(TOP / "docs" / "PROOF.md")]
-    wrong += type_names.repeated()
+    wrong += [*pictures.differing(), *contracts.differing(), *type_names.repeated()]
+    wrong += unknown_names(TOP / "docs" / "PROOF.md")
     if wrong:
         print(*wrong, f"docs: {len(wrong)} differences", sep="\n")
         return 1

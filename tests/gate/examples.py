@@ -66,6 +66,8 @@ OWN = {
     "sleep": "fn sleep(left: Duration) {}",
     "watch": "fn watch(kind: SetKind) {}",
 }
+
+
 def examples():
     """The text of each example, with its place."""
     for path in sorted(CRATES.glob("dnssec_*/src/**/*.rt")):
@@ -124,8 +126,8 @@ def module(number, place, text, items):
     head = "\n".join(f"    {line}" for line in [*uses, *owns])
     body = "\n".join(f"        {line}" for line in text)
     return (
-        f"/// {place}\nmod example{number} {{\n{head}\n\n    pub fn example({given}) -> {result} {{\n"
-        f"{body}\n        Ok(())\n    }}\n}}\n"
+        f"/// {place}\nmod example{number} {{\n{head}\n\n"
+        f"    pub fn example({given}) -> {result} {{\n{body}\n        Ok(())\n    }}\n}}\n"
     )
 
 

@@ -114,8 +114,8 @@ class Network:
 
     def position(self, kind, number, value, versions):
         """That of the last call by then that asks for these sets, or another one if the notes name
-        it; if the sets are those of before, the same one. The first version is what was there before
-        the first call."""
+        it; if the sets are those of before, the same one. The first version is what was there
+        before the first call."""
         if not versions:
             return 0
         by_then = self.servers[kind].times[number] + self.ahead

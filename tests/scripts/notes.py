@@ -234,17 +234,17 @@ def ask_early(questions, wrong):
     times = [mistyped.step_time(each.script, each.call, each.roll) for each in questions]
     asks = zip(questions, times)
     text = "\n\n".join(
-        f"{each.script}\n\n{each.notes}\ndue {time - 1}\ndue {time}" for each, time in asks
+        f"{each.script}\n\n{each.notes}\ndue {at - 1}\ndue {at}" for each, at in asks
     )
     told = asked(text).stdout.split("\n\n")
     if len(told) != 2 * len(questions):
         wrong.append(f"notes: {2 * len(questions)} early questions have {len(told)} answers")
-    for question, time, *answers in zip(questions, times, told[::2], told[1::2]):
+    for question, at, *answers in zip(questions, times, told[::2], told[1::2]):
         before, then = (
             [line for line in told.splitlines() if question.roll in line.split()]
             for told in answers
         )
-        wanted = f"not yet: {question.call} {question.roll} waits until {time}"
+        wanted = f"not yet: {question.call} {question.roll} waits until {at}"
         if before != [wanted] or len(then) != 1 or "waits until" in then[0]:
             wrong.append(f"notes: {before} and {then} are answered around {wanted!r}")
 
