@@ -18,7 +18,8 @@ PYTHON ?= $(shell for python in python3 /usr/bin/python3; do \
 	if $$python -c 'import $(MODULES)' 2>/dev/null; then echo $$python; exit; fi; \
 	done; echo python3)
 # Debian's packages that the gate needs, beside compilers.
-PACKAGES = python3-dnspython python3-cryptography python3-jsonschema python3-pytest mypy
+PACKAGES = python3-dnspython python3-cryptography python3-jsonschema python3-pytest mypy flake8 \
+	python3-pep8-naming
 
 PROGRAM = crates/keyset/out/keyset
 # The program's crates: keyset and those that stand before it.
@@ -99,7 +100,7 @@ clean: ## removes what was built
 	@find . -name __pycache__ -prune -exec rm -rf {} +
 
 # Every proof, wrong body, test and program. It prints when each step was done.
-test: modules has-mypy $(CALLERS) ## the gate: it ends with 'N passed, 0 failed'
+test: modules has-mypy has-flake8 $(CALLERS) ## the gate: it ends with 'N passed, 0 failed'
 	@$(PYTHON) -m tests.gate.gate
 
 # Before a release: CONTRIBUTING says what it takes.
@@ -164,8 +165,8 @@ test-go: python has-go has-cc made ## tests the module for Go
 fuzz: python has-clang made ## lets libFuzzer make RUNS texts: it needs clang with its runtime
 	@$(PYTHON) -m tests.library.fuzz library/out $(RUNS)
 
-# What mypy has to find stands in the test, and what it checks in pyproject.toml.
-types: modules has-mypy ## checks the types of the command and of the Python package by mypy
+# What these have to find stands in the test, what they check in .flake8 and pyproject.toml.
+types: modules has-mypy has-flake8 ## checks all Python by flake8, and types by mypy
 	@$(PYTHON) -m tests.gate.mistakes
 
 help: ## prints these lines

@@ -1,10 +1,11 @@
-"""Checks types by mypy: those of the command, and those of the Python package, as a caller does who
-has installed it.
+"""Checks all Python by flake8, and types by mypy: those of the command, and those of the Python
+package, as a caller does who has installed it.
 
     python3 -m tests.gate.mistakes
 
-The files that pyproject.toml names have no fault under `--strict`. In the program below each line
-with a comment has a mistake, and mypy has to name exactly these lines."""
+No file breaks a rule that .flake8 has, and those that pyproject.toml names have no fault under
+`--strict`. In the programs below each line with a comment has a mistake. flake8 has to name exactly
+these faults, and mypy exactly these lines."""
 
 import re
 import shutil
@@ -65,14 +66,34 @@ except (Locked, Wait) as error:
     caught: Error = error
 '''
 
+BROKEN = f"""\
+import os  # F401
+from tables import *  # F403
+
+
+def Named(lines):  # N802
+    said = lines == None  # E711 F841
+    return undefined  # F405
+
+
+raise NotImplemented  # F901 {"of long lines" * 6}  # E501
+"""
+
+
+def ran(*words, **how):
+    """What a tool writes of the faults that it finds."""
+    try:
+        done = subprocess.run(list(map(str, words)), capture_output=True, text=True, **how)
+    except FileNotFoundError:
+        raise Wrong(f"{words[0]} is missing here, and is needed") from None
+    if done.returncode not in (0, 1) or done.stderr:
+        raise Wrong(f"{words[0]} ends with {done.returncode}: {done.stdout}{done.stderr}")
+    return done.stdout.splitlines()
+
 
 def mypy(*words, **how):
     """What mypy writes: a line for each fault, and then how many files it has checked."""
-    words = ["mypy", "--strict", "--no-pretty", *map(str, words)]
-    done = subprocess.run(words, capture_output=True, text=True, **how)
-    if done.returncode not in (0, 1):
-        raise Wrong(f"mypy ends with {done.returncode}: {done.stdout}{done.stderr}")
-    return done.stdout.splitlines()
+    return ran("mypy", "--strict", "--no-pretty", *words, **how)
 
 
 def installed(room):
@@ -84,6 +105,18 @@ def installed(room):
     packages = Path(run(python, "-c", words).strip())
     shutil.copytree(PACKAGE, packages / "keyset")
     return python
+
+
+def test_rules():
+    """No Python of the repository breaks a rule, and each fault of a program that does is named."""
+    if said := ran("flake8", "--jobs", "1", cwd=TOP):
+        raise Wrong("\n".join(said))
+    named = ran("flake8", "--format", "%(row)d %(code)s", "-", cwd=TOP, input=BROKEN)
+    wanted = [f"{n} {code}" for n, line in enumerate(BROKEN.splitlines(), start=1)
+              for code in re.findall(r"\b[EFN]\d+", line)]
+    if sorted(named) != sorted(wanted):
+        raise Wrong(f"flake8 finds {named}, and not {wanted}")
+    return "no Python breaks a rule of flake8"
 
 
 def test_sources(cache):
@@ -115,6 +148,7 @@ def main():
     with tempfile.TemporaryDirectory() as room:
         room = Path(room)
         try:
+            print(f"mistakes: {test_rules()}")
             print(f"mistakes: {test_sources(room / 'cache')}")
             print(f"mistakes: {test_mistakes(room, room / 'cache')}")
         except Wrong as wrong:
