@@ -117,7 +117,7 @@ signers: modules build ## signs by real tools, of files and of PowerDNS, Knot an
 
 # Each minute it says how far it has come.
 game: python build ## plays ROLLS rolls by what policies say, many zones at once
-	@$(PYTHON) -m tests.scripts.automatic $(ROLLS) 1000 $$(nproc)
+	@$(PYTHON) -m tests.scripts.test_automatic $(ROLLS) 1000 $$(nproc)
 
 # It needs Debian's postgresql and python3-psycopg.
 machines: modules build ## lets machines share zones over PostgreSQL, and kills them
@@ -144,9 +144,9 @@ first-hour: python build ## does what docs/first-hour.md says, on real servers, 
 docs: python ## compares what the documents print with the examples and the callers
 	@$(PYTHON) -m tests.gate.docs
 
-memory: python has-cc build ## lets each request for memory fail in turn
+memory: modules has-cc build ## lets each request for memory fail in turn
 	@$(call prove,callers,run </dev/null)
-	@$(PYTHON) -m tests.scripts.memory
+	@$(PYTHON) -m pytest -q tests/scripts/test_memory.py
 
 test-lib: $(CALLERS) made ## tests the library, its callers and the install
 	@$(PYTHON) -m tests.library.library library/out

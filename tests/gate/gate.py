@@ -208,13 +208,13 @@ def prove_and_test(free, folder):
     library = After("library.library", folder, after=["keyset", "archive"])
     archive.later.append(library)
     scripts = [
-        After("scripts.memory", after=["callers", "keyset"]),
-        After("scripts.sets", after=["callers"]),
-        After("scripts.notes", after=["keyset"]),
+        After("scripts.test_memory", after=["callers", "keyset"]),
+        After("scripts.test_sets", after=["callers"]),
+        After("scripts.test_notes", after=["keyset"]),
         After("command.transcripts", after=["keyset"]),
         After("command.test_rolling", after=["keyset"]),
-        After("scripts.nexts", after=["keyset"]),
-        After("scripts.automatic", after=["keyset"]),
+        After("scripts.test_nexts", after=["keyset"]),
+        After("scripts.test_automatic", after=["keyset"]),
         archive,
         library,
     ]
