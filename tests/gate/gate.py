@@ -27,7 +27,7 @@ PRINTED = []
 # What the dearest proof takes of the memory, in bytes.
 MEMORY = 3_500_000_000
 # The tests that need no proof.
-FREE = ("oracle.runbooks", "oracle.networks", "gate.examples", "gate.mistakes")
+FREE = ("oracle.test_runbooks", "oracle.test_networks", "gate.examples", "gate.mistakes")
 # The priority of edits, as that of `nice`.
 LOW = 10
 # What it leaves out, for that needs servers, root or hours.
