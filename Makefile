@@ -141,8 +141,8 @@ by-itself: build ## lets zones roll by themselves for 20 minutes, on real name s
 first-hour: python build ## does what docs/first-hour.md says, on real servers, in two minutes
 	@$(PYTHON) -m tests.command.first_hour
 
-docs: python ## compares what the documents print with the examples and the callers
-	@$(PYTHON) -m tests.gate.docs
+docs: modules ## compares what the documents print with the examples and the callers
+	@$(PYTHON) -m pytest -q tests/gate/test_docs.py
 
 memory: modules has-cc build ## lets each request for memory fail in turn
 	@$(call prove,callers,run </dev/null)
@@ -167,7 +167,7 @@ fuzz: python has-clang made ## lets libFuzzer make RUNS texts: it needs clang wi
 
 # What these have to find stands in the test, what they check in .flake8 and pyproject.toml.
 types: modules has-mypy has-flake8 ## checks all Python by flake8, and types by mypy
-	@$(PYTHON) -m tests.gate.mistakes
+	@$(PYTHON) -m pytest -q tests/gate/test_mistakes.py
 
 help: ## prints these lines
 	@sed -n 's/^\([a-z-]*\):.* ## /\1\t/p' Makefile | \
