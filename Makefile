@@ -148,8 +148,8 @@ memory: modules has-cc build ## lets each request for memory fail in turn
 	@$(call prove,callers,run </dev/null)
 	@$(PYTHON) -m pytest -q tests/scripts/test_memory.py
 
-test-lib: $(CALLERS) made ## tests the library, its callers and the install
-	@$(PYTHON) -m tests.library.library library/out
+test-lib: modules $(CALLERS) made ## tests the library, its callers and the install
+	@$(PYTHON) -m pytest -q tests/library/test_library.py
 asan: python has-cc made ## tests the library in C under the address sanitizer
 	@$(PYTHON) -m tests.library.library library/out $@
 valgrind: python has-cc has-valgrind made ## tests the library in C under valgrind

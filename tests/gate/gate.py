@@ -128,8 +128,8 @@ class After(Beside):
     """A script of tests that runs after these crates are proved or kept, on what `rt ci` has built
     or restored, and after these scripts have passed."""
 
-    def __init__(self, module, *words, after):
-        super().__init__(module, *words)
+    def __init__(self, module, *words, after, under=()):
+        super().__init__(module, *words, under=under)
         self.wanted = set(after)
         self.alone = threading.Lock()
 
@@ -207,7 +207,8 @@ def prove_and_test(free, folder):
     before = built.sums()
     # The library takes no proof of `keyset_c`, only of the crates below it.
     archive = After("library.archive", folder, after=["dnssec_status", "dnssec_automatic"])
-    library = After("library.library", folder, after=["keyset", "archive"])
+    library = After("library.test_library", under=["env", f"LIBRARY={folder}"],
+                    after=["keyset", "archive"])
     archive.later.append(library)
     scripts = [
         After("scripts.test_memory", after=["callers", "keyset"]),

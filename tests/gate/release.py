@@ -6,7 +6,7 @@
 - The newest release of `CHANGELOG.md` is this one.
 - `tests/frozen/N/` has the scripts of release N with their answers, and they are answered the same
   today: here by the tables of `replay/`, and by the program and the library in
-  `tests/library/library.py`.
+  `tests/library/test_library.py`.
 - Each word of these scripts has its version in `tests/frozen/words.txt`, and that is N or earlier;
   and `docs/REFERENCE.md` has each word.
 - What `rt ci` prints is taken for a proof only if it says so of the crate, and only for the files
