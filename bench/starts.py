@@ -1,11 +1,13 @@
 """What a word of the command imports when it starts, beyond what Python itself does: a timer starts
 it again and again. Each word is run with an example, in a folder without a policy and without
-servers, until it ends. (`store` isn't: it wants a database.)"""
+servers, until it ends, and all modules are compiled before. (`store` isn't run: it wants a
+database.)"""
 
 from __future__ import annotations
 
 import os
 import re
+import resource
 import shlex
 import shutil
 import subprocess
@@ -38,17 +40,26 @@ ASK = {
 }
 OURS = ("vaqsider", "keyset")
 ASKERS = ("dns", "cryptography", "ssl", "socket")
-# A module, and the microseconds that it took without those that it imports.
-IMPORTED = re.compile(r"^import time: +(\d+) \| +\d+ \| *(\S+)$", re.MULTILINE)
-RUNS = 3
+# A module that was imported, after those that it imports.
+IMPORTED = re.compile(r"^import time: +\d+ \| +\d+ \| *(\S+)$", re.MULTILINE)
+# Imports modules, and says which of them aren't here.
+IMPORTS = """\
+import importlib, sys
+for name in {names}:
+    try:
+        importlib.import_module(name)
+    except ImportError:
+        print(name, file=sys.stderr)
+"""
+RUNS = 5
 
 
 @dataclass(frozen=True)
 class Start:
-    """What a word imported, and the least seconds that this took."""
+    """What a word imported, and the least seconds of a processor that this takes."""
 
     word: str
-    modules: frozenset[str]
+    modules: list[str]
     seconds: float
 
     def of(self, packages: tuple[str, ...]) -> list[str]:
@@ -60,12 +71,29 @@ class Start:
         return f"| {' | '.join(cells)} |"
 
 
-def imported(words: list[str], top: Path, folder: str) -> dict[str, int]:
-    """The modules that a run of Python imports, with their microseconds."""
-    paths = {"PYTHONPATH": str(top / "command"), "PYTHONDONTWRITEBYTECODE": ""}
-    done = subprocess.run([sys.executable, "-X", "importtime", *words], cwd=folder,
-                          capture_output=True, text=True, env={**os.environ, **paths})
-    return {name: int(taken) for taken, name in IMPORTED.findall(done.stderr)}
+def ran(words: list[str], top: Path, folder: str) -> str:
+    """What a run of Python says on standard error."""
+    paths = {"PYTHONPATH": str(top / "command"), "PYTHONPYCACHEPREFIX": f"{folder}/compiled"}
+    return subprocess.run([sys.executable, *words], cwd=folder, env={**os.environ, **paths},
+                          capture_output=True, text=True).stderr
+
+
+def imported(words: list[str], top: Path, folder: str) -> list[str]:
+    """The modules that a run of Python imports."""
+    sought = [*dict.fromkeys(IMPORTED.findall(ran(["-X", "importtime", *words], top, folder)))]
+    missing = ran(["-c", IMPORTS.format(names=sought)], top, folder).splitlines()
+    return [module for module in sought if module not in missing]
+
+
+def seconds(modules: list[str], top: Path, folder: str) -> float:
+    """The least seconds of a processor that Python takes to begin and to import these."""
+    taken = []
+    for _ in range(RUNS):
+        before = resource.getrusage(resource.RUSAGE_CHILDREN)
+        ran(["-c", IMPORTS.format(names=modules)], top, folder)
+        after = resource.getrusage(resource.RUSAGE_CHILDREN)
+        taken.append(after.ru_utime + after.ru_stime - before.ru_utime - before.ru_stime)
+    return min(taken)
 
 
 def starts(top: Path) -> Iterator[Start]:
@@ -73,8 +101,8 @@ def starts(top: Path) -> Iterator[Start]:
         for source in (top / "examples" / SCRIPT, *top.glob("tests/command/files/*.key")):
             shutil.copy(source, folder)
         python = imported(["-c", "pass"], top, folder)
+        least = seconds([], top, folder)
         for word, given in {**ASK_NOBODY, **ASK}.items():
-            words = ["-m", "vaqsider", word, *shlex.split(given)]
-            runs = [imported(words, top, folder) for _ in range(RUNS)]
-            taken = [sum(of for name, of in run.items() if name not in python) for run in runs]
-            yield Start(word, frozenset(runs[0]) - frozenset(python), min(taken) / 1e6)
+            found = imported(["-m", "vaqsider", word, *shlex.split(given)], top, folder)
+            modules = [module for module in found if module not in python]
+            yield Start(word, modules, seconds(modules, top, folder) - least)
