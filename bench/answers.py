@@ -28,7 +28,7 @@ from pathlib import Path
 from typing import Callable
 
 from programs import Bench, Faults, growths, memory_growths, shown
-from successive_rolls import FIRST, ROLL, script as rolls
+from successive_rolls import FIRST, replaced, script as rolls, whole
 
 TOP = Path(__file__).resolve().parent.parent
 LIBRARY = TOP / "library" / "out"
@@ -132,9 +132,7 @@ def listed(count):
     old, new = ",".join(f"A{i}" for i in range(half)), ",".join(f"B{i}" for i in range(half))
     return zone(
         adds("zsk", half), adds("zsk", half, "B", half + 2),
-        [f"start zsk-roll Z0 {old} 200", "report1 zsk-roll 60 200", "wait1 zsk-roll 260",
-         "report2 zsk-roll 60 260", "wait2 zsk-roll 320", "done zsk-roll",
-         f"start zsk-roll {old} {new} 400"],
+        whole("zsk-roll", f"Z0 {old}", 200), [f"start zsk-roll {old} {new} 400"],
     )
 
 
@@ -146,15 +144,9 @@ def one_listed_often(count):
 def rolls_beside_listed(count):
     """KSK rolls go on beside a ZSK roll that lists all keys."""
     half = count // 4
-    turns = []
-    for i in range(half // 8):
-        t = 1000 * i + 1000
-        turns += [
-            f"add-ksk K{i + 1} - 13 {50000 + i} {t} yes", f"start ksk-roll K{i} K{i + 1} {t}",
-            f"report1 ksk-roll 60 {t}", f"wait1 ksk-roll {t + 60}", f"report2 ksk-roll 60 {t + 60}",
-            f"wait2 ksk-roll {t + 120}", "done ksk-roll", f"delete K{i}",
-        ]
-    return listed(count // 2) + joined(turns)
+    turns = (replaced("ksk", f"K{i}", f"K{i + 1}", 50000 + i, 1000 * i + 1000)
+             for i in range(half // 8))
+    return listed(count // 2) + joined(*turns)
 
 
 def deletes_beside_listed(count):
@@ -208,10 +200,9 @@ ROWS = [
 
 def zsk_rolls_beside_long(count):
     """Rolls of a ZSK, in a zone whose KSK has a reference of 100 KB."""
-    one = ROLL.format
-    turns = (one(kind="zsk", old=f"Z{i}", new=f"Z{i + 1}", tag=i % 60000 + 2, t=1000 * i + 1000,
-                 t1=1000 * i + 1060, t2=1000 * i + 1120) for i in range(count // 8 - 1))
-    return FIRST.replace("K0", LONG[:100_000]) + "".join(turns)
+    turns = (replaced("zsk", f"Z{i}", f"Z{i + 1}", i % 60000 + 2, 1000 * i + 1000)
+             for i in range(count // 8 - 1))
+    return FIRST.replace("K0", LONG[:100_000]) + joined(*turns)
 
 
 # Scripts of sessions, by how many lines they have.

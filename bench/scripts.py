@@ -24,7 +24,7 @@ from dataclasses import dataclass
 from typing import Callable
 
 from programs import SLACK, Bench, Faults
-from successive_rolls import FIRST, script
+from successive_rolls import FIRST, script, whole
 
 RUNS = 3
 
@@ -90,9 +90,7 @@ def rolled_in(names):
     """ZSKs that one roll brings into use, to its end. Its old key was brought in for that."""
     return add_zsks(names) + [
         "add-zsk Q - 13 60001 150 yes", "set-present Q yes 150", "set-signer Q yes",
-        f"start zsk-roll Q {','.join(names)} 150", "report1 zsk-roll 60 150",
-        "wait1 zsk-roll 210", "report2 zsk-roll 60 210", "wait2 zsk-roll 270", "done zsk-roll",
-        "delete Q",
+        *whole("zsk-roll", f"Q {','.join(names)}", 150), "delete Q",
     ]
 
 

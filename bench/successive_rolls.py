@@ -24,17 +24,19 @@ report2 algorithm-roll 60 80
 wait2 algorithm-roll 140
 done algorithm-roll
 """
-ROLL = """\
-add-{kind} {new} - 13 {tag} {t} yes
-start {kind}-roll {old} {new} {t}
-report1 {kind}-roll 60 {t}
-wait1 {kind}-roll {t1}
-report2 {kind}-roll 60 {t1}
-wait2 {kind}-roll {t2}
-done {kind}-roll
-delete {old}
-"""
 RUNS = 50
+
+
+def whole(roll, lists, t):
+    """A roll from its start to its end, with waits of a minute."""
+    return [f"start {roll} {lists} {t}", f"report1 {roll} 60 {t}", f"wait1 {roll} {t + 60}",
+            f"report2 {roll} 60 {t + 60}", f"wait2 {roll} {t + 120}", f"done {roll}"]
+
+
+def replaced(kind, old, new, tag, t):
+    """A key comes in by a roll, and the old one is deleted."""
+    return [f"add-{kind} {new} - 13 {tag} {t} yes", *whole(f"{kind}-roll", f"{old} {new}", t),
+            f"delete {old}"]
 
 
 def script(calls):
@@ -44,10 +46,7 @@ def script(calls):
         kind = "zsk" if number % 2 else "ksk"
         old, new, t = keys[kind], f"{kind[0].upper()}{number}", 1000 * number
         keys[kind] = new
-        tag = number % 60000 + 2
-        parts.append(
-            ROLL.format(kind=kind, old=old, new=new, tag=tag, t=t, t1=t + 60, t2=t + 120)
-        )
+        parts += (f"{line}\n" for line in replaced(kind, old, new, number % 60000 + 2, t))
     return "".join(parts)
 
 

@@ -28,7 +28,7 @@ from typing import Callable
 
 from programs import MOST_SECONDS, Bench, Faults, growths, memory_growths, shown
 from scripts import crowded_rolls, put_in_use, rolled_in
-from successive_rolls import FIRST, script
+from successive_rolls import FIRST, script, whole
 
 RUNS = 3
 TTL = 4294967295
@@ -112,9 +112,7 @@ def in_use_by_a_roll(count):
     """A roll brings many keys into use, and one key beside them leaves and comes back."""
     names = [f"A{i}" for i in range(count // 5)]
     keys = [f"add-zsk {name} - 13 {i + 10} 150 yes" for i, name in enumerate(names)]
-    begun = ["add-public P 13 2 150 yes", f"start zsk-roll Z0 {','.join(names)} 200",
-             "report1 zsk-roll 60 200", "wait1 zsk-roll 260", "report2 zsk-roll 60 260",
-             "wait2 zsk-roll 320", "done zsk-roll"]
+    begun = ["add-public P 13 2 150 yes", *whole("zsk-roll", f"Z0 {','.join(names)}", 200)]
     turns = (f"set-present P {'no' if i % 2 else 'yes'} 400" for i in range(count - len(names)))
     return lines(keys, begun, turns)
 
@@ -287,8 +285,7 @@ def long_lists(count):
     old = [f"A{i}" for i in range(half)]
     new = [f"B{i}" for i in range(half)]
     adds = [f"add-zsk {name} - 13 {i + 2} 150 yes" for i, name in enumerate(old + new)]
-    roll = [f"start zsk-roll Z0 {','.join(old)} 200", "report1 zsk-roll 60 200",
-            "wait1 zsk-roll 260", "report2 zsk-roll 60 260", "wait2 zsk-roll 320", "done zsk-roll"]
+    roll = whole("zsk-roll", f"Z0 {','.join(old)}", 200)
     start = f"start zsk-roll {','.join(old)} {','.join(new)} 400"
     return lines(adds, roll, [start, "abort zsk-roll"] * 2)
 

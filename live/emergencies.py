@@ -4,10 +4,10 @@ of lost keys are in lost.py."""
 import asyncio
 from contextlib import asynccontextmanager
 
-from one_signer import CSK, DOUBLE_SIGNATURE, KEYS, KSK, ZSK, first_keys, go_unsigned
+from one_signer import KEYS, first_keys, go_unsigned
 from processes import Failed
 from provider import Provider
-from rolls import ALGORITHM, DOUBLE_DS, Roll, at_moment
+from rolls import ALGORITHM, CSK, DOUBLE_DS, DOUBLE_SIGNATURE, KSK, ZSK, Roll, at_moment
 from script import Refused, rounded_down, rounded_up
 
 # For each roll the setters that bring in another new key, and those of its stamps.

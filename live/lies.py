@@ -4,8 +4,8 @@ import asyncio
 import time
 
 from lost import zsk_beside
-from one_signer import DOUBLE_SIGNATURE, KEYS, KSK, ZSK, first_keys, with_least_ttl
-from rolls import ALGORITHM, DOUBLE_DS, Roll, spoken_of
+from one_signer import KEYS, first_keys, with_least_ttl
+from rolls import ALGORITHM, DOUBLE_DS, DOUBLE_SIGNATURE, KSK, ZSK, Roll, spoken_of
 from script import rounded_down
 from two_signers import (
     both_perform, end_in_step, in_step_keys, providers, shared, start_in_step,
@@ -160,11 +160,22 @@ async def taken_back(zone):
     # (Caches hold the DNSKEY set of the first keys until after the false change.)
     zone.ttls.zone, zone.ttls.dnskey, zone.ttls.ds = 3, LONGER, 2
     provider = await first_keys(zone, "K1", "Z1")
-    script = provider.script
     await provider.make("K2")
     roll = Roll(provider, KSK)
     await roll.start(["K1"], ["K2"])
     await roll.report(1)
+    await take_back(roll)
+    zone.clients.mended = time.time() + zone.ttls.ds + BOGUS
+    for call in (roll.wait(1), roll.report(2), roll.wait(2), roll.done()):
+        await call
+    await asyncio.sleep(zone.clients.mended - time.time())
+    await provider.make("Z2")
+    await Roll(provider, ZSK).whole(["Z1"], ["Z2"])
+
+
+async def take_back(roll):
+    """Accepts a false first wait and acts upon it, and then removes both."""
+    provider, script = roll.provider, roll.provider.script
     before = len(script.lines), script.sets
     await roll.make(lambda: f"wait1 {KSK} {rounded_down()}0")
     await roll.perform()
@@ -173,14 +184,8 @@ async def taken_back(zone):
     del script.lines[before[0]:]
     script.sets = before[1]
     await provider.act(["CreateCdsRrset", "UpdateDsRrset"])
-    await zone.watch_ds()
+    await roll.zone.watch_ds()
     await provider.take_cds_out()
-    zone.clients.mended = time.time() + zone.ttls.ds + BOGUS
-    for call in (roll.wait(1), roll.report(2), roll.wait(2), roll.done()):
-        await call
-    await asyncio.sleep(zone.clients.mended - time.time())
-    await provider.make("Z2")
-    await Roll(provider, ZSK).whole(["Z1"], ["Z2"])
 
 
 async def signatures_not_renewed(zone):

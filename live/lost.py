@@ -3,8 +3,8 @@
 import asyncio
 
 from emergencies import replaced
-from one_signer import CSK, DOUBLE_SIGNATURE, KEYS, KSK, ZSK, first_keys, go_unsigned
-from rolls import ALGORITHM, DOUBLE_DS, Roll
+from one_signer import KEYS, first_keys, go_unsigned
+from rolls import ALGORITHM, CSK, DOUBLE_DS, DOUBLE_SIGNATURE, KSK, ZSK, Roll
 
 # What the key of each kind, by the letter of its reference, would have to sign.
 SIGNS = {"K": {"UpdateDnskeyRrset"}, "Z": {"UpdateRrsig"}, "C": {"UpdateDnskeyRrset"}}

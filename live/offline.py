@@ -59,8 +59,7 @@ def offline(maker):
         await operator.call(f"add {new}")
         await refused(operator, zsk, new)
         asked = await place.holds("--roll", f"zsk-roll {zsk} {new}")
-        months = max(it["expiration"] for it in asked) - time.time()
-        expect(months > QUARTER, f"signatures of {len(asked)} sets end after {months} seconds")
+        expect_months(asked)
         await operator.type("plan", operator.script, "zsk-roll", zsk, new,
                             *operator.signer.options())
         for line in (f"start zsk-roll {zsk} {new} now", None, None):
@@ -72,6 +71,12 @@ def offline(maker):
         await operator.type("check", operator.script)
 
     return scene
+
+
+def expect_months(asked):
+    """The signatures that were made ahead last for a quarter of a year."""
+    months = max(it["expiration"] for it in asked) - time.time()
+    expect(months > QUARTER, f"signatures of {len(asked)} sets end after {months} seconds")
 
 
 async def refused(operator, old, new, *first):

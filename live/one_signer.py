@@ -8,10 +8,8 @@ from dataclasses import replace
 from asking import ask
 from places import CACHE, LEAST, LEAST_CACHE, LEAST_TTL, RESOLVERS
 from provider import Provider
-from rolls import ALGORITHM, DOUBLE_DS, Roll
+from rolls import ALGORITHM, CSK, DOUBLE_DS, DOUBLE_SIGNATURE, KSK, ZSK, Roll
 from script import rounded_down
-
-KSK, ZSK, DOUBLE_SIGNATURE, CSK = "ksk-roll", "zsk-roll", "zsk-double-signature-roll", "csk-roll"
 
 # For each roll the old keys, the new ones, and those that then replace the new ones.
 KEYS = {

@@ -178,33 +178,36 @@ class Provider:
         with the signatures of the zone, and the DNSKEY set with a signature by each key of
         `signers=`."""
         serial, name, port = self.version.serial, self.zone.name, self.zone.world.port
-
-        def has_version(answer):
-            given = [int(text.split()[2]) for text in data_of(answer, "SOA")]
-            # (A server that another provider had may still give a version of that provider.)
-            version = self.versions.get(given[0]) if given else None
-            return version and version.serial >= serial and (
-                {key.tag for key in version.changing} == tags_of(answer, "SOA")
-            )
-
-        def has_keys(answer):
-            keys, tags = data_of(answer, "DNSKEY"), tags_of(answer, "DNSKEY")
-            return any(
-                {key.dnskey for key in version.dnskey} == keys
-                and {key.tag for key in version.signers} <= tags
-                for number, version in self.versions.items() if number >= serial
-            )
-
         for kind, is_there, what in (
-            ("SOA", has_version, f"version {serial}"), ("DNSKEY", has_keys, "the new DNSKEY set"),
+            ("SOA", self.is_version, f"version {serial}"),
+            ("DNSKEY", self.are_keys, "the new DNSKEY set"),
         ):
             for address in self.servers:
                 await watch(
-                    [address], port, name, kind,
-                    lambda answer: is_there(answer) or self.has_lost(address, kind, answer), what,
+                    [address], port, name, kind, lambda answer: is_there(answer, serial)
+                    or self.has_lost(address, kind, answer), what,
                 )
         self.notes.seen("dnskey", serial)
         self.notes.seen("zone", serial)
+
+    def is_version(self, answer, serial):
+        """Whether an answer has this version or a later one, with the signatures of the zone."""
+        given = [int(text.split()[2]) for text in data_of(answer, "SOA")]
+        # (A server that another provider had may still give a version of that provider.)
+        version = self.versions.get(given[0]) if given else None
+        return version and version.serial >= serial and (
+            {key.tag for key in version.changing} == tags_of(answer, "SOA")
+        )
+
+    def are_keys(self, answer, serial):
+        """Whether an answer has the DNSKEY set of this version or a later one, with its
+        signatures."""
+        keys, tags = data_of(answer, "DNSKEY"), tags_of(answer, "DNSKEY")
+        return any(
+            {key.dnskey for key in version.dnskey} == keys
+            and {key.tag for key in version.signers} <= tags
+            for number, version in self.versions.items() if number >= serial
+        )
 
     def has_lost(self, address, kind, answer):
         """Whether a server has become the other signer's meanwhile, and gives what that one has

@@ -1,20 +1,23 @@
 """A roll, call by call, as in docs/RUNBOOKS.md."""
 
 import asyncio
+import sys
 import time
+from pathlib import Path
 
 from script import EARLY, Refused, rounded_down, rounded_up
 
-RECORDS = {"Dnskey": "dnskey", "Rrsig": "zone", "Ds": "ds"}
-ALGORITHM, DOUBLE_DS = "algorithm-roll", "ksk-double-ds-roll"
+sys.path.append(str(Path(__file__).resolve().parent.parent / "library" / "python"))
+
+from keyset.rolls import ROLLS, WATCHED  # noqa: E402 (it isn't installed)
+
+KSK, DOUBLE_DS, ZSK, DOUBLE_SIGNATURE, CSK, ALGORITHM = ROLLS
 
 
 def spoken_of(actions):
     """The kinds of the sets that actions as `ReportDsPropagated` speak of."""
-    return [
-        kind for record, kind in RECORDS.items()
-        if {f"Report{record}Propagated", f"Wait{record}Propagated"} & set(actions)
-    ]
+    spoken = {WATCHED.get(action) for action in actions}
+    return [kind for kind in ("dnskey", "zone", "ds") if kind in spoken]
 
 
 async def at_moment(moment):

@@ -194,6 +194,15 @@ def main():
         return 0
     if wrong := missing_packages() or problem(arguments):
         sys.exit(wrong)
+    failed = failures(scenes, arguments)
+    if not arguments.scenes:
+        print("not played:", *not_among(scenes))
+    print(f"{len(scenes)} scenes, {failed} failures")
+    return bool(failed)
+
+
+def failures(scenes, arguments):
+    """Plays scenes in one world. Gives how many have failed."""
     from world import World
     limit = arguments.limit or (SHORT if arguments.short else WHOLE)
     print(f"seed {arguments.seed}")
@@ -207,10 +216,7 @@ def main():
             except (*ENDS, Failed) as error:
                 left = " ".join(scene.name for scene in run.left)
                 sys.exit(f"{ENDS.get(type(error), error)}\nnot played to the end: {left}")
-    if not arguments.scenes:
-        print("not played:", *not_among(scenes))
-    print(f"{len(scenes)} scenes, {run.failed} failures")
-    return bool(run.failed)
+    return run.failed
 
 
 if __name__ == "__main__":

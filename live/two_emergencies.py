@@ -4,9 +4,9 @@ of something."""
 import asyncio
 
 from emergencies import begin_signed, bring_in
-from one_signer import CSK, KEYS, KSK, ZSK, hold_back, start_unsigned
+from one_signer import KEYS, hold_back, start_unsigned
 from provider import Provider
-from rolls import ALGORITHM, DOUBLE_DS, Roll
+from rolls import ALGORITHM, CSK, DOUBLE_DS, KSK, ZSK, Roll
 from two_signers import (
     alone, both_perform, change_in_step, end_in_step, in_step_keys, is_named, join, leave,
     roll_of_one, shared, start_in_step,

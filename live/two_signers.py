@@ -4,10 +4,10 @@
 import asyncio
 
 from emergencies import restless
-from one_signer import CSK, KEYS, KSK, ZSK, hold_back, start_unsigned
+from one_signer import KEYS, hold_back, start_unsigned
 from places import CHILD
 from provider import Provider
-from rolls import ALGORITHM, DOUBLE_DS, Roll
+from rolls import ALGORITHM, CSK, DOUBLE_DS, KSK, ZSK, Roll
 
 
 def providers(zone):

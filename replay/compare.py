@@ -65,9 +65,9 @@ EARLY_END = "Rolls can be ended early"
 
 def with_cells(cells):
     """The tables with some cells replaced."""
-    rolls = {roll: dict(rule) for roll, rule in ROLLS.items()}
-    for (roll, part), cell in cells.items():
-        rolls[roll][part] = cell
+    rolls = dict(ROLLS)
+    for (roll, column), cell in cells.items():
+        rolls[roll] = rolls[roll]._replace(**{column: cell})
     return rolls
 
 

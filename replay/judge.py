@@ -6,17 +6,16 @@ up to n and that no report has retired. The record is safe if at each position e
 set, a DNSKEY set and a set of zone signers that caches may hold has a chain of trust.
 """
 
+import sys
+from pathlib import Path
 from typing import NamedTuple, Optional
 
+sys.path.append(str(Path(__file__).resolve().parent.parent / "library" / "python"))
+
+from keyset.rolls import ROLLS  # noqa: E402 (it isn't installed)
+
 # The kinds of sets that the first and the second report of a roll speak of.
-SPEAKS_OF = {
-    "ksk-roll": ("dnskey", "ds"),
-    "ksk-double-ds-roll": ("ds", "dnskey"),
-    "zsk-roll": ("dnskey", "zone"),
-    "zsk-double-signature-roll": ("dnskey zone", "dnskey zone"),
-    "csk-roll": ("dnskey", "ds zone"),
-    "algorithm-roll": ("dnskey zone", "ds"),
-}
+SPEAKS_OF = {roll: row.watched[:2] for roll, row in ROLLS.items()}
 
 
 class Report(NamedTuple):
@@ -70,7 +69,7 @@ def is_retired(record, kind, q, n):
         report, moment = record[at].report, record[at].moment
         if report is None or moment is None:
             continue
-        if kind not in SPEAKS_OF[report.roll][report.second].split():
+        if kind not in SPEAKS_OF[report.roll][report.second]:
             continue
         counted_from = base(record, at)
         if counted_from is None or q >= counted_from:

@@ -51,7 +51,7 @@ class Script:
         types = list(ROLLS)
         self.wanted = [types[number % 6]]
         self.first_roll(self.wanted[0])
-        neighbours = ROLLS[self.wanted[0]]["tolerates"].split() or types
+        neighbours = [*filter(ROLLS[self.wanted[0]].tolerates, types)] or types
         self.wanted += self.random.choice([[], [self.random.choice(types)], neighbours[-1:]])
         self.run()
 
@@ -109,7 +109,7 @@ class Script:
     def first_roll(self, after):
         """The algorithm roll without old keys that gives the zone its chain."""
         kinds = [["ksk", "zsk"], ["ksk", "zsk"], ["ksk", "csk", "zsk"]]
-        if after in ("csk-roll", "algorithm-roll"):
+        if len(ROLLS[after].kinds) > 1:
             kinds += [["csk"], ["zsk", "csk"]]
         new = [self.add(kind) for kind in self.random.choice(kinds)]
         self.call("start", "algorithm-roll", "-", ",".join(new), self.tick())
@@ -137,17 +137,17 @@ class Script:
         return not rolls or self.chance(0.5) and self.tolerates(roll)
 
     def tolerates(self, roll):
-        return all(other in ROLLS[roll]["tolerates"].split() for other in self.keyset.phases)
+        return all(map(ROLLS[roll].tolerates, self.keyset.phases))
 
     def start(self, roll):
         """Starts a roll from keys in use to new ones of the same algorithms."""
-        kinds = ROLLS[roll]["kinds"].split()
+        kinds = [*ROLLS[roll].kinds]
         old = self.some(self.named(kinds, "!old present | !old signer"))
         if self.chance(0.1):
             old += self.named(kinds, "stale")[:1]
         fresh = self.random.choice([["csk"], ["ksk", "zsk"]]) if len(kinds) > 1 else kinds
         algorithms = {self.keyset.keys[name].algorithm for name in old}
-        if roll == "algorithm-roll":
+        if not ROLLS[roll].same_algorithms:
             algorithms = {self.random.choice([8, 13, 15])}
         if self.chance(0.2):
             fresh = fresh + fresh[:1]
@@ -231,7 +231,7 @@ class Script:
         )
         rolls = self.keyset.phases if cause == "again" else filter(self.tolerates, ROLLS)
         roll = self.random.choice(sorted(rolls) or list(ROLLS))
-        kinds = ROLLS[roll]["kinds"].split()
+        kinds = [*ROLLS[roll].kinds]
         old = self.named(kinds, "!old present")
         new = self.named(kinds, "!old !present !signer !at_parent")[:1]
         if not new:

@@ -3,154 +3,14 @@
     python3 tables.py < SCRIPT
 
 This is written only from the tables, and shares no text with the key set that is proved or with the
-original. A roll is one entry of ROLLS, and the code below has no case for any roll.
-
-A role is one of a key's states. A KSK has one, and so has a ZSK. A CSK has two: the first as KSK,
-the second as ZSK. The tables pick roles by these words:
-
-    K, Z     the state of a KSK, of a ZSK
-    KSK      the state of a KSK, the first state of a CSK
-    ZSK      the state of a ZSK, the second state of a CSK
-    first    the first state of a KSK, a ZSK or a CSK
-    zone     the first state of a ZSK or a CSK
-    whole    as first, but a change goes to all states of the key
-    any      the first state of a key of any kind, a public key included
-
-and then by a condition on the flags before the call: 'old !present' is old and not present, and a
-bar between two conditions means that one is enough.
+original. A roll is one row of ROLLS, which has the words that pick roles, and the code below has no
+case for any roll. The word 'any' picks the first state of a key of any kind, a public key included.
 """
 
 import sys
 
 from judge import NEW_SET, Position, Report, chain_line
-
-# For each roll: the kinds of key that its lists may name; the flags and the stamp that the start
-# gives a new key; which keys make the start suited; which stamps the reports set; which stamp of
-# which keys the waits read; what an accepted wait writes; the actions of the phases, and of an
-# early end.
-ROLLS = {
-    "ksk-roll": {
-        "kinds": "ksk",
-        "tolerates": "zsk-roll zsk-double-signature-roll",
-        "same algorithms": True,
-        "new": [("K", "+present +signer published")],
-        "suited": [("K", "!old present")],
-        "report1": [("K", "!old present", "visible")],
-        "report2": [("K", "!old at_parent", "ds_visible")],
-        "wait1": ("visible", "K", "old !stale | !old present"),
-        "wait2": ("ds_visible", "K", "old !stale | !old at_parent"),
-        "change1": [("K", "old present", "-at_parent"), ("K", "!old present", "+at_parent")],
-        "change2": [("K", "old present", "-signer -present withdrawn")],
-        "started": "UpdateDnskeyRrset ReportDnskeyPropagated",
-        "halfway": "CreateCdsRrset UpdateDsRrset ReportDsPropagated",
-        "ended": "RemoveCdsRrset UpdateDnskeyRrset WaitDnskeyPropagated",
-        "early": "UpdateDnskeyRrset WaitDnskeyPropagated",
-    },
-    "ksk-double-ds-roll": {
-        "kinds": "ksk",
-        "tolerates": "zsk-roll zsk-double-signature-roll",
-        "same algorithms": True,
-        "new": [("K", "+at_parent")],
-        "suited": [("K", "!old at_parent")],
-        "report1": [("K", "!old at_parent", "ds_visible")],
-        "report2": [("K", "!old present", "visible")],
-        "wait1": ("ds_visible", "K", "!old at_parent"),
-        "wait2": ("visible", "K", "!old present"),
-        "change1": [
-            ("K", "old present", "-present -signer"),
-            ("K", "!old at_parent", "+present +signer published"),
-        ],
-        "change2": [("K", "old at_parent", "-at_parent withdrawn")],
-        "started": "CreateCdsRrset UpdateDsRrset ReportDsPropagated",
-        "halfway": "RemoveCdsRrset UpdateDnskeyRrset ReportDnskeyPropagated",
-        "ended": "CreateCdsRrset UpdateDsRrset WaitDsPropagated",
-        "early": "CreateCdsRrset UpdateDsRrset WaitDsPropagated",
-    },
-    "zsk-roll": {
-        "kinds": "zsk",
-        "tolerates": "ksk-roll ksk-double-ds-roll",
-        "same algorithms": True,
-        "new": [("Z", "+present published")],
-        "suited": [("Z", "!old present")],
-        "report1": [("Z", "!old present", "visible")],
-        "report2": [("Z", "!old signer", "rrsig_visible")],
-        "wait1": ("visible", "Z", "!old present"),
-        "wait2": ("rrsig_visible", "Z", "!old signer"),
-        "change1": [("Z", "!old present", "+signer"), ("Z", "old", "-signer")],
-        "change2": [("Z", "old !signer", "-present withdrawn")],
-        "started": "UpdateDnskeyRrset ReportDnskeyPropagated",
-        "halfway": "UpdateRrsig ReportRrsigPropagated",
-        "ended": "UpdateDnskeyRrset WaitDnskeyPropagated",
-        "early": "UpdateDnskeyRrset WaitDnskeyPropagated",
-    },
-    "zsk-double-signature-roll": {
-        "kinds": "zsk",
-        "tolerates": "ksk-roll ksk-double-ds-roll",
-        "same algorithms": True,
-        "new": [("Z", "+present +signer published")],
-        "suited": [("Z", "!old present")],
-        "report1": [("Z", "!old present", "visible rrsig_visible")],
-        "report2": [],
-        "wait1": ("visible", "Z", "!old present"),
-        "wait2": ("rrsig_visible", "Z", "!old signer"),
-        "change1": [("Z", "old", "-present -signer withdrawn")],
-        "change2": [],
-        "started": "UpdateDnskeyRrset UpdateRrsig ReportDnskeyPropagated ReportRrsigPropagated",
-        "halfway": "UpdateDnskeyRrset UpdateRrsig ReportDnskeyPropagated ReportRrsigPropagated",
-        "ended": "",
-        "early": "UpdateDnskeyRrset UpdateRrsig WaitDnskeyPropagated WaitRrsigPropagated",
-    },
-    "csk-roll": {
-        "kinds": "ksk zsk csk",
-        "tolerates": "",
-        "same algorithms": True,
-        "new": [("KSK", "+present +signer published"), ("ZSK", "+present published")],
-        "suited": [("KSK", "!old present"), ("ZSK", "!old present")],
-        "report1": [("first", "!old present", "visible")],
-        "report2": [
-            ("KSK", "!old present", "ds_visible"),
-            ("ZSK", "!old signer", "rrsig_visible"),
-        ],
-        "wait1": ("visible", "first", "!old present"),
-        "wait2": ("rrsig_visible", "ZSK", "!old signer"),
-        "change1": [
-            ("KSK", "old present", "-at_parent"),
-            ("KSK", "!old present", "+at_parent"),
-            ("ZSK", "!old present", "+signer"),
-            ("ZSK", "old", "-signer"),
-        ],
-        "change2": [
-            ("KSK", "old present", "-signer -present withdrawn"),
-            ("ZSK", "old !signer", "-present withdrawn"),
-        ],
-        "started": "UpdateDnskeyRrset ReportDnskeyPropagated",
-        "halfway": "CreateCdsRrset UpdateDsRrset UpdateRrsig"
-        " ReportDsPropagated ReportRrsigPropagated",
-        "ended": "RemoveCdsRrset UpdateDnskeyRrset WaitDnskeyPropagated",
-        "early": "UpdateDnskeyRrset WaitDnskeyPropagated",
-    },
-    "algorithm-roll": {
-        "kinds": "ksk zsk csk",
-        "tolerates": "",
-        "same algorithms": False,
-        "new": [("KSK", "+present +signer published"), ("ZSK", "+present +signer published")],
-        "suited": [("KSK", "!old present"), ("ZSK", "!old present")],
-        "report1": [
-            ("first", "!old present", "visible"),
-            ("zone", "!old present", "rrsig_visible"),
-        ],
-        "report2": [("KSK", "!old present", "ds_visible")],
-        "wait1": ("visible", "first", "!old present"),
-        "wait2": ("ds_visible", "KSK", "!old signer"),
-        "change1": [("KSK", "old present", "-at_parent"), ("KSK", "!old present", "+at_parent")],
-        "change2": [("whole", "old present", "-signer -present withdrawn")],
-        "started": "UpdateDnskeyRrset UpdateRrsig ReportDnskeyPropagated ReportRrsigPropagated",
-        "halfway": "CreateCdsRrset UpdateDsRrset ReportDsPropagated",
-        "ended": "RemoveCdsRrset UpdateDnskeyRrset UpdateRrsig"
-        " WaitDnskeyPropagated WaitRrsigPropagated",
-        "early": "UpdateDnskeyRrset UpdateRrsig WaitDnskeyPropagated WaitRrsigPropagated",
-    },
-}
+from keyset.rolls import CALLS, ROLLS, TIMED
 
 # Which state a word picks, by the kind of key.
 ROLES = {
@@ -161,10 +21,7 @@ ROLES = {
 }
 
 # A phase has the name of the call that it waits for. The phase after it:
-PHASES = {"report1": "wait1", "wait1": "report2", "report2": "wait2", "wait2": "done"}
-
-# The calls on rolls that have a moment, as their last field.
-MOMENTS = ("start", "report1", "wait1", "report2", "wait2")
+PHASES = dict(zip(CALLS[1:], CALLS[2:]))
 
 # The setters that write a flag.
 FLAG_SETTERS = ("set-present", "set-signer", "set-at-parent", "set-stale")
@@ -254,7 +111,7 @@ class KeySet:
 
     def position(self, word, fields, accepted):
         """What the position of this call has."""
-        moment = int(fields[-1]) if word == "set-present" or word in MOMENTS else None
+        moment = int(fields[-1]) if word == "set-present" or word in TIMED else None
         step = fields[0] if accepted and word in ("start", "wait1") else None
         report = None
         if accepted and word in ("report1", "report2"):
@@ -276,7 +133,7 @@ class KeySet:
         if word == "start":
             cause = self.start_refusal(*fields[:3])
             return "refused: " + cause if cause else None
-        if word in ("report1", "wait1", "report2", "wait2", "done"):
+        if word in CALLS[1:]:
             phase, ttl = self.phases.get(fields[0], (None, 0))
             if phase != word:
                 return "refused: wrong roll state for operation"
@@ -302,12 +159,12 @@ class KeySet:
         old, new = ([] if names == "-" else names.split(",") for names in (old, new))
         if roll in self.phases:
             return "wrong roll state for operation"
-        if any(other not in rule["tolerates"].split() for other in self.phases):
+        if not all(map(rule.tolerates, self.phases)):
             return "conflicting roll is in progress"
-        if cause := self.list_refusal(rule["kinds"].split(), old, new):
+        if cause := self.list_refusal(rule.kinds, old, new):
             return cause
         algorithms = [{self.keys[name].algorithm for name in names} for names in (old, new)]
-        if rule["same algorithms"] and algorithms[0] != algorithms[1]:
+        if rule.same_algorithms and algorithms[0] != algorithms[1]:
             return "algorithm set mismatch for non-algorithm key roll"
         return None if self.is_suited(rule, old, new) else NOT_SUITED
 
@@ -330,7 +187,7 @@ class KeySet:
         """Whether the zone would have what it needs after this start. Nothing changes."""
         before = {name: [set(state) for state in self.keys[name].states] for name in old + new}
         self.mark(rule, old, new, None)
-        suited = all(self.picked(*wanted) for wanted in rule["suited"])
+        suited = all(self.picked(*wanted) for wanted in rule.suited)
         for name, states in before.items():
             self.keys[name].states = states
         return suited
@@ -341,14 +198,14 @@ class KeySet:
             for state in self.keys[name].states:
                 state.add("old")
         for name in new:
-            for word, change in rule["new"]:
+            for word, change in rule.new:
                 number = self.keys[name].role(word)
                 if number is not None:
                     write(self.keys[name], number, change, now)
 
     def checked(self, word, roll):
         """The stamps that a wait reads; None for a key that lacks it."""
-        stamp, roles, condition = self.rolls[roll][word]
+        stamp, roles, condition = getattr(self.rolls[roll], word)
         return [key.stamps.get(stamp) for key, _ in self.picked(roles, condition)]
 
     def waits(self, word, roll, ttl, now):
@@ -411,12 +268,12 @@ class KeySet:
             self.listed[roll] = set(kept), set(new)
             self.mark(rule, old, new, now)
             self.phases[roll] = ("report1", 0)
-            return " ".join(["ok", rule["started"]])
+            return " ".join(["ok", rule.started])
         if word == "report1":
             del self.listed[roll]
         ttl = int(fields[0]) if word.startswith("report") else 0
         self.phases[roll] = (PHASES[word], ttl)
-        changes = rule[word.replace("wait", "change")]
+        changes = getattr(rule, word.replace("wait", "change"))
         writes = [
             (key, target, change)
             for picked, condition, change in changes
@@ -425,7 +282,7 @@ class KeySet:
         ]
         for key, target, change in writes:
             write(key, target, change, now)
-        actions = {"wait1": rule["halfway"], "wait2": rule["ended"]}.get(word, "")
+        actions = {"wait1": rule.halfway, "wait2": rule.ended}.get(word, "")
         return " ".join(["ok", *actions.split()])
 
     def forget(self, name):
@@ -443,11 +300,11 @@ class KeySet:
             for state in self.keys[name].states:
                 state.discard("old")
         for name in new:
-            for word, change in rule["new"]:
+            for word, change in rule.new:
                 number = self.keys[name].role(word)
                 if number is not None:
                     self.keys[name].states[number] -= set(change.replace("+", "").split())
-        return " ".join(["ok", *rule["early"].split()])
+        return " ".join(["ok", *rule.early.split()])
 
     def published(self):
         """The line of the published sets."""

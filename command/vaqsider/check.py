@@ -14,6 +14,7 @@ from typing import TYPE_CHECKING, Iterable, Iterator, cast
 from keyset import Lines, Notes
 from keyset.lines import OF_CLOCK
 from keyset.members import roles_of
+from keyset.rolls import ALGORITHM_ROLL, rolls_of
 
 from . import looks, resting, status, words
 from .errors import BROKEN, DUE, OK, WARNING, failure_of
@@ -22,7 +23,7 @@ from .history import SAFE, Call, History
 if TYPE_CHECKING:
     from keyset.members import RoleMembers, Status
 
-KSK_ROLLS = ("ksk-roll", "ksk-double-ds-roll", "csk-roll")
+KSK_ROLLS = (*rolls_of("ksk"), *rolls_of("csk"))
 # After this time a look is of the past: with it nobody says that all is well.
 DAY = 86400
 AT = re.compile(r"(?:line (\d+): )?(.*)", re.DOTALL)
@@ -142,7 +143,7 @@ def _of_moments(history: History, now: float) -> Iterator[tuple[int, str]]:
         line = call.line
         if line.word == "start" and line.roll in KSK_ROLLS and not is_signed:
             yield call.number, f"a {line.roll} before the first algorithm-roll breaks a zone"
-        is_signed |= (line.word, line.roll) == ("wait1", "algorithm-roll")
+        is_signed |= (line.word, line.roll) == ("wait1", ALGORITHM_ROLL)
         if line.word in OF_CLOCK and call.moment <= now:
             latest = call if latest is None or call.moment > latest.moment else latest
 

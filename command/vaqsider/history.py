@@ -71,7 +71,7 @@ class History:
         """The step that an accepted report counts from: the start of its roll, or its first wait.
         With it come the kinds of sets that it asked for."""
         step = self._steps[report.number]
-        return step, words.kinds_of(step.actions, of=["Report"])
+        return step, words.kinds_of(step.actions, of="Report")
 
     def reported(self, reports: Iterable[Call]) -> Iterator[Reported]:
         """What these reports say, of those that `calls` has."""

@@ -12,6 +12,7 @@ from dataclasses import dataclass
 from pathlib import Path
 
 from keyset.lines import NAMES
+from keyset.rolls import ALGORITHM_ROLL, ROLLS
 
 from . import plan, signers, words
 from .check import Finding
@@ -72,7 +73,7 @@ def _of_rolls(policy: Policy, spans: Spans) -> Iterator[Finding]:
 
 
 def _lifetime(roll: str) -> str:
-    return f"{roll[:3]}-lifetime"
+    return f"{ROLLS[roll].renews}-lifetime"
 
 
 def takes_of(policy: Policy, roll: str, spans: Spans, signer: Planned | None = None) -> int:
@@ -81,9 +82,9 @@ def takes_of(policy: Policy, roll: str, spans: Spans, signer: Planned | None = N
     kinds = policy.roles
     adds = [f"add-{kind} {kind}{age} - {policy.algorithm} {tag} 0 yes"
             for tag, (kind, age) in enumerate((kind, age) for kind in kinds for age in (1, 2))]
-    olds, role = ",".join(f"{kind}1" for kind in kinds), roll[:3]
+    olds, role = ",".join(f"{kind}1" for kind in kinds), ROLLS[roll].renews
     made = plan.Plan([f"zone {EXAMPLE}", *adds], BEGIN, spans.ttls, spans.delays, signer)
-    made.roll("algorithm-roll", "-", olds)
+    made.roll(ALGORITHM_ROLL, "-", olds)
     begun = made.moment
     made.roll(roll, f"{role}1", f"{role}2")
     return made.moment - begun + 4 * policy.clock

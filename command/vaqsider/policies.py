@@ -12,6 +12,7 @@ from typing import Callable, Mapping, NamedTuple, Sequence
 
 from keyset.lines import ALGORITHMS, NAMES
 from keyset.notes import path_of
+from keyset.rolls import CSK_ROLL, KSK_ROLL, ROLLS, ZSK_ROLL, rolls_of
 
 from .errors import Failure
 
@@ -21,9 +22,7 @@ UNITS = {"s": 1, "min": 60, "h": HOUR, "d": DAY, "w": 7 * DAY}
 SPAN = re.compile(r"(\d{1,12})(s|min|h|d|w)?")
 LONGEST = 2**62
 # The rolls of a scheme: KSKs and ZSKs, or CSKs.
-KSK_ROLLS = ("ksk-roll", "ksk-double-ds-roll")
-ZSK_ROLLS = ("zsk-roll", "zsk-double-signature-roll")
-CSK_ROLL = "csk-roll"
+KSK_ROLLS, ZSK_ROLLS = rolls_of("ksk"), rolls_of("zsk")
 PARENTS = ("cds", "hook", "ask")
 
 
@@ -45,7 +44,7 @@ class Commands(NamedTuple):
 class Policy:
     """What an operator wants of a zone. Time spans are in seconds, and None means never or none."""
 
-    policy: Base = Base(13, ("ksk-roll", "zsk-roll"))
+    policy: Base = Base(13, (KSK_ROLL, ZSK_ROLL))
     ksk_lifetime: int | None = None
     zsk_lifetime: int | None = None
     csk_lifetime: int | None = None
@@ -88,8 +87,8 @@ class Policy:
 
     @property
     def roles(self) -> tuple[str, ...]:
-        """The roles of the keys: `csk`, or `ksk` and `zsk`. A roll's name begins with its role."""
-        return tuple(roll[:3] for roll in self.rolls)
+        """The roles of the keys: `csk`, or `ksk` and `zsk`."""
+        return tuple(ROLLS[roll].renews for roll in self.rolls)
 
     @property
     def renews_before(self) -> int:
@@ -98,7 +97,7 @@ class Policy:
 
     def lifetimes(self) -> dict[str, int | None]:
         """The lifetime of the keys that each roll renews."""
-        return {roll: getattr(self, f"{roll[:3]}_lifetime") for roll in self.rolls}
+        return {roll: getattr(self, f"{ROLLS[roll].renews}_lifetime") for roll in self.rolls}
 
     def for_program(self, asked: dict[str, int], now: float) -> list[str]:
         """The lines of the policy for the program, with the moments at which rolls of a role were

@@ -16,6 +16,7 @@ from typing import TYPE_CHECKING
 from keyset import Notes, WrongArgument
 from keyset.lines import Line
 from keyset.notes import Seen
+from keyset.rolls import TIMED
 
 from . import act, advice, calling, hooks, linting, parents, parsing, plan, policies, resting
 from . import shortnames, signers, status, watching, words
@@ -93,7 +94,7 @@ class Tick:
     def _expect_clock(self) -> None:
         """No line lies ahead of the clock. Else it was set back, and no moment of now is right."""
         moments = [Line(line).moment or 0 for line in self.lines
-                   if line.partition(" ")[0] in ("start", "report1", "wait1", "report2", "wait2")]
+                   if line.partition(" ")[0] in TIMED]
         moments += [int(line.rpartition(" ")[2]) for line in self.notes.lines[1:]]
         last = max(moments, default=0)
         if last > int(self.clock()):

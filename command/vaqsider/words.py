@@ -2,8 +2,9 @@
 
 from __future__ import annotations
 
-import re
-from typing import TYPE_CHECKING, Container, Iterable, Iterator, Mapping
+from typing import TYPE_CHECKING, Iterable, Iterator, Mapping
+
+from keyset.rolls import WATCHED
 
 from .errors import Failure
 
@@ -19,13 +20,12 @@ ACTIONS = {
     "RemoveCdsRrset": "CDS and CDNSKEY are out by now",
     "UpdateDsRrset": "have the parent's DS set changed to {ds}",
 }
-# The kind of sets that an action asks to watch, and what it asks.
-WATCHED = {
-    "Dnskey": ("dnskey", "watch until all servers of the zone give this DNSKEY set"),
-    "Rrsig": ("zone", "watch until all servers of the zone give these signatures"),
-    "Ds": ("ds", "watch until all servers of the parent give this DS set"),
+# What an action asks that has sets of a kind watched.
+WATCHES = {
+    "dnskey": "watch until all servers of the zone give this DNSKEY set",
+    "zone": "watch until all servers of the zone give these signatures",
+    "ds": "watch until all servers of the parent give this DS set",
 }
-_WATCH = re.compile(r"(?P<for>Report|Wait)(?P<what>\w+)Propagated")
 
 # What to do about a refusal, by how its text begins.
 REFUSALS = {
@@ -54,14 +54,13 @@ def asks(actions: Iterable[str], published: Mapping[str, Iterable[str]]) -> Iter
     """What actions ask, in plain words."""
     sets = {kind: listed(keys) for kind, keys in published.items()}
     for name in actions:
-        watch = _WATCH.fullmatch(name)
-        yield WATCHED[watch["what"]][1] if watch else ACTIONS[name].format(**sets)
+        yield WATCHES[WATCHED[name]] if name in WATCHED else ACTIONS[name].format(**sets)
 
 
-def kinds_of(actions: Iterable[str], of: Container[str] = ("Report", "Wait")) -> list[str]:
-    """The kinds of sets that these actions ask to watch: `dnskey`, `zone` or `ds`."""
-    found = filter(None, map(_WATCH.fullmatch, actions))
-    return [WATCHED[watch["what"]][0] for watch in found if watch["for"] in of]
+def kinds_of(actions: Iterable[str], of: str = "") -> list[str]:
+    """The kinds of sets that these actions ask to watch: `dnskey`, `zone` or `ds`. The names of the
+    actions may have to begin with a word."""
+    return [WATCHED[name] for name in actions if name in WATCHED and name.startswith(of)]
 
 
 def refusal(reason: str) -> str:

@@ -347,8 +347,13 @@ def hooks():
             said = str(failure)
         if says not in said:
             yield f"hook {command}: {said}"
+    yield from hook_asks()
     if "it says" not in _said(lambda: Hook(ZONE, "echo '{\"dnskey\": -1, \"zone\": 5}'").ttls()):
         yield "hook: a TTL below 0 is taken"
+
+
+def hook_asks():
+    """A hook is asked for all that a signer needs to know of a key."""
     with folder():
         keys, name = make(), "pkcs11:id=%01"
         of = keys["K1"].file

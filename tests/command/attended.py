@@ -75,7 +75,7 @@ def silent() -> Iterator[str]:
 
 
 def late() -> Iterator[str]:
-    """A parent that takes too long: a person is told that, and not what is published after it."""
+    """A parent that takes too long: a person is told that, not of what is published after it."""
     world = World(reads_cds=False, believes=False)
     with folder(), living(world, "parent hook\non-ds registrar\npatience 10min\non-event tell\n"):
         list(passing(world, 3600))

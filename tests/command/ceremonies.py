@@ -91,7 +91,8 @@ def _expiration(line: str) -> int:
 
 
 def planned():
-    """A ceremony has the sets of a roll that comes: with the next key, and without the old one."""
+    """A ceremony has the sets of a roll that comes: the next key's, then that without the old
+    one."""
     with folder():
         begin()
         tag, data = testkeys.add(13, 256)

@@ -358,6 +358,20 @@ STAY = {"Knot": r"knot:id\d+", "OpenDNSSEC": r"pkcs11:id=(%[0-9a-f]{2})+",
 def references():
     """What a private half is called that stays in its store, by its source and in the script; but
     one that is here is a file."""
+    yield from of_sources()
+    yield from of_pdns()
+    for is_here, wanted in ((False, f"{KSK} knot:id 13"), (True, f"{KSK} {KSK[:-4]}.private 13")):
+        with folder(), mock.patch.dict(importing.SOURCES, bind=_stored):
+            serve()
+            if is_here:
+                Path(KSK).with_suffix(".private").touch()
+            said, ends = typed([*ASKED, "--unchanged"], 1000)
+            text = Path("new.script").read_text() if Path("new.script").exists() else ""
+        if ends or wanted not in text:
+            yield f"an import of keys in a store ends with {ends}: {said}{text}"
+
+
+def of_sources():
     for name, tell, _, _ in ROWS:
         if name in STAY:
             with folder():
@@ -365,6 +379,10 @@ def references():
                 found = {it.reference for it in keys if it.private is None}
             if len(found) != 2 or not all(re.fullmatch(STAY[name], str(it)) for it in found):
                 yield f"{name} calls private halves {found}"
+
+
+def of_pdns():
+    """Its keys come out as files, or stay."""
     for words, wanted in (([], f"{KSK} {KSK[:-4]}.private 13"), (["--stay"], f"{KSK} pdns:1 13")):
         fake = stores.Pdns()
         with folder(), fake.installed():
@@ -377,15 +395,6 @@ def references():
             is_out = Path(KSK).with_suffix(".private").is_file()
         if ends or wanted not in text or is_out == bool(words):
             yield f"an import of PowerDNS's keys {words} ends with {ends}: {said}{text}"
-    for is_here, wanted in ((False, f"{KSK} knot:id 13"), (True, f"{KSK} {KSK[:-4]}.private 13")):
-        with folder(), mock.patch.dict(importing.SOURCES, bind=_stored):
-            serve()
-            if is_here:
-                Path(KSK).with_suffix(".private").touch()
-            said, ends = typed([*ASKED, "--unchanged"], 1000)
-            text = Path("new.script").read_text() if Path("new.script").exists() else ""
-        if ends or wanted not in text:
-            yield f"an import of keys in a store ends with {ends}: {said}{text}"
 
 
 def _stored(*_):

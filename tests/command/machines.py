@@ -76,6 +76,12 @@ class Machines:
         world.caches()
         return status, said
 
+    def ticks(self, world: World, name: str) -> None:
+        """A dozen ticks of one machine, two minutes apart."""
+        for _ in range(12):
+            self.tick(world, name)
+            world.passes(120)
+
     def lines(self, name: str) -> list[str]:
         return (Path(name) / f"{ZONE}.script").read_text().splitlines()
 
@@ -229,9 +235,7 @@ def by_hand(postgres: Store) -> Iterator[str]:
     """Words that a person types on one machine are those of all."""
     world = World()
     with shared(postgres, world) as machines:
-        for _ in range(12):
-            machines.tick(world, "one")
-            world.passes(120)
+        machines.ticks(world, "one")
         store = ["--store", machines.url]
         for words, wanted in (
             (["roll", f"two/{ZONE}.script", "zsk", "--yes"], 1),
@@ -244,9 +248,7 @@ def by_hand(postgres: Store) -> Iterator[str]:
             said, status = typed([*words, *store], world.now)
             if status != wanted:
                 yield f"{words} ends with {status}: {said}"
-        for _ in range(12):
-            machines.tick(world, "two")
-            world.passes(120)
+        machines.ticks(world, "two")
         machines.tick(world, "one")
         ends = machines.lines("one"), machines.lines("two")
         if ends[0] != ends[1] or "done zsk-roll" not in ends[0]:

@@ -11,20 +11,14 @@ import time
 from pathlib import Path
 from unittest import mock
 
+from keyset.rolls import ROLLS
 from tests.command import page_commands, pieces, roll_pictures, testkeys
 from tests.command.roll_pictures import answers, examples
 from tests.command.terminal import TOP, folder, private_halves, typed
 from tests.command.time_taken import lengths
 
-# The calls of a roll, by the kinds of sets that its start and its two waits ask to watch.
-ROLLS = {
-    "ksk-roll": ("K1", "K2", "dnskey", "ds", "dnskey"),
-    "ksk-double-ds-roll": ("K1", "K2", "ds", "dnskey", "ds"),
-    "zsk-roll": ("Z1", "Z2", "dnskey", "zone", "dnskey"),
-    "zsk-double-signature-roll": ("Z1", "Z2", "dnskey zone", "dnskey zone", ""),
-    "csk-roll": ("K1,Z1", "C1", "dnskey", "ds zone", "dnskey"),
-    "algorithm-roll": ("K1,Z1", "C1", "dnskey zone", "ds", "dnskey zone"),
-}
+# The old keys of a roll and its new one, by the roles that it rolls.
+LISTS = {("ksk",): ("K1", "K2"), ("zsk",): ("Z1", "Z2"), ("ksk", "zsk"): ("K1,Z1", "C1")}
 KEYS = {"K2": "add-ksk K2 - 13", "Z2": "add-zsk Z2 - 13", "C1": "add-csk C1 - 13"}
 TTLS = {"ds": 300, "dnskey": 60, "zone": 120}
 DELAYS = {"ds": 50, "dnskey": 5, "zone": 7}
@@ -83,7 +77,7 @@ FALSE = {"false-moment.script"}
 
 def course(roll):
     """The moments and TTLs of a roll with these TTLs and delays, by docs/RUNBOOKS.md."""
-    *_, first, second, last = (kinds.split() for kinds in ROLLS[roll])
+    first, second, last = ROLLS[roll].watched
 
     def spread(kinds):
         # After a DS set CDS leaves the zone too.
@@ -109,42 +103,55 @@ def plans():
     """The plan of each roll has the moments, TTLs, sets and verdicts that the guides and the tables
     say; and its lines are accepted one by one by `call`."""
     first = (TOP / "examples" / "ksk-roll.script").read_text().splitlines()[:9]
-    for roll, (old, new, *_) in ROLLS.items():
-        report1, ttl1, wait1, report2, ttl2, wait2, end = course(roll)
-        add = f"{KEYS[new]} 9 {BEGIN} yes"
-        wanted = [
-            (BEGIN, add),
-            (BEGIN, f"start {roll} {old} {new} {BEGIN}"),
-            (report1, f"report1 {roll} {ttl1} {report1}"),
-            (wait1, f"wait1 {roll} {wait1}"),
-            (report2, f"report2 {roll} {ttl2} {report2}"),
-            (wait2, f"wait2 {roll} {wait2}"),
-            (end, f"done {roll}"),
-            *((end, f"delete {key}") for key in old.split(",")),
-        ]
-        Path("plan.script").write_text("".join(f"{line}\n" for line in first))
-        words = ["plan", "plan.script", roll, old, new, "--first", add, "--start", BEGIN]
+    text = "".join(f"{line}\n" for line in first)
+    for roll, row in ROLLS.items():
+        old, new = LISTS[row.roles]
+        wanted = planned(roll, old, new)
+        Path("plan.script").write_text(text)
+        words = ["plan", "plan.script", roll, old, new, "--first", wanted[0][1], "--start", BEGIN]
         words += ["--ttls", *TTLS.values(), "--delays", *(DELAYS[kind] for kind in TTLS)]
         steps = json.loads(typed([*words, "--json"])[0])
         if [(step["moment"], step["line"]) for step in steps] != wanted:
             yield f"{roll}: the plan has other calls"
-        lines = list(first)
-        for step in steps:
-            lines.append(step["line"])
-            replies, sets, verdict = answers(lines)
-            shown = {kind: set(keys) for kind, keys in step["published"].items()}
-            reply = " ".join(["ok", *step["actions"]])
-            if (replies[-1], sets, verdict) != (reply, shown, "chain safe"):
-                yield f"{roll}: {step['line']}: the tables say {replies[-1]}, {sets}, {verdict}"
-            text, status = typed(["call", "plan.script", step["line"]], step["moment"])
-            if status or not text.startswith(f"{step['line']}: ok"):
-                yield f"{roll}: {text}"
+        yield from called(roll, first, steps)
+        lines = [*first, *(step["line"] for step in steps)]
         if Path("plan.script").read_text().splitlines() != lines:
             yield f"{roll}: other lines were kept"
-        Path("plan.script").write_text("".join(f"{line}\n" for line in first))
+        Path("plan.script").write_text(text)
         if typed([*words, "--script"])[0].splitlines() != lines[9:]:
             yield f"{roll}: --script prints other lines"
         yield from events(typed([*words, "--calendar"])[0], wanted)
+
+
+def planned(roll, old, new):
+    """The lines of a roll, each with its moment."""
+    report1, ttl1, wait1, report2, ttl2, wait2, end = course(roll)
+    return [
+        (BEGIN, f"{KEYS[new]} 9 {BEGIN} yes"),
+        (BEGIN, f"start {roll} {old} {new} {BEGIN}"),
+        (report1, f"report1 {roll} {ttl1} {report1}"),
+        (wait1, f"wait1 {roll} {wait1}"),
+        (report2, f"report2 {roll} {ttl2} {report2}"),
+        (wait2, f"wait2 {roll} {wait2}"),
+        (end, f"done {roll}"),
+        *((end, f"delete {key}") for key in old.split(",")),
+    ]
+
+
+def called(roll, first, steps):
+    """Each step after these lines has the reply and the sets of the tables, and `call` accepts
+    it."""
+    lines = list(first)
+    for step in steps:
+        lines.append(step["line"])
+        replies, sets, verdict = answers(lines)
+        shown = {kind: set(keys) for kind, keys in step["published"].items()}
+        reply = " ".join(["ok", *step["actions"]])
+        if (replies[-1], sets, verdict) != (reply, shown, "chain safe"):
+            yield f"{roll}: {step['line']}: the tables say {replies[-1]}, {sets}, {verdict}"
+        text, status = typed(["call", "plan.script", step["line"]], step["moment"])
+        if status or not text.startswith(f"{step['line']}: ok"):
+            yield f"{roll}: {text}"
 
 
 def events(text, wanted):

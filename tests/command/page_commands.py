@@ -9,8 +9,8 @@ from tests.command.terminal import TOP, typed
 
 PAGES = sorted({*TOP.glob("*.md"), *TOP.glob("docs/*.md"), *TOP.glob("*/README.md")})
 PAGES = [it for it in PAGES if it.name != "CHANGELOG.md"]
-WORDS = ("init|import|call|status|check|plan|draw|act|ceremony|watch|zones|policy|tick|roll|next"
-         "|store")
+WORDS = ("init|import|call|status|check|plan|draw|act|ceremony|watch|zones|policy|tick|roll|next|"
+         "store")
 # A line of a block, or a text between backquotes, that begins with the command.
 IN_BLOCK = re.compile(r"^(?:\$ )?(vaqsider .*)$", re.MULTILINE)
 INLINE = re.compile(rf"(?<!`)`((?:vaqsider |(?=(?:{WORDS}) (?:S|SCRIPT|FOLDER|ZONE)\b))[^`]*)`")
@@ -73,21 +73,38 @@ def taken():
 
 
 def run():
-    """README's first steps bring two new keys into a zone, and `init` prints the line of the first
-    call. After them each line without a server's name is run: it is refused at most."""
+    """README's first steps bring two new keys into a zone. After them each line without a server's
+    name is run: it is refused at most."""
+    yield from first_steps()
+    Path("example.com.script").rename("S.script")
+    Path("example.com.notes").rename("S.notes")
+    for page, (word, *words) in wholes():
+        if word in ("status", "check", "plan", "draw", "zones", "call") and words[0] == "S.script":
+            text, status = typed([word, *words], 2000)
+            if status not in (0, 1, 2) and not (status == 69 and words[1].startswith("add K")):
+                yield f"{page}: {word} {words}: {text}"
+
+
+def steps_of(ksk, zsk):
+    """The lines of the first steps, with the words of each for these keys."""
+    section = (TOP / "command" / "README.md").read_text().split("\n## ")[1]
+    for line in IN_BLOCK.findall(section):
+        words = shlex.split(line)[1:]
+        words = [part for it in words for part in ([ksk, zsk] if "*" in it else [it])]
+        words = [it.replace("KSK,ZSK", f"{ksk},{zsk}") for it in words]
+        yield line, ["true" if it.startswith("rndc") else it for it in words]
+
+
+def first_steps():
+    """The steps end well, and `init` prints the line of the first call."""
     from tests.command.outputs import key_file
 
     (ksk, _), (zsk, _) = key_file(257, 1), key_file(256, 2)
     for key in (ksk, zsk):
         Path(key).with_suffix(".private").touch()
     Path("example.com.zone").write_text(Path("zone").read_text())
-    section = (TOP / "command" / "README.md").read_text().split("\n## ")[1]
     said = []
-    for line in IN_BLOCK.findall(section):
-        word, *words = shlex.split(line)[1:]
-        words = [part for it in words for part in ([ksk, zsk] if "*" in it else [it])]
-        words = [it.replace("KSK,ZSK", f"{ksk},{zsk}") for it in words]
-        words = ["true" if it.startswith("rndc") else it for it in words]
+    for line, (word, *words) in steps_of(ksk, zsk):
         if word == "call" and f"next: {shlex.join(['vaqsider', word, *words])}\n" != said[1]:
             yield f"init prints {said}, and README has {words}"
         if word == "watch":
@@ -101,10 +118,3 @@ def run():
             yield f"{line}: {text}"
     if "algorithm-roll: cache-expire1" not in text:
         yield f"after the first steps it is {text}"
-    Path("example.com.script").rename("S.script")
-    Path("example.com.notes").rename("S.notes")
-    for page, (word, *words) in wholes():
-        if word in ("status", "check", "plan", "draw", "zones", "call") and words[0] == "S.script":
-            text, status = typed([word, *words], 2000)
-            if status not in (0, 1, 2) and not (status == 69 and words[1].startswith("add K")):
-                yield f"{page}: {word} {words}: {text}"

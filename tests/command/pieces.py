@@ -92,6 +92,11 @@ def perturbed(chance):
     return lines, notes[:1] + [line for line in notes[1:] if chance.random() > 0.05]
 
 
+def write(lines, notes):
+    for name, kept in (("some.script", lines), ("some.notes", notes)):
+        Path(name).write_text("".join(f"{line}\n" for line in kept))
+
+
 def reports():
     """By the bounds the same reports aren't borne out, and of a course in which all is true the key
     set isn't asked for any."""
@@ -101,8 +106,7 @@ def reports():
     chance, count = random.Random(SEED), 0
     for number in range(SCRIPTS):
         lines, notes = perturbed(chance) if number else course(20)
-        Path("some.script").write_text("".join(f"{line}\n" for line in lines))
-        Path("some.notes").write_text("".join(f"{line}\n" for line in notes))
+        write(lines, notes)
         history, kept = History(lines), Notes("some.script")
         made = [*history.reported(it for it in history.calls if it.line.is_report)]
         with mock.patch.object(bounds.Bounds, "are_met", lambda *_: False):

@@ -1,8 +1,9 @@
 """The pictures that the command draws, against the sets of `replay/tables.py`."""
 
-import re
 import xml.dom.minidom
 
+from keyset.lines import OF_CLOCK
+from keyset.rolls import WATCHED
 from tests.command.terminal import TOP, typed
 
 LABELS = {"ds": "DS", "dnskey": "DNSKEY", "signers": "signs DNSKEY", "zone": "signs zone"}
@@ -30,28 +31,7 @@ def bars_of(lines):
     """Each bar of the picture of a script, as label, begin, end and `gone`: by the sets of the
     tables. A set of call N is gone once a report is over that counts from call N + 1 or later. If
     there is none, it is held after its roll's end for the TTL of the last report of its kind."""
-    replies, _, _ = answers(lines)
-    moment, shown, made, reports, steps, ends = 0, {}, [], [], {}, []
-    accepted = [n for n, reply in enumerate(replies, start=1) if reply.startswith("ok")]
-    for number in accepted:
-        word, *fields = lines[number].split(" ")
-        if word in ("start", "report1", "wait1", "report2", "wait2", "set-present"):
-            moment = int(fields[-1])
-        if word in ("start", "wait1"):
-            asked = re.findall(r"Report(\w+)Propagated", replies[number - 1])
-            steps[fields[0]] = number, [{"Rrsig": "zone"}.get(it, it.lower()) for it in asked]
-        if word.startswith("report"):
-            reports.append((*steps[fields[0]], moment, int(fields[1]), number))
-        sets = answers(lines[: number + 1])[1]
-        now = {(kind, key) for kind, keys in sets.items() for key in keys}
-        for bar in now - shown.keys():
-            shown[bar] = moment
-        roll = fields[0] if word in ("start", "wait1", "wait2", "abort") else number
-        for kind, key in shown.keys() - now:
-            made.append((kind, key, shown.pop((kind, key)), moment, number, roll))
-        if word in ("done", "abort"):
-            ends.append((number, fields[0], moment))
-        ends.append((number, number, moment))
+    made, shown, reports, ends = course_of(lines)
     for kind, key, begin, end, number, roll in made:
         of = "dnskey" if kind == "signers" else kind
         told = [it for it in reports if of in it[1]]
@@ -62,6 +42,33 @@ def bars_of(lines):
         yield f"{LABELS[kind]} {key}", begin, end, min(over, default=None)
     for (kind, key), begin in shown.items():
         yield f"{LABELS[kind]} {key}", begin, None, None
+
+
+def course_of(lines):
+    """The keys that were in a set, and those that still are; the reports, and the ends of rolls and
+    calls."""
+    replies, _, _ = answers(lines)
+    moment, shown, made, reports, steps, ends = 0, {}, [], [], {}, []
+    accepted = [n for n, reply in enumerate(replies, start=1) if reply.startswith("ok")]
+    for number in accepted:
+        word, *fields = lines[number].split(" ")
+        if word in OF_CLOCK:
+            moment = int(fields[-1])
+        if word in ("start", "wait1"):
+            asked = replies[number - 1].split(" ")
+            steps[fields[0]] = number, [WATCHED[it] for it in asked if it in WATCHED]
+        if word.startswith("report"):
+            reports.append((*steps[fields[0]], moment, int(fields[1]), number))
+        sets = answers(lines[: number + 1])[1]
+        now = {(kind, key) for kind, keys in sets.items() for key in keys}
+        for bar in now - shown.keys():
+            shown[bar] = moment
+        roll = fields[0] if word in ("start", "wait1", "wait2", "abort") else number
+        for kind, key in shown.keys() - now:
+            made.append((kind, key, shown.pop((kind, key)), moment, number, roll))
+        ends += [(number, fields[0], moment)] if word in ("done", "abort") else []
+        ends.append((number, number, moment))
+    return made, shown, reports, ends
 
 
 def pictures():
@@ -77,26 +84,36 @@ def pictures():
                 yield f"{shown.relative_to(TOP)} isn't what is drawn"
         yield from last_rolls(xml.dom.minidom.parseString(text), lines, path.name)
         page = xml.dom.minidom.parseString(typed(["draw", path, "--since", "0"])[0])
-        wanted = set()
-        for label, begin, end, gone in bars_of(lines):
-            wanted.add((label, "in", str(begin), "" if end is None else str(end)))
-            if end is not None and (gone is None or gone > end):
-                wanted.add((label, "cached", str(end), "" if gone is None else str(gone)))
-        rows = {
-            it.getAttribute("y"): it.firstChild.data
-            for it in page.getElementsByTagName("text")
-            if it.getAttribute("x") == "8"
-        }
-        found = set()
-        for box in page.getElementsByTagName("rect"):
-            if box.hasAttribute("data-begin") and box.getAttribute("class") != "phase":
-                row = rows[str(int(box.getAttribute("y")) + 11)]
-                data = (box.getAttribute(name) for name in ("class", "data-begin", "data-end"))
-                found.add((row, *data))
-        if found != wanted:
-            yield f"{path.name}: the picture has {found ^ wanted} wrong"
+        if wrong := boxes_in(page) ^ boxes_of(lines):
+            yield f"{path.name}: the picture has {wrong} wrong"
         yield from places(page, path.name)
         yield from letters(page, lines, path.name)
+
+
+def boxes_of(lines):
+    """The boxes that the picture of a script has to have: a bar, and what caches hold after it."""
+    found = set()
+    for label, begin, end, gone in bars_of(lines):
+        found.add((label, "in", str(begin), "" if end is None else str(end)))
+        if end is not None and (gone is None or gone > end):
+            found.add((label, "cached", str(end), "" if gone is None else str(gone)))
+    return found
+
+
+def boxes_in(page):
+    """The boxes of a page, except those of phases."""
+    rows = {
+        it.getAttribute("y"): it.firstChild.data
+        for it in page.getElementsByTagName("text")
+        if it.getAttribute("x") == "8"
+    }
+    found = set()
+    for box in page.getElementsByTagName("rect"):
+        if box.hasAttribute("data-begin") and box.getAttribute("class") != "phase":
+            row = rows[str(int(box.getAttribute("y")) + 11)]
+            data = (box.getAttribute(name) for name in ("class", "data-begin", "data-end"))
+            found.add((row, *data))
+    return found
 
 
 def letters(page, lines, name):

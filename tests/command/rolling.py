@@ -581,10 +581,10 @@ def early_ends() -> Iterator[str]:
 
 
 def goes_on_anew(world: World, roll: str) -> Iterator[str]:
-    """A new script of the zone as it is has no call by hand. The roll comes to its end by it."""
-    starts = (line.split(" ") for line in reversed(lines()) if line.startswith(f"start {roll} "))
-    new = re.escape(next(starts)[3])
-    (tag,) = (line.split(" ")[4] for line in lines() if re.match(rf"add-\w+ {new} ", line))
+    """A new script of the zone as it is has no call by hand, and by it the roll comes to its
+    end."""
+    new = next(it.split(" ")[3] for it in reversed(lines()) if it.startswith(f"start {roll} "))
+    (tag,) = (it.split(" ")[4] for it in lines() if re.match(rf"add-\w+ {re.escape(new)} ", it))
     keys = [path.stem for path in sorted(Path().glob("K*.private"))
             if not path.stem.endswith(f"+{int(tag):05}")]
     for old in Path().glob(f"{ZONE}.*"):

@@ -297,28 +297,29 @@ def coverage(results):
     return len(ran & lines), len(lines), sorted(lines - ran)
 
 
-def main():
-    os.environ["PATH"] = f"{STORED / 'bin'}:{os.environ['PATH']}"
-    os.environ["PYTHON"] = sys.executable
-    answering.install()
-    write = "--write" in sys.argv[1:]
-    # Each part has folders of its own, and a process.
+def side_by_side(write):
+    """Runs each part in a process, with folders of its own. Gives the faults, how many lines were
+    played and crashes tried, and what ran."""
     with ProcessPoolExecutor() as pool:
-        looked_up = pool.submit(traced, outputs.faults)
-        acted = pool.submit(traced, acts.faults)
-        adapted = pool.submit(traced, adaptors.faults)
-        imported = pool.submit(traced, imports.faults)
-        held = pool.submit(traced, ceremonies.faults)
+        parts = [pool.submit(traced, part.faults)
+                 for part in (outputs, acts, adaptors, imports, ceremonies)]
         compared = pool.submit(traced, compare, write)
-        lied_to = pool.submit(traced, liars.faults)
+        parts.append(pool.submit(traced, liars.faults))
         crashed = [*pool.map(crash, range(len(CRASHES)))]
     (faults, lines), results = compared.result()
-    for part in (looked_up, acted, adapted, imported, held, lied_to):
+    for part in parts:
         more, others = part.result()
         results.update(others)
         faults += more
     faults += [fault for found, _ in crashed for fault in found]
-    crashes = sum(count for _, count in crashed)
+    return faults, lines, sum(count for _, count in crashed), results
+
+
+def main():
+    os.environ["PATH"] = f"{STORED / 'bin'}:{os.environ['PATH']}"
+    os.environ["PYTHON"] = sys.executable
+    answering.install()
+    faults, lines, crashes, results = side_by_side("--write" in sys.argv[1:])
     ran, total, unrun = coverage(results)
     print(*faults, sep="\n", end="\n" if faults else "")
     answers = len(liars.ROWS) + len(liars.FOUND)

@@ -161,24 +161,15 @@ def lanes():
 def prove(scripts):
     """Runs `rt ci`, and prints all but its last line. Gives its status and that line."""
     last, tried, before, began = "", set(), proved.sums(), len(PRINTED)
-    gate = subprocess.Popen(
-        ["rt", "ci"],
-        cwd=TOP,
-        env=lanes(),
-        stdout=subprocess.PIPE,
-        stderr=subprocess.STDOUT,
-        text=True,
-    )
+    gate = subprocess.Popen(["rt", "ci"], cwd=TOP, env=lanes(), stdout=subprocess.PIPE,
+                            stderr=subprocess.STDOUT, text=True)
     edits = Edits(gate.pid)
     edits.start()
     for line in gate.stdout:
         say(last)
         last = line
         if done := DONE.fullmatch(line):
-            note(f"{done['what']} {done['how'].removeprefix('is ')}")
-            if done["how"] != "NOT PROVED":
-                for script in scripts:
-                    script.note(done["what"])
+            note_of(done, scripts)
         elif begun := TRIED.fullmatch(line):
             tried.add(begun["crate"])
     status = gate.wait()
@@ -186,6 +177,14 @@ def prove(scripts):
     note("rt ci")
     say("".join(proved.lines("".join(PRINTED[began:]), before)))
     return status, last
+
+
+def note_of(done, scripts):
+    """Notes that `rt ci` is done with a crate: scripts that wait for its proof may begin."""
+    note(f"{done['what']} {done['how'].removeprefix('is ')}")
+    if done["how"] != "NOT PROVED":
+        for script in scripts:
+            script.note(done["what"])
 
 
 def main():
@@ -204,42 +203,54 @@ def main():
 def prove_and_test(free, folder):
     """Runs `rt ci` and the tests beside it, of which some share the library in a folder. If all
     have passed, `make install` and `make dist` take that library and the program."""
-    before = built.sums()
-    # The library takes no proof of `keyset_c`, only of the crates below it.
-    archive = After("library.archive", folder, after=["dnssec_status", "dnssec_automatic"])
-    library = After("library.test_library", under=["env", f"LIBRARY={folder}"],
-                    after=["keyset", "archive"])
-    archive.later.append(library)
-    scripts = [
-        After("scripts.test_memory", after=["callers", "keyset"]),
-        After("scripts.test_sets", after=["callers"]),
-        After("scripts.test_notes", after=["keyset"]),
-        After("command.transcripts", after=["keyset"]),
-        After("command.test_rolling", after=["keyset"]),
-        After("scripts.test_nexts", after=["keyset"]),
-        After("scripts.test_automatic", after=["keyset"]),
-        archive,
-        library,
-    ]
+    before, scripts = built.sums(), waiting(folder)
     status, last = prove(scripts)
     for beside in (*free, *scripts):
         fault = beside.fault()
         # (If a proof that a script needs has failed, the script never begins; `rt ci` says why.)
         if fault and (beside.ident or status == 0):
             status, last = 1, fault
-    wrong = []
     if status == 0:
-        printed_numbers.compare("".join(PRINTED), wrong)
-        note("printed_numbers")
-    if wrong:
-        print(*wrong, sep="\n")
-        status, last = 1, f"docs/tests.txt has {len(wrong)} numbers that this gate hasn't printed\n"
+        status, last = compared(last)
     if status == 0:
         built.take(folder, before)
     print("Done after, in minutes and seconds:", *steps(), sep="\n")
     print("Left out:", ", ".join(f"make {it}" for it in LEFT_OUT))
     print(last, end="", flush=True)
     return status
+
+
+def waiting(folder):
+    """The tests that wait for proofs. Some share the library in a folder."""
+    # The library takes no proof of `keyset_c`, only of the crates below it.
+    archive = After("library.archive", folder, after=["dnssec_status", "dnssec_automatic"])
+    library = After("library.test_library", under=["env", f"LIBRARY={folder}"],
+                    after=["keyset", "archive"])
+    archive.later.append(library)
+    return [
+        After("scripts.test_memory", after=["callers", "keyset"]),
+        After("scripts.test_sets", after=["callers"]),
+        After("scripts.test_notes", after=["keyset"]),
+        After("command.transcripts", after=["keyset"]),
+        After("command.test_rolling", after=["keyset"]),
+        After("scripts.test_nexts", after=["keyset"]),
+        After("scripts.test_rolls", after=["keyset"]),
+        After("scripts.test_automatic", after=["keyset"]),
+        archive,
+        library,
+    ]
+
+
+def compared(last):
+    """The status and the last line of a gate in which all has passed, once its numbers are
+    compared."""
+    wrong = []
+    printed_numbers.compare("".join(PRINTED), wrong)
+    note("printed_numbers")
+    if not wrong:
+        return 0, last
+    print(*wrong, sep="\n")
+    return 1, f"docs/tests.txt has {len(wrong)} numbers that this gate hasn't printed\n"
 
 
 if __name__ == "__main__":

@@ -23,8 +23,8 @@ FIGURES = TOP / "docs" / "tests.txt"
 # The tests that print what they have done.
 PARTS = {
     *("automatic", "command", "dnssec_tests", "examples", "install", "library", "long"),
-    *("memory", "mistakes", "networks", "nexts", "notes", "rolling", "runbooks", "sessions"),
-    "sets",
+    *("memory", "mistakes", "networks", "nexts", "notes", "rolling", "rolls", "runbooks"),
+    *("sessions", "sets"),
 }
 
 ROW = re.compile(r"(?P<where>\S[^:]*): (?P<much>.+)")
@@ -68,12 +68,8 @@ def compared(row, log, number, wrong):
             wrong.append(f"{place}: no part of the gate prints these numbers; they have no date")
         return row[0]
     wrong += (f"{place}: no word follows {match[0]}" for match in BARE.finditer(row["much"]))
-    told = counts("\n".join(log[part] for part in parts))
     fresh = {}
-    for word, wanted in counts(row["much"]).items():
-        there = told.get(word, [])
-        if is_found(wanted, there):
-            continue
+    for word, wanted, there in differing(row, parts, log):
         shown = ", ".join(f"{one:,} {word}" for one in wanted)
         given = ", ".join(f"{one:,} {word}" for one in there) or f"no number of {word}"
         wrong.append(f"{place}: {shown}: {' and '.join(parts)} printed {given}")
@@ -85,6 +81,15 @@ def compared(row, log, number, wrong):
 
     much = COUNT.sub(renewed, row["much"])
     return f"{row['where']}: {much}"
+
+
+def differing(row, parts, log):
+    """Each word whose numbers these parts haven't printed, with the row's numbers and theirs."""
+    told = counts("\n".join(log[part] for part in parts))
+    for word, wanted in counts(row["much"]).items():
+        there = told.get(word, [])
+        if not is_found(wanted, there):
+            yield word, wanted, there
 
 
 def compare(log, wrong):

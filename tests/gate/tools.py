@@ -19,6 +19,7 @@ CC = os.environ.get("CC", "cc")
 RUNNER = os.environ.get("RUNNER", "").split()
 # The tests in Python take one of so many stored scripts: all of them, unless Python is slow.
 EVERY = int(os.environ.get("EVERY", "1"))
+STORED = TOP / "replay" / "scripts.txt"
 # How C is compiled.
 STRICT = ["-std=gnu11", "-O2", "-Wall", "-Wextra", "-Werror", "-pthread"]
 # The callers are in plain C.
@@ -33,6 +34,14 @@ def c_flags(folder):
 
 class Wrong(Exception):
     pass
+
+
+def stored_scripts():
+    """The stored scripts, each with its name and its answers."""
+    for part in STORED.read_text().split("\n== ")[1::EVERY]:
+        name, _, rest = part.partition("\n")
+        script, _, answers = rest.partition("-- answers\n")
+        yield name, script, answers
 
 
 def run(*command, **how):

@@ -12,18 +12,11 @@ import tempfile
 from pathlib import Path
 
 from tables import answers
-from tests.gate.tools import TOP, Wrong, run
+from tests.gate.tools import Wrong, run, stored_scripts
 
 HERE = Path(__file__).parent
-STORED = TOP / "replay" / "scripts.txt"
 # The second judge is slow on longer scripts.
 LONGEST = 60
-
-
-def stored_scripts():
-    """The stored scripts, without their answers."""
-    for part in STORED.read_text().split("\n== ")[1:]:
-        yield part.partition("\n")[2].partition("-- answers\n")[0]
 
 
 def build(folder, program):
@@ -43,7 +36,7 @@ def fuzz(folder, room, runs):
     corpus, words, program = room / "corpus", room / "words", room / "fuzz"
     corpus.mkdir()
     seen = set()
-    for i, script in enumerate(stored_scripts()):
+    for i, (_, script, _) in enumerate(stored_scripts()):
         (corpus / str(i)).write_text(script)
         seen.update(word for word in script.split() if re.fullmatch("[A-Za-z0-9-]+", word))
     words.write_text("".join(f'"{word}"\n' for word in sorted(seen)))

@@ -266,15 +266,7 @@ def test(library):
         expect_no_places(whole, first)
         build_in_c(first, room / "roll")
         first.rename(moved)
-        build_in_c(moved, room / "roll")
-        expect_versions(moved)
-        expect_programs(moved, room)
-        for name in PAGES:
-            expect_page(moved / "share" / "man" / "man1" / f"{name}.1")
-        expect_page(moved / "share" / "man" / "man3" / "keyset.3")
-        expect_functions(moved / "share" / "man" / "man3" / "keyset.3")
-        expect_contents(moved / "share" / "man" / "man1")
-        expect_links(moved / "share" / "doc" / "vaqsider")
+        expect_used(moved, room)
         modes = {mode for mode, content in whole.values() if content is not None}
         expect(modes - {"link"} == {0o644, 0o755}, f"files have the modes {modes}")
         expect_other_folder(room, library)
@@ -282,25 +274,41 @@ def test(library):
         script = expect_tarball(room, library, whole)
         befell = mishaps.test(room, library, script, tree, whole)
         expect(tree(moved) == whole, "the use of what is installed changes it")
-
-        below = room / "below"
-        packaging("install", "/usr", "--destdir", below, "--library", library)
-        expect(tree(below / "usr") == whole, "an install below a folder has other files")
-
-        other = moved / "bin" / "other"
-        other.write_text("")
-        expect_older(moved, library)
-        environment = apart(moved)
-        del environment["PYTHONDONTWRITEBYTECODE"]
-        run(moved / "bin" / "vaqsider", "--version", env=environment)
-        expect(any(moved.rglob("*.pyc")), "the command leaves nothing for uninstall to remove")
-        packaging("uninstall", moved)
-        expect(list(tree(moved)) == ["bin", "bin/other"], f"uninstall leaves {list(tree(moved))}")
-        other.unlink()
-        packaging("uninstall", "/usr", "--destdir", below)
-        expect(list(tree(below)) == [], f"uninstall leaves {list(tree(below))}")
+        expect_uninstalled(moved, room / "below", library, whole)
     files = sum(content is not None for _, content in whole.values())
     return f"{files} files installed, used, moved, used, and uninstalled; {befell}"
+
+
+def expect_used(moved, room):
+    """What was moved can be used, and its pages are whole."""
+    build_in_c(moved, room / "roll")
+    expect_versions(moved)
+    expect_programs(moved, room)
+    pages = moved / "share" / "man"
+    for name in PAGES:
+        expect_page(pages / "man1" / f"{name}.1")
+    expect_page(pages / "man3" / "keyset.3")
+    expect_functions(pages / "man3" / "keyset.3")
+    expect_contents(pages / "man1")
+    expect_links(moved / "share" / "doc" / "vaqsider")
+
+
+def expect_uninstalled(moved, below, library, whole):
+    """An uninstall leaves only what is another's, also below a folder."""
+    packaging("install", "/usr", "--destdir", below, "--library", library)
+    expect(tree(below / "usr") == whole, "an install below a folder has other files")
+    other = moved / "bin" / "other"
+    other.write_text("")
+    expect_older(moved, library)
+    environment = apart(moved)
+    del environment["PYTHONDONTWRITEBYTECODE"]
+    run(moved / "bin" / "vaqsider", "--version", env=environment)
+    expect(any(moved.rglob("*.pyc")), "the command leaves nothing for uninstall to remove")
+    packaging("uninstall", moved)
+    expect(list(tree(moved)) == ["bin", "bin/other"], f"uninstall leaves {list(tree(moved))}")
+    other.unlink()
+    packaging("uninstall", "/usr", "--destdir", below)
+    expect(list(tree(below)) == [], f"uninstall leaves {list(tree(below))}")
 
 
 def main():

@@ -25,13 +25,13 @@ from pathlib import Path
 
 from tests.gate import release
 from tests.gate.tools import (
-    C99, CC, EVERY, NOTED, PROGRAM, RUNNER, STATUS, STRICT, TOP, WRAPPED, Wrong, c_flags, kit, run,
+    C99, CC, EVERY, NOTED, PROGRAM, RUNNER, STATUS, STORED, STRICT, TOP, WRAPPED, Wrong, c_flags,
+    kit, run, stored_scripts,
 )
 from tests.library import install, programs, rust, session_notes, sessions
 from tests.scripts import long_scripts, malformed, words
 
 HERE, LIBRARY = Path(__file__).parent, TOP / "library"
-STORED = TOP / "replay" / "scripts.txt"
 EXAMPLES = sorted((TOP / "examples").rglob("*.script"))
 
 # What the header declares.
@@ -154,14 +154,6 @@ def test_static_buffer(folder, room):
     if ran.returncode != 1 or not ran.stderr.endswith(": not as expected: the answer\n"):
         raise Wrong(f"a library with a static buffer isn't seen: {ran}")
     return "a library with a static buffer fails in threads"
-
-
-def stored_scripts():
-    """The stored scripts with their names and answers."""
-    for part in STORED.read_text().split("\n== ")[1::EVERY]:
-        name, _, rest = part.partition("\n")
-        script, _, answer = rest.partition("-- answers\n")
-        yield name, script, answer
 
 
 def as_program(script, command=(PROGRAM,)):

@@ -44,6 +44,17 @@ def test_in_python(keyset, questions):
     answers = answered(notes.text_of(questions)).split("\n\n")
     if len(answers) != len(questions):
         raise Wrong(f"{len(questions)} questions have {len(answers)} answers")
+    zones = go_on(keyset, questions, answers)
+    for text, fault in notes.ANSWERS.items():
+        expect_fault(keyset, text.splitlines(), fault)
+    return (
+        f"{zones} sessions in Python go on with their notes, and answer {len(questions)} questions"
+        f" and {len(notes.ANSWERS)} notes as keyset notes"
+    )
+
+
+def go_on(keyset, questions, answers):
+    """Sessions go on from question to question, with these answers. Gives how many there were."""
     script, noted, zones = [], [], 0
     for question, wanted in zip(questions, answers):
         lines, more = question.script.splitlines(), question.notes.splitlines()
@@ -58,12 +69,7 @@ def test_in_python(keyset, questions):
         for one in (session, session.copy()):
             if one.due(question.moment).rstrip("\n") != wanted.rstrip("\n"):
                 raise Wrong(f"a session in Python doesn't answer {wanted}")
-    for text, fault in notes.ANSWERS.items():
-        expect_fault(keyset, text.splitlines(), fault)
-    return (
-        f"{zones} sessions in Python go on with their notes, and answer {len(questions)} questions"
-        f" and {len(notes.ANSWERS)} notes as keyset notes"
-    )
+    return zones
 
 
 def expect_fault(keyset, lines, fault):

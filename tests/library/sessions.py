@@ -17,27 +17,19 @@ from pathlib import Path
 
 from jsonschema.validators import validator_for
 
-from tests.gate.tools import EVERY, TOP, Wrong
+from keyset.rolls import ALGORITHM_ROLL, KSK_ROLL, ROLLS, ZSK_ROLL
+from tests.gate.tools import TOP, Wrong, stored_scripts
 
 SCHEMA = json.loads((TOP / "docs" / "status.schema.json").read_text())
-STORED = TOP / "replay" / "scripts.txt"
 
 ROOM = 1 << 16
 # The latest moment that a script can say, and a moment after all that a script can say.
 LATE, PAST = (1 << 64) - 1, "past-time"
 # A roll of each side, and why none of them takes in a key.
-STARTS = ("ksk-roll", "zsk-roll", "algorithm-roll")
+STARTS = (KSK_ROLL, ZSK_ROLL, ALGORITHM_ROLL)
 NOT_TAKEN = ("refused: key has the wrong type\n", "refused: key is in the wrong state\n")
 
-SIDES = {
-    "ksk-roll": "k",
-    "ksk-double-ds-roll": "k",
-    "zsk-roll": "z",
-    "zsk-double-signature-roll": "z",
-    "csk-roll": "kz",
-    "algorithm-roll": "kz",
-}
-ORDER = list(SIDES)
+ORDER = list(ROLLS)
 
 MEMBERS = {
     "": ["zone", "chain", "published", "keys", "rolls", "ended"],
@@ -150,7 +142,7 @@ class Lines:
             roll, old, new = fields[:3]
             parts = [[key for key in keys.split(",") if key != "-"] for keys in (old, new)]
             self.listed[roll] = parts
-            self.ended = [one for one in self.ended if not set(SIDES[one]) & set(SIDES[roll])]
+            self.ended = [*filter(ROLLS[roll].tolerates, self.ended)]
         elif word in ("done", "abort"):
             del self.listed[fields[0]]
             if word == "abort":
@@ -186,15 +178,7 @@ def expect_roll(library, handle, roll, counts):
         expect(is_ok(library.would(handle, line)) == accepted, f"{line}: next is {roll['next']}")
         counts["next"] += accepted
     if end is not None:
-        wait = f"{roll['next']} {name}"
-        if end == PAST:
-            end = LATE + 1
-        else:
-            expect(is_ok(library.would(handle, f"{wait} {end}")), f"{wait} {end}")
-        # (If nothing is waited for, there may be no second before.)
-        if end > 0:
-            early = library.would(handle, f"{wait} {end - 1}")
-            expect(early.startswith("refused: wait for duration"), f"{wait} {end - 1}: {early}")
+        expect_wait(library, handle, f"{roll['next']} {name}", end)
         counts["waits"] += 1
     elif roll["next"].startswith("wait"):
         # A key lacks its stamp, so no moment is late enough.
@@ -205,6 +189,18 @@ def expect_roll(library, handle, roll, counts):
     else:
         waits = roll["next"].startswith("wait")
         expect(roll["waits_for"] == ("caches" if waits else "you"), "whom it waits for")
+
+
+def expect_wait(library, handle, wait, end):
+    """A wait is accepted at its end, and no second before."""
+    if end == PAST:
+        end = LATE + 1
+    else:
+        expect(is_ok(library.would(handle, f"{wait} {end}")), f"{wait} {end}")
+    # (If nothing is waited for, there may be no second before.)
+    if end > 0:
+        early = library.would(handle, f"{wait} {end - 1}")
+        expect(early.startswith("refused: wait for duration"), f"{wait} {end - 1}: {early}")
 
 
 def state_of(role):
@@ -249,13 +245,6 @@ def expect_status(library, handle, lines, counts):
     return status
 
 
-def stored_scripts():
-    for part in STORED.read_text().split("\n== ")[1::EVERY]:
-        name, _, rest = part.partition("\n")
-        script, _, answers = rest.partition("-- answers\n")
-        yield name, script.splitlines(), answers.splitlines(keepends=True)
-
-
 def play(library, script, answers, counts):
     handle, lines = library.open(script[0].encode()), Lines()
     due, status = {}, expect_status(library, handle, lines, counts)
@@ -282,7 +271,7 @@ def main():
     counts = dict.fromkeys(("statuses", "deletions", "starts", "waits", "next"), 0)
     for name, script, answers in stored_scripts():
         try:
-            play(library, script, answers, counts)
+            play(library, script.splitlines(), answers.splitlines(keepends=True), counts)
         except Wrong as wrong:
             print(f"{name}: {wrong}")
             return 1

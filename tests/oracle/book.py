@@ -5,7 +5,7 @@ import json
 import re
 from typing import NamedTuple
 
-from tables import ROLLS
+from keyset.rolls import ROLLS
 from tests import TOP
 
 DOCS = TOP / "docs"
@@ -18,11 +18,6 @@ ASKS = {
     "UpdateRrsig": "zone",
     "CreateCdsRrset": "cds",
     "UpdateDsRrset": "ds",
-}
-WATCHED = {
-    f"{word}{record}Propagated": kind
-    for word in ("Report", "Wait")
-    for record, kind in (("Dnskey", "dnskey"), ("Rrsig", "zone"), ("Ds", "ds"))
 }
 # A rule of the guides ends with its mark. Its words begin with the paragraph, the item, the cell,
 # or after the mark before.

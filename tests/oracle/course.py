@@ -1,10 +1,11 @@
 """The rolls of an operator of the game, and the course of a zone with one signer."""
 
-from tables import ROLLS, KeySet
+from keyset.rolls import ALGORITHM_ROLL, CSK_ROLL, KSK_DOUBLE_DS_ROLL, ROLLS, rolls_of
+from tables import KeySet
 from tests.oracle.book import EARLY_END, FIRST_KEYS, UNSIGNED, Wrong
 from tests.oracle.points import (
-    ALGORITHM, ALL_AT_ONCE, BACK_AT_ONCE, CDS_STAYS, CSK, CSK_FIRST, DOUBLE_DS, EARLY_ENDS,
-    KSK_FIRST, MIXED, NOT_HELD_BACK, NOT_IN_USE, ONE_SIDE, PARENT_FIRST, SAME_KEY, UNSIGNED_ONLY,
+    ALL_AT_ONCE, BACK_AT_ONCE, CDS_STAYS, CSK_FIRST, EARLY_ENDS, KSK_FIRST, MIXED, NOT_HELD_BACK,
+    NOT_IN_USE, ONE_SIDE, PARENT_FIRST, SAME_KEY, UNSIGNED_ONLY,
 )
 from tests.oracle.signer import GONE, Operator
 from tests.oracle.zone import SECOND
@@ -12,7 +13,7 @@ from tests.oracle.zone import SECOND
 BESIDE, SLIPS = "beside", "false lines"
 ALGORITHMS = (8, 13, 14, 15)
 KINDS = {"K": "ksk", "Z": "zsk", "C": "csk"}
-KSK_ROLLS = "ksk-roll", DOUBLE_DS
+KSK_ROLLS = rolls_of("ksk")
 
 
 class Follower(Operator):
@@ -20,15 +21,7 @@ class Follower(Operator):
 
     def roll(self, roll, old, new, name=None):
         """A roll, or the first keys, from the start to the deletion of the old keys."""
-        often = 0.6 if {SAME_KEY, EARLY_ENDS} & self.leaves else 0.15
-        if not self.in_step and self.dice.random() < often:
-            # (It may have been the other roll of such KSKs.)
-            like = KSK_ROLLS if roll in KSK_ROLLS else [roll]
-            early = self.dice.choice(like)
-            yield from self.ended_early(early, old, new)
-            must = DOUBLE_DS == early == roll and SAME_KEY not in self.leaves
-            if must or SAME_KEY not in self.leaves and self.dice.random() < 0.5:
-                new = [self.another(key) for key in new]
+        new = yield from self.begun_in_vain(roll, old, new)
         steps = self.book[name or roll]
         yield from self.comes_to(steps[0])
         began, actions = self.rounded_down(), self.start(roll, old, new)
@@ -49,11 +42,28 @@ class Follower(Operator):
                 since = yield from self.slip(half, roll, ttl, steps[half])
                 if since is None:
                     actions = yield from self.wait(f"wait{half}", roll, ttl)
+        self.end(roll, old)
+        self.done[name or roll] += 1
+
+    def end(self, roll, old, *others):
+        """The end of a roll, and the deletion of its old keys and of others."""
         self.leaving -= set(old)
         self.call(f"done {roll}")
-        for key in old:
+        for key in (*old, *others):
             self.call(f"delete {key}")
-        self.done[name or roll] += 1
+
+    def begun_in_vain(self, roll, old, new):
+        """Now and then a start is ended early. Gives the new keys of the next one."""
+        often = 0.6 if {SAME_KEY, EARLY_ENDS} & self.leaves else 0.15
+        if self.in_step or self.dice.random() >= often:
+            return new
+        # (It may have been the other roll of such KSKs.)
+        early = self.dice.choice(KSK_ROLLS if roll in KSK_ROLLS else [roll])
+        yield from self.ended_early(early, old, new)
+        must = KSK_DOUBLE_DS_ROLL == early == roll and SAME_KEY not in self.leaves
+        if must or SAME_KEY not in self.leaves and self.dice.random() < 0.5:
+            return [self.another(key) for key in new]
+        return new
 
     def slip(self, half, roll, ttl, step):
         """Now and then a wait is accepted too early because of a false line, and acted upon. Then
@@ -133,7 +143,7 @@ class Follower(Operator):
     def unsigned(self):
         """Goes unsigned, as in docs/EMERGENCY.md."""
         self.unsigned_from = self.unsigned_from or self.world.now
-        roll, old, key = ALGORITHM, sum(self.keys.values(), []), self.add("csk", 13)
+        roll, old, key = ALGORITHM_ROLL, sum(self.keys.values(), []), self.add("csk", 13)
         began = self.rounded_down()
         self.start(roll, old, [key])
         self.call(f"set-stale {key}")
@@ -153,10 +163,7 @@ class Follower(Operator):
         since = yield from self.do(UNSIGNED[1], actions)
         yield from self.watch(UNSIGNED[1], since)
         self.is_steady = False
-        self.leaving -= set(old)
-        self.call(f"done {roll}")
-        for name in [*old, key]:
-            self.call(f"delete {name}")
+        self.end(roll, old, key)
         self.done[GONE] += 1
 
     # The course of a zone
@@ -169,12 +176,12 @@ class Follower(Operator):
         self.keys = {13: self.whole(13)}
         if MIXED in self.leaves:
             self.keys[13] = [self.add("ksk", 13), self.add("zsk", 15)]
-        yield from self.roll(ALGORITHM, [], sum(self.keys.values(), []), FIRST_KEYS)
+        yield from self.roll(ALGORITHM_ROLL, [], sum(self.keys.values(), []), FIRST_KEYS)
         if ONE_SIDE in self.leaves:
-            yield from self.roll(ALGORITHM, self.keys[13][:1], [self.add("ksk", 15)])
+            yield from self.roll(ALGORITHM_ROLL, self.keys[13][:1], [self.add("ksk", 15)])
         if NOT_IN_USE in self.leaves:
             self.keys[8] = [self.add("csk", 8)]
-            yield from self.roll(CSK, [self.add("ksk", 8)], self.keys[8])
+            yield from self.roll(CSK_ROLL, [self.add("ksk", 8)], self.keys[8])
 
     def course(self, order):
         if {KSK_FIRST, CSK_FIRST} & self.leaves:
@@ -191,33 +198,33 @@ class Follower(Operator):
         rolls = list(order)
         while rolls:
             pair = [rolls.pop(0)]
-            if rolls and rolls[0] in ROLLS[pair[0]]["tolerates"].split():
+            if rolls and ROLLS[pair[0]].tolerates(rolls[0]):
                 pair += [rolls.pop(0)] if self.dice.random() < 0.7 else []
             for each in [each for each, keys in self.keys.items() if len(keys) == 1]:
-                if pair[0] not in (CSK, ALGORITHM):
-                    yield from self.roll(*self.plan(CSK, [each]))
+                if pair[0] not in (CSK_ROLL, ALGORITHM_ROLL):
+                    yield from self.roll(*self.plan(CSK_ROLL, [each]))
             going = [self.roll(*self.plan(roll)) for roll in pair]
             self.done[BESIDE] += len(pair) - 1
             while going:
                 going = [roll for roll in going if next(roll, roll) is None]
                 yield
-            if pair[0] == ALGORITHM and self.notes:
+            if pair[0] == ALGORITHM_ROLL and self.notes:
                 yield from self.zsk_by_algorithm_roll()
 
     def plan(self, roll, algorithms=None):
         """A roll with its old and its new keys, of one algorithm."""
-        if roll == ALGORITHM:
+        if roll == ALGORITHM_ROLL:
             return self.plan_algorithm(*self.choose())
         before = dict(self.keys)
         chosen = [*before] if ALL_AT_ONCE in self.leaves else [self.dice.choice([*before])]
         old, new = [], []
         for each in algorithms or chosen:
-            if roll == CSK:
+            if roll == CSK_ROLL:
                 self.keys[each] = self.whole(each, not algorithms and len(before[each]) == 2)
                 old, new = old + before[each], new + self.keys[each]
             else:
                 ksk, zsk = before[each]
-                if "zsk" in ROLLS[roll]["kinds"]:
+                if "zsk" in ROLLS[roll].kinds:
                     old, new = [*old, zsk], [*new, self.add("zsk", each)]
                     self.keys[each] = [self.keys[each][0], new[-1]]
                 else:
@@ -231,7 +238,7 @@ class Follower(Operator):
         if each:
             ksk, zsk = self.keys[each]
             self.keys[each] = [ksk, self.add("zsk", each)]
-            yield from self.roll(ALGORITHM, [zsk], self.keys[each][1:])
+            yield from self.roll(ALGORITHM_ROLL, [zsk], self.keys[each][1:])
 
     def choose(self):
         """Which algorithms leave, and which come: at most one leaves, one comes, and two stay."""
@@ -247,4 +254,4 @@ class Follower(Operator):
         old = sum((self.keys.pop(each) for each in leaving), [])
         for each in coming:
             self.keys[each] = self.whole(each, self.dice.random() < 0.3)
-        return ALGORITHM, old, sum((self.keys[each] for each in coming), [])
+        return ALGORITHM_ROLL, old, sum((self.keys[each] for each in coming), [])

@@ -151,7 +151,7 @@ class Network:
         for at, position in enumerate(self.record):
             if position.report and self.first < at:
                 step = base(self.record, at)
-                kinds = SPEAKS_OF[position.report.roll][position.report.second].split()
+                kinds = SPEAKS_OF[position.report.roll][position.report.second]
                 came = {kind: origin(self.record, kind, step) for kind in kinds}
                 yield PastReport(at, position.moment, position.report.ttl, step, came)
 

@@ -115,7 +115,7 @@ class Notes:
             later.position < came <= version.position
             for n, at in enumerate(record)
             if at.report
-            for kind in SPEAKS_OF[at.report.roll][at.report.second].split()
+            for kind in SPEAKS_OF[at.report.roll][at.report.second]
             for came in [origin(record, kind, base(record, n))]
             for version, later in combinations(self.versions[kind], 2)
         )
@@ -127,7 +127,7 @@ class Notes:
         the roll's last step left, the newest version, and the versions that are older."""
         record = self.operator.keyset.record
         step = max(n for n, at in enumerate(record) if at.step == roll)
-        for kind in SPEAKS_OF[roll][second].split():
+        for kind in SPEAKS_OF[roll][second]:
             came, versions = origin(record, kind, step), self.versions[kind]
             yield came, versions[-1], [each for each in versions if each.position < came]
 
@@ -164,7 +164,7 @@ class Notes:
         if not by_notes:
             return moment, ttl
         # (With a DS set the TTL of CDS counts too. CDS is no kind of the notes.)
-        speaks_of_ds = "ds" in SPEAKS_OF[roll][call == "report2"].split()
+        speaks_of_ds = "ds" in SPEAKS_OF[roll][call == "report2"]
         due = max(0, last.due - self.less)
         return last.moment, max(due, ttl) if speaks_of_ds else due
 

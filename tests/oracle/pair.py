@@ -1,16 +1,18 @@
 """A zone of the game with two signers."""
 
+from keyset.rolls import (
+    ALGORITHM_ROLL, CSK_ROLL, KSK_DOUBLE_DS_ROLL, KSK_ROLL, ZSK_DOUBLE_SIGNATURE_ROLL, ZSK_ROLL,
+)
 from tests.oracle.book import FIRST_KEYS
 from tests.oracle.course import Follower
 from tests.oracle.points import (
-    ALGORITHM, ALGORITHM_ALONE, CSK, DOUBLE_DS, DOUBLE_SIGNATURE, DS_ALONE, JOINS_EARLY,
-    LEAVES_EARLY, NS_TTL, UNSIGNED_ALONE,
+    ALGORITHM_ALONE, DOUBLE_SIGNATURE, DS_ALONE, JOINS_EARLY, LEAVES_EARLY, NS_TTL, UNSIGNED_ALONE,
 )
 from tests.oracle.zone import SECOND
 
 JOINED, LEFT = "joined", "left"
 # The rolls that each makes for itself.
-OWN = ("ksk-roll", DOUBLE_DS, "zsk-roll", CSK)
+OWN = (KSK_ROLL, KSK_DOUBLE_DS_ROLL, ZSK_ROLL, CSK_ROLL)
 
 
 class Pair:
@@ -78,7 +80,7 @@ class Pair:
         """Each signer makes some rolls of its own."""
         rolls = OWN
         if DOUBLE_SIGNATURE in self.leaves:
-            rolls = ["zsk-double-signature-roll" if roll == "zsk-roll" else roll for roll in OWN]
+            rolls = [ZSK_DOUBLE_SIGNATURE_ROLL if roll == ZSK_ROLL else roll for roll in OWN]
         orders = [self.dice.sample(rolls, self.dice.randint(0, 3)) for _ in self.signers()]
         yield from self.at_once(*(one.rolls(order) for one, order in zip(self.signers(), orders)))
 
@@ -102,7 +104,7 @@ class Pair:
         """The second signer joins a zone that the first signs."""
         one = self.second
         one.keys = {each: one.whole(each) for each in self.first.keys}
-        course = one.roll(ALGORITHM, [], sum(one.keys.values(), []), FIRST_KEYS)
+        course = one.roll(ALGORITHM_ROLL, [], sum(one.keys.values(), []), FIRST_KEYS)
         for _ in course:
             if JOINS_EARLY in self.leaves and not one.zone.is_asked and one.due()["ds"]:
                 one.zone.name()
@@ -134,7 +136,7 @@ class Pair:
 
     def drops_ds(self, one, other):
         """The DS of the signer that leaves goes: the parent has only the keys of the other."""
-        yield from other.comes_to(other.book["ksk-roll"][1])
+        yield from other.comes_to(other.book[KSK_ROLL][1])
         other.other = None
         yield from other.publish({"cds"})
         if not self.world.takes_cds:

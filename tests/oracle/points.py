@@ -3,7 +3,7 @@ guides that says it; what some points need to break a zone soon; and how they br
 
 from typing import NamedTuple
 
-DOUBLE_DS, CSK, ALGORITHM = "ksk-double-ds-roll", "csk-roll", "algorithm-roll"
+from keyset.rolls import ALGORITHM_ROLL, KSK_DOUBLE_DS_ROLL, KSK_ROLL
 
 
 class Point(NamedTuple):
@@ -224,12 +224,12 @@ BREAKS = {
 
 # What some points need to break a zone soon: which rolls, and which world.
 ORDERS = {
-    SAME_KEY: [DOUBLE_DS] * 8,
-    CDS_LEFT: [DOUBLE_DS] * 8,
-    CDS_STAYS: [ALGORITHM] * 8,
-    RAISED: [ALGORITHM] * 8,
+    SAME_KEY: [KSK_DOUBLE_DS_ROLL] * 8,
+    CDS_LEFT: [KSK_DOUBLE_DS_ROLL] * 8,
+    CDS_STAYS: [ALGORITHM_ROLL] * 8,
+    RAISED: [ALGORITHM_ROLL] * 8,
     UNSIGNED_ONLY: [],
-    BACK_AT_ONCE: ["ksk-roll"] * 8,
+    BACK_AT_ONCE: [KSK_ROLL] * 8,
 }
 WORLDS = {
     NOT_KEPT: {"least": 4},

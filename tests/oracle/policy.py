@@ -8,9 +8,6 @@ from typing import NamedTuple, Optional
 
 from tests.oracle.spread import Facts
 
-ALGORITHM, CSK = "algorithm-roll", "csk-roll"
-KSK_ROLLS, ZSK_ROLLS = ("ksk-roll", "ksk-double-ds-roll"), ("zsk-roll", "zsk-double-signature-roll")
-
 
 @dataclass
 class Renewal:

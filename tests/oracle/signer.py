@@ -2,8 +2,9 @@
 
 from collections import Counter
 
+from keyset.rolls import WATCHED
 from tables import SETS, KeySet
-from tests.oracle.book import ASKS, COURSES, WATCHED, Wrong
+from tests.oracle.book import ASKS, COURSES, Wrong
 from tests.oracle.points import (
     A_SECOND, AT_ONCE, BEFORE_START, CDS_BY_ALL, CDS_BY_SIGNERS, CDS_BY_ZONE, CDS_LEFT, CDS_ON_ONE,
     CDS_STAYS, CDS_UNCHANGED, CDS_UNCOUNTED, DS_OWN, EARLY, EARLY_ENDS, KEYS_UNSEEN, LOWERED,
@@ -153,14 +154,9 @@ class Operator:
             sets = [kept for kept in sets if kind == "zone" and not kept.value]
         if NOT_KEPT in self.leaves:
             return max((kept.ttl for kept in sets), default=0)
-        return max(
-            (
-                keeps(kept.ttl)
-                for kept in sets
-                if kept not in self.gone or now < self.gone[kept] + keeps(kept.ttl)
-            ),
-            default=0,
-        )
+        held = (kept for kept in sets
+                if kept not in self.gone or now < self.gone[kept] + keeps(kept.ttl))
+        return max((keeps(kept.ttl) for kept in held), default=0)
 
     # Calls
 

@@ -82,6 +82,5 @@ class Facts:
     def roll_takes(self, roll: str) -> int:
         """Both waits, each by the highest TTL of the kinds that its report speaks of, and a
         second."""
-        halves = (half.split() for half in SPEAKS_OF[roll])
         return sum(self.lasting(kinds, max(self.highest[kind] for kind in kinds) + 1)
-                   for kinds in halves)
+                   for kinds in SPEAKS_OF[roll])

@@ -15,7 +15,7 @@ from itertools import permutations, product
 import pytest
 
 from judge import has_chain
-from tables import ROLLS
+from keyset.rolls import ROLLS
 from tests.oracle import runbooks
 from tests.oracle.book import left_out, runbooks as book
 from tests.oracle.network import KINDS, Network, names

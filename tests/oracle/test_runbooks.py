@@ -8,11 +8,11 @@ from itertools import permutations
 import pytest
 
 from judge import chain_line
-from tables import ROLLS
+from keyset.rolls import ALGORITHM_ROLL, KSK_DOUBLE_DS_ROLL, ROLLS
 from tests.oracle.book import EARLY_END, FIRST_KEYS, left_out, runbooks as book
 from tests.oracle.course import BESIDE, SLIPS
 from tests.oracle.pair import JOINED, LEFT
-from tests.oracle.points import ALGORITHM, BREAKS, DOUBLE_DS, NO_CHAIN, ORDERS, PAIRS, POINTS
+from tests.oracle.points import BREAKS, NO_CHAIN, ORDERS, PAIRS, POINTS
 from tests.oracle.runbooks import play
 from tests.oracle.signer import GONE
 
@@ -31,7 +31,7 @@ def test_guides_have_each_point():
 
 def test_one_signer(guides, say):
     orders = random.Random(0).sample([*permutations(ROLLS)], 60)
-    orders += [order for order in ([DOUBLE_DS] * 8, [ALGORITHM] * 8) for _ in range(5)]
+    orders += [[roll] * 8 for roll in (KSK_DOUBLE_DS_ROLL, ALGORITHM_ROLL) for _ in range(5)]
     follow("one signer", orders, guides, say)
 
 

@@ -9,14 +9,13 @@ from dataclasses import dataclass
 from typing import Callable, NamedTuple, Optional, Union
 
 from judge import SPEAKS_OF, origin
-from tables import ROLLS, Key, KeySet
-from tests.oracle.policy import ALGORITHM, Policy, Renewal, role_of
+from keyset.rolls import ALGORITHM_ROLL, ROLLS
+from tables import Key, KeySet
+from tests.oracle.policy import Policy, Renewal, role_of
 from tests.oracle.spread import KINDS, LONGEST_TTL, Facts
 
 LAST_SECOND = 2**64 - 1
 AT_REST = "nothing: the zone is as the policy wants it"
-SIDES = {"ksk-roll": {"ksk"}, "ksk-double-ds-roll": {"ksk"}, "zsk-roll": {"zsk"},
-         "zsk-double-signature-roll": {"zsk"}}
 
 
 # ---- what there is to do: Todo.antt
@@ -141,7 +140,7 @@ def report_next(view: View, word: str, roll: str) -> Todo:
     step, ttl = view.step(roll), 0
     if step is None:
         return Stuck(f"the last step of {roll} isn't known")
-    kinds = SPEAKS_OF[roll][word == "report2"].split()
+    kinds = SPEAKS_OF[roll][word == "report2"]
     for kind in KINDS:
         if kind in kinds:
             base = origin(view.set.record, kind, step)
@@ -165,9 +164,8 @@ def wait_next(view: View, word: str, roll: str) -> Todo:
 
 def once_settled(view: View, roll: str, base: int, todo: Todo) -> Todo:
     """What is to be done once all that the last actions wait for is there."""
-    waits = {"ds": "WaitDs", "dnskey": "WaitDnskey", "zone": "WaitRrsig"}
     for kind in KINDS:
-        if f"{waits[kind]}Propagated" in ROLLS[roll]["ended"]:
+        if kind in ROLLS[roll].watched[2]:
             if brings := view.reach(kind, base):
                 return brings(kind)
     return todo
@@ -219,7 +217,7 @@ def is_in_use(key: Key) -> bool:
 
 
 def lists_kind(roll: str, key: Key) -> bool:
-    return key.kind in SIDES.get(roll, {"ksk", "zsk", "csk"})
+    return key.kind in ROLLS[roll].kinds
 
 
 def is_unwanted(policy: Policy, key: Key) -> bool:
@@ -272,7 +270,7 @@ def delete_next(view: View, name: str) -> Todo:
 
 
 def may_begin(view: View, roll: str) -> bool:
-    return all(other in ROLLS[roll]["tolerates"].split() for other in view.set.phases)
+    return all(map(ROLLS[roll].tolerates, view.set.phases))
 
 
 def start_with(policy: Policy, view: View, roll: str, roles: Sequence[str]) -> Todo:
@@ -288,8 +286,8 @@ def start_with(policy: Policy, view: View, roll: str, roles: Sequence[str]) -> T
 
 
 def change(policy: Policy, view: View) -> Todo:
-    if may_begin(view, ALGORITHM) and wants_others(policy, list(view.set.keys.values())):
-        return start_with(policy, view, ALGORITHM, policy.roles)
+    if may_begin(view, ALGORITHM_ROLL) and wants_others(policy, list(view.set.keys.values())):
+        return start_with(policy, view, ALGORITHM_ROLL, policy.roles)
     return Rest()
 
 
@@ -335,7 +333,7 @@ def whys(policy: Policy, view: View) -> Iterator[str]:
             yield from roll_why(view, roll)
     keys = list(view.set.keys.values())
     if wants_others(policy, keys):
-        yield from barred(view, ALGORITHM)
+        yield from barred(view, ALGORITHM_ROLL)
     for roll in policy.rolls:
         over = first_over(policy, role_of(roll), keys)
         if over is not None and over <= view.now:

@@ -6,7 +6,7 @@ import random
 import subprocess
 from itertools import permutations
 
-from tables import ROLLS
+from keyset.rolls import ROLLS
 from tests.gate.tools import NOTES
 from tests.oracle import runbooks
 from tests.oracle.book import left_out, runbooks as book

@@ -25,9 +25,9 @@ from typing import Iterator, Optional, Sequence
 
 from judge import chain_line, has_chain, time as judged_time
 from keyset import programs
-from tables import ROLLS
+from keyset.rolls import CALLS, ROLLS, rolls_of
 from tests.oracle.notes import Notes, Version, due
-from tests.oracle.policy import CSK, KSK_ROLLS, ZSK_ROLLS, Policy
+from tests.oracle.policy import Policy
 from tests.oracle.signer import Operator, Stuck
 from tests.oracle.spread import Facts
 from tests.oracle.what_next import AT_REST, View, answer_of, shown
@@ -35,7 +35,6 @@ from tests.oracle.zone import SECOND, SLOWEST, Broken, World
 
 ROLLS_OF_A_ZONE, ROLLS_IN_THE_GATE = 12, 240
 ALGORITHMS = (8, 13, 14, 15)
-CALLS = ("start", "report1", "wait1", "report2", "wait2", "done", "delete")
 # What an untrue note says: that all servers give a version if one does, or half of a TTL.
 EARLY, HALF = "seen on all servers once one gives it", "half of the TTL"
 # How often the program is asked again, though the definition says the same as before.
@@ -59,7 +58,8 @@ def run(word: str, lines: Sequence[str]) -> str:
 
 def policy_at_random(dice: random.Random, now: int) -> Policy:
     """What is wanted of a zone's keys from now on."""
-    rolls = dice.choice([(CSK,), (dice.choice(KSK_ROLLS), dice.choice(ZSK_ROLLS))])
+    of_two = tuple(dice.choice(rolls_of(kind)) for kind in ("ksk", "zsk"))
+    rolls = dice.choice([rolls_of("csk"), of_two])
     policy = Policy.of(dice.choice(ALGORITHMS), rolls)
     policy.delete_after = dice.choice((0, 0, 30, 90))
     for renewal in policy.renewals.values():
@@ -199,7 +199,7 @@ class Follower(Operator):
             self.add(fields[0], int(fields[1]))
         elif word == "until":
             yield from self.sleeps(int(fields[0]))
-        elif word in CALLS:
+        elif word in (*CALLS, "delete"):
             self.makes(said)
         elif said == AT_REST:
             self.another_policy()

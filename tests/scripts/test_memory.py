@@ -18,9 +18,8 @@ from pathlib import Path
 
 import pytest
 
-from tests.gate.tools import NOTES, PROGRAM, STATUS, STRICT, TOP, Wrong, run
+from tests.gate.tools import NOTES, PROGRAM, STATUS, STRICT, Wrong, run, stored_scripts
 
-STORED = TOP / "replay" / "scripts.txt"
 
 # The scripts that the works begin with.
 SCRIPTS = ("rolls-beside-many-keys", "public-keys-published-one-by-one")
@@ -162,10 +161,9 @@ def refuses_call(outcome, ample):
     return is_answered and lines.count(OUT_OF_MEMORY) == 1
 
 
-def stored_script(name):
+def stored_script(sought):
     """The lines of a stored script."""
-    part = STORED.read_text().split(f"\n== {name}\n")[1]
-    return part.split("-- answers\n")[0]
+    return next(script for name, script, _ in stored_scripts() if name == sought)
 
 
 def test_names(allocator, callers, failed):

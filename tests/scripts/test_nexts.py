@@ -17,13 +17,13 @@ from dataclasses import dataclass
 import pytest
 
 from keyset import programs
+from keyset.rolls import rolls_of
 from tables import KeySet
 from tests import TOP
 from tests.oracle import bad_days, what_next
 from tests.oracle.spread import KINDS
 
 QUESTIONS, LAST, TTLS = 4000, 2**64 - 1, (0, 1, 60, 300, 3600, 2**31, 2**32 - 1)
-ROLLS = (("ksk-roll", "ksk-double-ds-roll"), ("zsk-roll", "zsk-double-signature-roll"))
 MOMENT = re.compile(r"(?:start|report\d|wait\d) .* (\d+)")
 DAYS = [*bad_days.days()]
 
@@ -66,9 +66,10 @@ def accepted(lines: Sequence[str]) -> Iterator[str]:
 
 
 def policy(dice: random.Random, most: int) -> list[str]:
-    rolls = ["csk-roll"] if dice.random() < 0.3 else [dice.choice(of) for of in ROLLS]
+    kinds = ["csk"] if dice.random() < 0.3 else ["ksk", "zsk"]
+    rolls = [dice.choice(rolls_of(kind)) for kind in kinds]
     lines = []
-    for role in {roll[:3] for roll in rolls}:
+    for role in kinds:
         if dice.random() < 0.6:
             lifetime = dice.choice((100, 10**4, 10**5, 10**9, most, 2 * most))
             lines.append(f"{role}-lifetime {min(lifetime, LAST)}")

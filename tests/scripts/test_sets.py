@@ -13,10 +13,10 @@ import subprocess
 
 import pytest
 
-from tables import ROLLS, KeySet
-from tests import TOP
+from keyset.rolls import ALGORITHM_ROLL, CSK_ROLL, ROLLS
+from tables import KeySet
+from tests.gate.tools import stored_scripts
 
-STORED = TOP / "replay" / "scripts.txt"
 
 FIRST_KEYS = """\
 zone example.com
@@ -31,22 +31,17 @@ report2 algorithm-roll 60 90
 wait2 algorithm-roll 150
 done algorithm-roll"""
 
-# The keys that come in, and the lists of the roll to them: from the first keys, or from the CSK
-# that another course brings in.
+# The keys that come in, and the lists of the roll to them, by what a policy renews by the roll:
+# from the first keys, or from the CSK that another course brings in.
 COURSES = {
-    "ksk-roll": (["add-ksk K2 - 13 3 160 yes"], "K1 K2"),
-    "ksk-double-ds-roll": (["add-ksk K2 - 13 3 160 yes"], "K1 K2"),
-    "zsk-roll": (["add-zsk Z2 - 13 3 160 yes"], "Z1 Z2"),
-    "zsk-double-signature-roll": (["add-zsk Z2 - 13 3 160 yes"], "Z1 Z2"),
-    "csk-roll": (["add-csk C - 13 3 160 yes"], "K1,Z1 C"),
-    "algorithm-roll": (
-        ["add-ksk K2 key 15 3 160 yes", "add-zsk Z2 - 15 4 160 yes"],
-        "K1,Z1 K2,Z2",
-    ),
+    "ksk": (["add-ksk K2 - 13 3 160 yes"], "K1 K2"),
+    "zsk": (["add-zsk Z2 - 13 3 160 yes"], "Z1 Z2"),
+    "csk": (["add-csk C - 13 3 160 yes"], "K1,Z1 C"),
+    "": (["add-ksk K2 key 15 3 160 yes", "add-zsk Z2 - 15 4 160 yes"], "K1,Z1 K2,Z2"),
 }
 FROM_A_CSK = {
-    "csk-roll": (["add-ksk K2 - 13 4 250 yes", "add-zsk Z2 - 13 5 250 yes"], "C K2,Z2"),
-    "algorithm-roll": (["add-csk C2 - 15 4 250 yes"], "C C2"),
+    "csk": (["add-ksk K2 - 13 4 250 yes", "add-zsk Z2 - 13 5 250 yes"], "C K2,Z2"),
+    "": (["add-csk C2 - 15 4 250 yes"], "C C2"),
 }
 
 # Enough keys for their map to grow some times.
@@ -106,11 +101,13 @@ def roll_lines(roll, lists, start):
 def courses():
     """The name of each course, its lines before the roll, those of the roll, and the roll."""
     first = FIRST_KEYS.split("\n")
-    for roll, (adds, lists) in COURSES.items():
+    for roll, row in ROLLS.items():
+        adds, lists = COURSES[row.renews]
         yield roll, first + adds, roll_lines(roll, lists, 200), roll
-    adds, lists = COURSES["csk-roll"]
-    second = [*first, *adds, *roll_lines("csk-roll", lists, 200)]
-    for roll, (adds, lists) in FROM_A_CSK.items():
+    adds, lists = COURSES["csk"]
+    second = [*first, *adds, *roll_lines(CSK_ROLL, lists, 200)]
+    for roll in (CSK_ROLL, ALGORITHM_ROLL):
+        adds, lists = FROM_A_CSK[ROLLS[roll].renews]
         yield f"{roll} from a CSK", second + adds, roll_lines(roll, lists, 400), roll
 
 
@@ -195,7 +192,7 @@ def wait_end(keyset, roll):
 def told_of_roll(keyset, roll):
     phase, ttl = keyset.phases.get(roll, (None, 0))
     named = PHASES[phase].format(ttl) if phase else None
-    due = ROLLS[roll][DUE[phase]].split() if phase in DUE else []
+    due = getattr(ROLLS[roll], DUE[phase]).split() if phase in DUE else []
     return f"{roll_name(roll)} {some(named)} {listed(due)} {some(wait_end(keyset, roll))} true"
 
 
@@ -258,15 +255,8 @@ def check(name, script, stored, parts):
         pytest.fail(f"{name}: the record differs from that of the tables: {script}")
 
 
-def stored_scripts():
-    """The stored scripts with their answers, by their names."""
-    for part in STORED.read_text().split("\n== ")[1:]:
-        name, rest = part.split("\n", 1)
-        script, answers = rest.split("\n-- answers\n")
-        yield name, script.split("\n"), answers.rstrip("\n")
-
-
-STORED_SCRIPTS = [*stored_scripts()]
+STORED_SCRIPTS = [(name, script.splitlines(), told.rstrip("\n"))
+                  for name, script, told in stored_scripts()]
 
 
 @pytest.fixture(scope="module")

@@ -2,7 +2,7 @@
 
 from __future__ import annotations
 
-from keyset.lines import ROLLS
+from keyset.rolls import ROLLS
 
 from ..arguments import moment
 from .common import DELAYS, KEYS, OUT, SCRIPT, TTLS
@@ -18,9 +18,8 @@ given is what the notes say, or else 86400 3600 3600 and 86400 600 600.
     (
         SCRIPT,
         Argument(
-            "ROLL", metavar="ROLL", choices=ROLLS,
-            help="ksk-roll, ksk-double-ds-roll, zsk-roll, zsk-double-signature-roll, csk-roll or "
-            "algorithm-roll",
+            "ROLL", metavar="ROLL", choices=(*ROLLS,),
+            help=" or ".join((", ".join([*ROLLS][:-1]), [*ROLLS][-1])),
         ),
         Argument("OLD", help="old keys, with commas between them, or -"),
         Argument("NEW", help="new keys, with commas between them, or -"),

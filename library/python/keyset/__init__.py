@@ -44,9 +44,9 @@ if TYPE_CHECKING:
     )
     from .file import Lines, create, locked
     from .keyset import KeySet
-    from .lines import RollType
     from .members import Stamps, Status
     from .notes import Notes
+    from .rolls import RollType
     from .session import Session
     from .values import (
         Accepted,
@@ -108,7 +108,7 @@ __all__ = [
 ]
 
 # Where a name is looked for. Each module is imported once it is needed: a command starts often.
-MODULES = ("errors", "file", "engine", "notes", "session", "lines", "values", "members", "keyset")
+MODULES = ("errors", "file", "engine", "notes", "session", "rolls", "values", "members", "keyset")
 
 
 # (A checker of types would take any name for one of this package.)

@@ -8,7 +8,8 @@ from abc import ABC, abstractmethod
 from typing import Callable
 
 from .errors import WrongArgument
-from .lines import FIELDS, RollType
+from .lines import FIELDS
+from .rolls import RollType
 from .values import Accepted, References
 
 

@@ -11,7 +11,7 @@ from . import engine, file
 from .calls import Calls, down, up
 from .errors import Damaged, Locked, Lost, Malformed, OutOfMemory, Torn, WrongArgument, refusal_of
 from .file import Place, Writer
-from .lines import RollType
+from .rolls import RollType
 from .members import Status, WaitEnd
 from .notes import Notes, path_of
 from .session import Guard, Session

@@ -6,8 +6,9 @@ finds the fields of a line that the key set has read."""
 from __future__ import annotations
 
 import re
-from enum import Enum
 from typing import Callable, Dict, Optional, Sequence, Tuple
+
+from .rolls import ROLLS, TIMED
 
 FORMS = {
     "add-ksk": "REF PRIV ALG TAG TIME YN",
@@ -32,21 +33,7 @@ FORMS = {
     "set-rrsig-visible": "REF TIME",
 }
 # The lines with the moment of the call. In others it is a stamp of a key.
-OF_CLOCK = ("start", "report1", "wait1", "report2", "wait2", "set-present")
-
-
-class RollType(Enum):
-    """The kinds of rolls, as a script calls them."""
-
-    KSK_ROLL = "ksk-roll"
-    KSK_DOUBLE_DS_ROLL = "ksk-double-ds-roll"
-    ZSK_ROLL = "zsk-roll"
-    ZSK_DOUBLE_SIGNATURE_ROLL = "zsk-double-signature-roll"
-    CSK_ROLL = "csk-roll"
-    ALGORITHM_ROLL = "algorithm-roll"
-
-
-ROLLS = tuple(roll.value for roll in RollType)
+OF_CLOCK = (*TIMED, "set-present")
 ALGORITHMS = {
     "RSASHA256": 8,
     "RSASHA512": 10,

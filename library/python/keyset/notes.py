@@ -15,6 +15,7 @@ from . import engine, file
 from .bounds import Bounds, Reported
 from .errors import Damaged, Locked, Malformed, Misnamed, Torn, WrongArgument
 from .lines import OF_CLOCK, Line
+from .rolls import ROLLS
 
 KINDS = ("ds", "dnskey", "zone")
 FORM = re.compile(
@@ -213,7 +214,7 @@ def to_report(due: int, kinds: Sequence[str], roll: str, ttls: Mapping[str, int]
     check a DNSKEY set by the old DS set once more, so both TTLs are added."""
     if "ds" not in kinds:
         return due
-    again = lasts(ttls["dnskey"]) if roll == "algorithm-roll" else 0
+    again = 0 if ROLLS[roll].same_algorithms else lasts(ttls["dnskey"])
     return max(due + again, lasts(ttls["zone"]))
 
 

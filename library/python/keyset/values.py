@@ -6,7 +6,7 @@ from dataclasses import dataclass
 from enum import Enum
 from typing import Iterable, List, Tuple, Union, cast
 
-from .lines import RollType
+from .rolls import RollType
 from .members import (
     CallWord,
     KeyKind,
