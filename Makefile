@@ -18,7 +18,8 @@ PYTHON ?= $(shell for python in python3 /usr/bin/python3; do \
 	if $$python -c 'import $(MODULES)' 2>/dev/null; then echo $$python; exit; fi; \
 	done; echo python3)
 # Debian's packages that the gate needs, beside compilers.
-PACKAGES = python3-dnspython python3-cryptography python3-jsonschema python3-pytest mypy
+PACKAGES = python3-dnspython python3-cryptography python3-jsonschema python3-pytest mypy flake8 \
+	python3-pep8-naming
 
 PROGRAM = crates/keyset/out/keyset
 # The program's crates: keyset and those that stand before it.
@@ -99,7 +100,7 @@ clean: ## removes what was built
 	@find . -name __pycache__ -prune -exec rm -rf {} +
 
 # Every proof, wrong body, test and program. It prints when each step was done.
-test: modules has-mypy $(CALLERS) ## the gate: it ends with 'N passed, 0 failed'
+test: modules has-mypy has-flake8 $(CALLERS) ## the gate: it ends with 'N passed, 0 failed'
 	@$(PYTHON) -m tests.gate.gate
 
 # Before a release: CONTRIBUTING says what it takes.
@@ -116,7 +117,7 @@ signers: modules build ## signs by real tools, of files and of PowerDNS, Knot an
 
 # Each minute it says how far it has come.
 game: python build ## plays ROLLS rolls by what policies say, many zones at once
-	@$(PYTHON) -m tests.scripts.automatic $(ROLLS) 1000 $$(nproc)
+	@$(PYTHON) -m tests.scripts.test_automatic $(ROLLS) 1000 $$(nproc)
 
 # It needs Debian's postgresql and python3-psycopg.
 machines: modules build ## lets machines share zones over PostgreSQL, and kills them
@@ -140,15 +141,15 @@ by-itself: build ## lets zones roll by themselves for 20 minutes, on real name s
 first-hour: python build ## does what docs/first-hour.md says, on real servers, in two minutes
 	@$(PYTHON) -m tests.command.first_hour
 
-docs: python ## compares what the documents print with the examples and the callers
-	@$(PYTHON) -m tests.gate.docs
+docs: modules ## compares what the documents print with the examples and the callers
+	@$(PYTHON) -m pytest -q tests/gate/test_docs.py
 
-memory: python has-cc build ## lets each request for memory fail in turn
+memory: modules has-cc build ## lets each request for memory fail in turn
 	@$(call prove,callers,run </dev/null)
-	@$(PYTHON) -m tests.scripts.memory
+	@$(PYTHON) -m pytest -q tests/scripts/test_memory.py
 
-test-lib: $(CALLERS) made ## tests the library, its callers and the install
-	@$(PYTHON) -m tests.library.library library/out
+test-lib: modules $(CALLERS) made ## tests the library, its callers and the install
+	@$(PYTHON) -m pytest -q tests/library/test_library.py
 asan: python has-cc made ## tests the library in C under the address sanitizer
 	@$(PYTHON) -m tests.library.library library/out $@
 valgrind: python has-cc has-valgrind made ## tests the library in C under valgrind
@@ -164,9 +165,9 @@ test-go: python has-go has-cc made ## tests the module for Go
 fuzz: python has-clang made ## lets libFuzzer make RUNS texts: it needs clang with its runtime
 	@$(PYTHON) -m tests.library.fuzz library/out $(RUNS)
 
-# What mypy has to find stands in the test, and what it checks in pyproject.toml.
-types: modules has-mypy ## checks the types of the command and of the Python package by mypy
-	@$(PYTHON) -m tests.gate.mistakes
+# What these have to find stands in the test, what they check in .flake8 and pyproject.toml.
+types: modules has-mypy has-flake8 ## checks all Python by flake8, and types by mypy
+	@$(PYTHON) -m pytest -q tests/gate/test_mistakes.py
 
 help: ## prints these lines
 	@sed -n 's/^\([a-z-]*\):.* ## /\1\t/p' Makefile | \

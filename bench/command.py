@@ -22,8 +22,8 @@ from pathlib import Path
 TOP = Path(__file__).resolve().parent.parent
 sys.path.append(str(TOP))
 
-from programs import OF_SECONDS, Faults  # noqa: E402
-from tests.command.time_taken import course  # noqa: E402
+from programs import OF_SECONDS, Faults
+from tests.command.time_taken import course
 
 ROLLS = 0, 312, 625, 1250
 LIBRARY = TOP / "library" / "out" / "lib" / "libkeyset.so"

@@ -1,70 +1,156 @@
-"""Measures of the house: how often code tells rolls apart, how long proofs are, how large crates.
+"""Measures of the house, each with its limit: how large its rooms are, how long its files, what
+stands twice, what a start passes, and what a word of the command imports.
 
-    python3 bench/house.py [--top FOLDER] [--start PROGRAM]
+    python3 bench/house.py [--top FOLDER] [--start PROGRAM] [--list]
 
-- Matches over rolls: each `match` and `matches!` of the product's code in whose own patterns two or
-  more kinds of rolls stand, by file; then those in whose patterns one kind stands.
-- Lines of proofs: of the `.antt` files in `proofs/`, with and without their imports; and the rows
-  that end with `= refl`.
-- Functions of a crate: the `fn` of its `src/`, and those that the last kept log of a check of it
-  counts, if there is one.
-- Twins: the pairs of places that the command `duplicates` finds in code, definitions and proofs, if
-  it is there.
-- A start: the functions of our sources, and their modules, that the program enters more often if a
-  script has one accepted start more. So its reading, its call, its record, its verdict and its
-  answer count. They are listed by the files in which they are written. gdb counts. PROGRAM has to
-  keep each function apart, as the one that `rt try` makes in crates/keyset, and that it takes away
-  at its end: copy it while it reads a long script.
+FOLDER is a checkout. `--start` adds what an accepted start enters (walk.py), by gdb. PROGRAM has to
+keep each function apart, as the one that `rt try` makes in crates/keyset, and that it takes away at
+its end: copy it while it reads a long script. `--list` names the places of each row below the
+table, as `FILE:LINE` if it is one.
+
+Twins are the pairs of places that the command `duplicates` finds in code, definitions and proofs. A
+match over rolls has two or more kinds of rolls in its own patterns. Tests are all code of tests,
+live, bench and replay, and the product is that of crates/*/src, command, library and packaging. A
+word of the command (starts.py) is run with what `make build` has made.
+
+It ends with status 1, and says which, if a row is out of its limit.
 """
 
+from __future__ import annotations
+
 import argparse
-import os
+import ast
 import re
 import shutil
 import subprocess
 import sys
 import tempfile
 from collections import Counter
+from collections.abc import Callable, Iterable, Iterator
+from dataclasses import dataclass, field
 from pathlib import Path
+
+sys.dont_write_bytecode = True
+sys.path.append(str(Path(__file__).resolve().parent.parent))
+
+import starts
+import walk
+from programs import Faults
+from sources import bodies, code, sources
+from tests.gate import type_names
 
 # They belong to the gate, and not to the product.
 GATE = {"callers", "courses", "dnssec_tests"}
+# How long a body, a function of Python, a file and a line may be.
+BODY, FUNCTION, FILE, LINE = 60, 25, 400, 100
+CODE = {".rt", ".py", ".rs", ".c", ".h", ".go", ".sh", ".in"}
+TESTS = ("tests/", "live/", "bench/", "replay/")
+PRODUCT = ("command/", "library/", "packaging/")
 
-COMMENT_OR_TEXT = re.compile(r'//[^\n]*|"(?:\\.|[^"\\])*"', re.DOTALL)
-FUNCTION = re.compile(r"\bfn\s+\w+")
-# The head of an `impl`, and a function with its indent.
-WRITTEN = re.compile(
-    r"^impl(?:<[^>]*>)? (?:(?P<trait>\w+)(?:<[^>{]*>)? for )?(?P<type>\w+)"
-    r"|^(?P<indent> *)(?:pub(?:\(\w+\))? )?fn (?P<name>\w+)",
-    re.MULTILINE,
-)
+WRITTEN = re.compile(r"\bfn\s+\w+")
 MATCH = re.compile(r"\bmatch\b[^{};]*\{|\bmatches!\(")
 ROLLS = re.compile(r"\benum RollType \{(.*?)\n\}", re.DOTALL)
 COUNTED = re.compile(r"\bfunctions=(\d+)")
-
-SCRIPT = """\
-zone example.com
-add-ksk K1 - 13 1 0 yes
-add-zsk Z1 - 13 2 0 yes
-"""
-START = "start algorithm-roll - K1,Z1 0\n"
-# Where gdb puts a program, and what it says of a place that the program came to.
-LOADED = 0x555555554000
-HIT = re.compile(r"^(\d+) +breakpoint +keep .*\n\s+breakpoint already hit (\d+) time", re.MULTILINE)
+CRATE = re.compile(r"^(\w+)[^:#\n]*:", re.MULTILINE)
+IMPORTS = ("use ", "pub use ", "mod ", "pub mod ")
 
 
-def sources(crates, ending, part):
-    return sorted(crates.glob(f"*/{part}/**/*{ending}"))
+@dataclass(frozen=True)
+class Figure:
+    """A row: what is counted, how much of it there is and may be, and its places. There is no value
+    if it can't be counted here."""
+
+    name: str
+    value: float | None
+    limit: float | None = None
+    places: list[str] = field(default_factory=list)
+
+    def row(self) -> str:
+        value, limit = ("" if it is None else f"{it:,}" for it in (self.value, self.limit))
+        return f"| {self.name} | {value or 'not counted'} | {limit} |"
+
+    def is_within(self) -> bool:
+        return self.value is None or self.limit is None or self.value <= self.limit
 
 
-def code(path):
-    """The text of a file without its comments and without what stands between quotes."""
-    return COMMENT_OR_TEXT.sub('""', path.read_text())
+def listed(name: str, places: Iterable[str], limit: float | None = 0) -> Figure:
+    """The row that counts these places."""
+    found = list(places)
+    return Figure(name, len(found), limit, found)
 
 
-def patterns(text, begin):
+@dataclass(frozen=True)
+class House:
+    """A checkout, and the program that a start is followed in."""
+
+    top: Path
+    program: Path | None
+
+    @property
+    def crates(self) -> Path:
+        return self.top / "crates"
+
+    def files(self, endings: Iterable[str]) -> Iterator[Path]:
+        """What git has, by its ending."""
+        asked = subprocess.run(["git", "ls-files"], cwd=self.top, capture_output=True, text=True,
+                               check=True)
+        yield from (self.top / it for it in asked.stdout.splitlines()
+                    if Path(it).suffix in endings and (self.top / it).is_file())
+
+    def place(self, path: Path, line: int | None = None) -> str:
+        return str(path.relative_to(self.top)) + (f":{line}" if line else "")
+
+
+def start(house: House) -> Iterator[Figure]:
+    passed = walk.walk(house.crates, house.program) if house.program else []
+    rooms = [module for module, _ in passed]
+    modules, functions = Counter(module for module, _ in set(passed)), len(set(passed))
+    changes = sum(one != next_one for one, next_one in zip(rooms, rooms[1:]))
+    counts: list[int | None] = [functions, len(modules), changes]
+    if not house.program:
+        counts = [None, None, None]
+    where = [f"{room}, {count}: " + ", ".join(sorted({name.rpartition("::")[2] for module, name
+             in passed if module == room})) for room, count in sorted(modules.items())]
+    yield Figure("functions that an accepted start enters", counts[0], 90, where)
+    yield Figure("modules that they stand in", counts[1], 20)
+    yield Figure("changes of module on its way", counts[2], 100)
+
+
+def crates(house: House) -> Iterator[Figure]:
+    named = CRATE.findall((house.top / "crates.txt").read_text())
+    yield listed("crates of the product", (it for it in named if it not in GATE), 13)
+    sizes = {crate: functions(house, crate) for crate in named}
+    places = [f"{crate} {count}{checked(house.crates / crate)}" for crate, count in sizes.items()]
+    largest = max(sizes, key=sizes.__getitem__)
+    yield Figure(f"functions of the largest crate, {largest}", sizes[largest], None, places)
+
+
+def functions(house: House, crate: str) -> int:
+    return sum(len(WRITTEN.findall(code(path)))
+               for path in sources(house.crates, ".rt", "src")
+               if path.is_relative_to(house.crates / crate))
+
+
+def checked(crate: Path) -> str:
+    """How many functions the last kept log of a check counts, if there is one."""
+    logs = sorted(crate.glob("out/*.log"), key=lambda path: path.stat().st_mtime, reverse=True)
+    counts = (COUNTED.findall(log.read_text(errors="replace")) for log in logs)
+    found = next((of for of in counts if of), None)
+    return f" (checked {found[-1]})" if found else ""
+
+
+def long_bodies(house: House) -> Iterator[Figure]:
+    yield listed(
+        f"bodies of Rattle over {BODY} lines that are no one match",
+        (house.place(path, body.line) for path in sources(house.crates, ".rt", "src")
+         for body in bodies(path) if len(body.lines) > BODY and not body.is_one_match()),
+    )
+
+
+def patterns(text: str, begin: int) -> list[str]:
     """The patterns of the match whose arms begin after this bracket."""
-    found, depth, in_arm, last = [], 0, False, begin + 1
+    found: list[str] = []
+    depth, in_arm, last = 0, False, begin + 1
     is_macro = text[begin] == "("
     for at in range(begin, len(text)):
         depth += (text[at] in "([{") - (text[at] in ")]}")
@@ -78,128 +164,118 @@ def patterns(text, begin):
     return found
 
 
-def rolls(crates):
-    listed = ROLLS.search(code(crates / "dnssec_key/src/roll.rt"))[1]
-    kind = re.compile(r"\b(?:%s)\b" % "|".join(re.findall(r"\w+", listed)))
-    several, one = Counter(), 0
-    for path in sources(crates, ".rt", "src"):
-        if path.relative_to(crates).parts[0] not in GATE:
-            text = code(path)
-            for match in MATCH.finditer(text):
-                kinds = set(kind.findall(" ".join(patterns(text, match.end() - 1))))
-                several[str(path.relative_to(crates))] += len(kinds) > 1
-                one += len(kinds) == 1
-    places = ", ".join(f"{path} {count}" for path, count in several.items() if count)
-    yield f"matches over rolls: {several.total()} ({places}); over one kind of roll: {one}"
+def matches_over_rolls(house: House) -> Iterator[Figure]:
+    found = ROLLS.search(code(house.crates / "dnssec_key/src/roll.rt"))
+    kinds = re.findall(r"\w+", found[1]) if found else []
+    kind = re.compile(rf"\b(?:{'|'.join(kinds)})\b")
+    places = []
+    for path in sources(house.crates, ".rt", "src"):
+        text = code(path) if path.relative_to(house.crates).parts[0] not in GATE else ""
+        for match in MATCH.finditer(text):
+            if len(set(kind.findall(" ".join(patterns(text, match.end() - 1))))) > 1:
+                places.append(house.place(path, text.count("\n", 0, match.start()) + 1))
+    yield listed("matches over rolls", places, None)
 
 
-def proofs(crates):
-    lines = [line for path in sources(crates, ".antt", "proofs")
-             for line in path.read_text().splitlines()]
-    own = [line for line in lines if not line.startswith(("use ", "pub use ", "mod ", "pub mod "))]
-    rows = sum(line.rstrip().endswith("= refl") for line in lines)
-    yield f"lines of proofs: {len(lines):,}; without imports {len(own):,}; rows `= refl`: {rows}"
+def proofs(house: House) -> Iterator[Figure]:
+    texts = [path.read_text().splitlines() for path in sources(house.crates, ".antt", "proofs")]
+    lines = [line for text in texts for line in text]
+    yield Figure("lines of proofs", len(lines))
+    yield Figure("those without imports", sum(not line.startswith(IMPORTS) for line in lines))
+    yield Figure("rows `= refl` of proofs", sum(line.rstrip().endswith("= refl") for line in lines))
 
 
-def functions(crates):
-    sizes = []
-    for crate in sorted(path.parent for path in crates.glob("*/src")):
-        written = sum(len(FUNCTION.findall(code(path))) for path in sources(crates, ".rt", "src")
-                      if path.is_relative_to(crate))
-        logs = sorted(crate.glob("out/*.log"), key=lambda path: path.stat().st_mtime)
-        counts = [COUNTED.findall(log.read_text(errors="replace")) for log in logs]
-        counted = next((found[-1] for found in reversed(counts) if found), None)
-        sizes.append(f"{crate.name} {written}" + (f" (checked {counted})" if counted else ""))
-    yield f"functions: {', '.join(sizes)}"
-
-
-def twins(crates):
+def twins(house: House) -> Iterator[Figure]:
+    name, limit = "twins of code, definitions and proofs", 40
     if not shutil.which("duplicates"):
-        yield "twins: not counted without the command `duplicates`"
+        yield Figure(name, None, limit)
         return
     with tempfile.TemporaryDirectory() as folder:
         kinds = ((".rt", "src"), (".antt", "specs"), (".antt", "proofs"))
-        for path in (path for kind in kinds for path in sources(crates, *kind)):
+        for path in (path for kind in kinds for path in sources(house.crates, *kind)):
             # (It reads files by their endings, and passes over comments that begin with //.)
-            copy = Path(folder, path.relative_to(crates)).with_suffix(f"{path.suffix}.rs")
+            copy = Path(folder, path.relative_to(house.crates)).with_suffix(f"{path.suffix}.rs")
             copy.parent.mkdir(parents=True, exist_ok=True)
             copy.write_text(re.sub(r"(?m)^(\s*)-- ", r"\1// ", path.read_text()))
-        asked = ["duplicates", "--repo", folder, "--most", "1", "--seconds", "600"]
-        found = subprocess.run(asked, capture_output=True, text=True).stdout.splitlines()
-    yield f"twins: {found[0]}"
-    yield from (line for line in found if line.startswith("incomplete"))
+        asked = ["duplicates", "--repo", folder, "--most", "200", "--seconds", "600"]
+        said, *rows = subprocess.run(asked, capture_output=True, text=True).stdout.splitlines()
+    pairs = re.match(r"(\d+) pairs? of places", said)
+    yield Figure(name, int(pairs[1]) if pairs else 0, limit, rows)
 
 
-def entered(program, places, script, folder):
-    """How often a run comes to each of the places of the program."""
-    given, asked = folder / "script", folder / "asked"
-    given.write_text(script)
-    breaks = [f"break *{LOADED + place}\nignore {i} 1000000" for i, place in enumerate(places, 1)]
-    asked.write_text("\n".join([
-        "set pagination off", f"starti <{given} >/dev/null", *breaks, "continue",
-        "info breakpoints",
-    ]))
-    out = subprocess.run(["gdb", "-batch", "-nx", "-x", asked, program], capture_output=True,
-                         text=True, env={**os.environ, "ASAN_OPTIONS": "detect_leaks=0"}).stdout
-    return {places[int(number) - 1]: int(count) for number, count in HIT.findall(out)}
+def types(house: House) -> Iterator[Figure]:
+    yield listed("names that two types have", type_names.repeated(house.crates))
 
 
-def written(crates):
-    """The module of each function of our sources, by its crate, what it stands in, and its name. It
-    stands in its module, or in the `impl` of a type, which may be of another module."""
-    for path in sources(crates, ".rt", "src"):
-        crate, _, *rooms = path.relative_to(crates).with_suffix("").parts
-        module = "::".join([crate, *(room for room in rooms if room not in ("lib", "main"))])
-        owner = ""
-        for found in WRITTEN.finditer(code(path)):
-            if found["type"]:
-                owner = found["type"] + (found["trait"] or "")
-            else:
-                yield (crate, owner if found["indent"] else module, found["name"]), module
+def lengths(house: House) -> Iterator[Figure]:
+    """Of files, of their lines, and of Python's functions."""
+    long_files, long_lines, long_functions = [], [], []
+    for path in house.files(CODE | {".antt"}):
+        text = path.read_text()
+        lines = text.splitlines()
+        if len(lines) > FILE:
+            long_files.append(f"{house.place(path)} {len(lines)}")
+        long_lines += [house.place(path, number) for number, line in enumerate(lines, start=1)
+                       if len(line) > LINE]
+        if path.suffix == ".py":
+            long_functions += [house.place(path, line) for line in long_in(text)]
+    yield listed(f"files of code and proofs over {FILE} lines", long_files)
+    yield listed(f"lines of these over {LINE} columns", long_lines)
+    yield listed(f"functions of Python over {FUNCTION} lines", long_functions)
 
 
-def place_of(name, ours):
-    """The module in which the function with this name of the linker is written, if it is ours. The
-    name of a trait's impl goes on with what stands between the trait's brackets."""
-    room, _, last = name.rpartition("::")
-    crate, owner = name.partition("::")[0], room.rpartition("::")[2]
-    for within in (room, *(owner[:end] for end in range(len(owner), 0, -1))):
-        if (crate, within, last) in ours:
-            return ours[crate, within, last]
-    return None
+def long_in(text: str) -> Iterator[int]:
+    """The lines at which long functions of Python begin."""
+    for node in ast.walk(ast.parse(text)):
+        if isinstance(node, (ast.FunctionDef, ast.AsyncFunctionDef)):
+            if (node.end_lineno or 0) - node.lineno >= FUNCTION:
+                yield node.lineno
 
 
-def start(crates, program):
-    ours = dict(written(crates))
-    listed = subprocess.run(["nm", "-C", program], capture_output=True, text=True, check=True)
-    places = {}
-    for place, name in re.findall(r"^([0-9a-f]+) [tT] ([^<\n]+)", listed.stdout, re.MULTILINE):
-        # (A name with `fn` is that of a closure.)
-        module = None if "::fn::" in name else place_of(name.rstrip(":"), ours)
-        if module:
-            places[int(place, 16)] = module, name
-    sought = sorted(places)
-    with tempfile.TemporaryDirectory() as folder:
-        before = entered(program, sought, SCRIPT, Path(folder))
-        after = entered(program, sought, SCRIPT + START, Path(folder))
-    passed = sorted({places[at] for at in sought if after.get(at, 0) > before.get(at, 0)})
-    rooms = Counter(module for module, _ in passed)
-    yield f"an accepted start enters {len(passed)} functions in {len(rooms)} modules"
-    for module, count in rooms.items():
-        names = ", ".join(name.rpartition("::")[2] for room, name in passed if room == module)
-        yield f"  {module} {count}: {names}"
+def tests(house: House) -> Iterator[Figure]:
+    lines: Counter[str] = Counter()
+    for path in house.files(CODE):
+        place = house.place(path)
+        is_product = place.startswith(PRODUCT) or re.match(r"crates/\w+/src/", place)
+        kind = "product" if is_product else "tests" if place.startswith(TESTS) else "others"
+        lines[kind] += len(path.read_text().splitlines())
+    yield Figure("lines of tests for a line of the product",
+                 round(lines["tests"] / lines["product"], 3), 0.7,
+                 [f"{kind}: {count:,}" for kind, count in lines.items()])
 
 
-def main():
+MEASURES: list[Callable[[House], Iterator[Figure]]] = [
+    start, long_bodies, crates, twins, proofs, matches_over_rolls, types, lengths, tests,
+]
+
+
+def show_starts(house: House, faults: Faults) -> None:
+    """What each word of the command imports."""
+    print("\n| Word | Modules | Of ours | That ask servers | Milliseconds |\n|---|---|---|---|---|")
+    for found in starts.starts(house.top):
+        print(found.row(), flush=True)
+        if found.word in starts.ASK_NOBODY and (askers := found.of(starts.ASKERS)):
+            faults.expect(False, found.word, f"it imports {', '.join(askers)}")
+
+
+def main() -> int:
     parser = argparse.ArgumentParser()
-    parser.add_argument("--top", default=Path(__file__).absolute().parent.parent, type=Path)
-    parser.add_argument("--start", metavar="PROGRAM")
+    parser.add_argument("--top", default=Path(__file__).parent.parent, type=Path)
+    parser.add_argument("--start", metavar="PROGRAM", type=Path)
+    parser.add_argument("--list", action="store_true")
     given = parser.parse_args()
-    crates = given.top.absolute() / "crates"
-    for measure in (rolls, proofs, functions, twins):
-        print(*measure(crates), sep="\n", flush=True)
-    if given.start:
-        print(*start(crates, given.start), sep="\n")
+    house = House(given.top.resolve(), given.start and given.start.resolve())
+    faults, figures = Faults(), []
+    print("| What | Figure | Limit |\n|---|---|---|")
+    for figure in (figure for measure in MEASURES for figure in measure(house)):
+        print(figure.row(), flush=True)
+        figures.append(figure)
+        faults.expect(figure.is_within(), figure.name, f"{figure.value}, not {figure.limit}")
+    show_starts(house, faults)
+    for figure in figures if given.list else []:
+        if figure.places:
+            print(f"\n{figure.name}:", *figure.places, sep="\n  ")
+    return faults.status()
 
 
 if __name__ == "__main__":

@@ -24,11 +24,11 @@ sys.dont_write_bytecode = True
 TOP = Path(__file__).resolve().parent.parent
 sys.path.append(str(TOP))
 
-from tests.command import answering  # noqa: E402
-from tests.command.rolling_world import ZONE, World, living  # noqa: E402
-from tests.command.rolling import played  # noqa: E402
-from tests.command.terminal import folder, typed  # noqa: E402
-from vaqsider import resting as kept  # noqa: E402
+from tests.command import answering
+from tests.command.rolling_world import ZONE, World, living
+from tests.command.rolling import played
+from tests.command.terminal import folder, typed
+from vaqsider import resting as kept
 
 DAY, NOW, DUE, FIRST = 86400, 1_800_000_000, 10, 100
 POLICY = "ksk-lifetime 12d\nzsk-lifetime 5d\n"

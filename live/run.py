@@ -16,7 +16,7 @@ from pathlib import Path
 
 sys.dont_write_bytecode = True
 
-from processes import Failed, is_taken, missing  # noqa: E402
+from processes import Failed, is_taken, missing
 
 TOP = Path(__file__).resolve().parent.parent
 KEYSET = TOP / "crates" / "keyset" / "out" / "keyset"

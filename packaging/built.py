@@ -16,7 +16,7 @@ from pathlib import Path
 
 sys.dont_write_bytecode = True
 
-from layout import BUILT, PROGRAMS, TOP  # noqa: E402
+from layout import BUILT, PROGRAMS, TOP
 
 # What was noted, in the folder of the library.
 NOTED = "SOURCES"

@@ -18,15 +18,15 @@ from pathlib import Path
 
 sys.dont_write_bytecode = True
 
-from artefact import AARCH64, X86_64, Built, Fault, is_clean, run, version  # noqa: E402
-from built import is_built  # noqa: E402
-from debs import build_debs  # noqa: E402
-from layout import BUILT, TOP  # noqa: E402
-from modules import build_crate, build_module  # noqa: E402
-from notes import write as write_notes  # noqa: E402
-from proof import write as write_proof  # noqa: E402
-from tarballs import pack_built, pack_sources  # noqa: E402
-from wheels import build_sources, build_wheel  # noqa: E402
+from artefact import AARCH64, X86_64, Built, Fault, is_clean, run, version
+from built import is_built
+from debs import build_debs
+from layout import BUILT, TOP
+from modules import build_crate, build_module
+from notes import write as write_notes
+from proof import write as write_proof
+from tarballs import pack_built, pack_sources
+from wheels import build_sources, build_wheel
 
 ARM = TOP / "library" / "out-aarch64"
 BUILDS = [Built(X86_64, BUILT, TOP / "crates"), Built(AARCH64, ARM, ARM / "programs")]

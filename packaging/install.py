@@ -20,8 +20,8 @@ from pathlib import Path
 
 sys.dont_write_bytecode = True
 
-from layout import BUILT, PARTS, USERS, Layout  # noqa: E402
-from trees import Missing, install, uninstall  # noqa: E402
+from layout import BUILT, PARTS, USERS, Layout
+from trees import Missing, install, uninstall
 
 
 def loader_folders():

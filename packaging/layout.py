@@ -36,7 +36,7 @@ from pathlib import Path
 
 sys.path.insert(0, str(Path(__file__).resolve().parents[1] / "share" / "vaqsider"))
 
-from vaqsider.cli import main  # noqa: E402
+from vaqsider.cli import main
 
 sys.exit(main())
 '''

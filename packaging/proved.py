@@ -21,7 +21,7 @@ from pathlib import Path
 
 sys.dont_write_bytecode = True
 
-from layout import TOP  # noqa: E402
+from layout import TOP
 
 # What `rt ci` prints before the proof of a crate, or of its tests, and after it.
 BEGUN = re.compile(r"== .*")

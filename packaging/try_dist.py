@@ -27,8 +27,8 @@ from pathlib import Path
 
 sys.dont_write_bytecode = True
 
-from artefact import AARCH64, X86_64, Fault, run, version  # noqa: E402
-from layout import TOP, shared  # noqa: E402
+from artefact import AARCH64, X86_64, Fault, run, version
+from layout import TOP, shared
 
 SUITE = "bookworm"
 MIRROR = os.environ.get("MIRROR", "http://deb.debian.org/debian")

@@ -19,9 +19,9 @@ from pathlib import Path
 
 sys.dont_write_bytecode = True
 
-from artefact import Fault, run  # noqa: E402
-from dist import ARM  # noqa: E402
-from layout import BUILT, PROGRAMS, TOP  # noqa: E402
+from artefact import Fault, run
+from dist import ARM
+from layout import BUILT, PROGRAMS, TOP
 
 
 @dataclass(frozen=True)

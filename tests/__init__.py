@@ -1,4 +1,4 @@
-"""The tests. Each is run at the top by its name, as `python3 -m tests.gate.docs`."""
+"""The tests. At the top `pytest tests -k NAME` runs one by its name."""
 
 import sys
 from pathlib import Path

@@ -7,7 +7,7 @@ import sys
 # (dnspython would load what asks over HTTPS, which takes longer than a word of the command.)
 sys.modules["httpx"] = sys.modules["requests"] = None
 
-import dns.resolver  # noqa: E402
+import dns.resolver
 
 
 class Resolver(dns.resolver.Resolver):

@@ -376,8 +376,9 @@ FAULT = OK.replace("200 OK", "500 x")
 # What comes over the wire, and what is said of it.
 WIRES = (
     (OK.format(2, "[]"), "has no zone"), (OK.format(9, "[]"), "IncompleteRead"), ("", "Remote end"),
-    ("no HTTP\r\n\r\n", ": no HTTP"), ("HTTP/1.1 302 x\r\nLocation: http://127.0.0.2/\r\n"
-     "Content-Length: 0\r\n\r\n", "302: refused"),
+    ("no HTTP\r\n\r\n", ": no HTTP"),
+    ("HTTP/1.1 302 x\r\nLocation: http://127.0.0.2/\r\nContent-Length: 0\r\n\r\n",
+     "302: refused"),
     ("HTTP/1.1 401 Unauthorized\r\nContent-Length: 2\r\n\r\n{}", "401: refused"),
     ("HTTP/1.1 422 x\r\nContent-Length: 15\r\n\r\n{\"error\": \"no\"}", "422: no"),
     (None, "timed out"),

@@ -1,6 +1,6 @@
 """Makes docs/contracts.txt: for each public function its contract, clause by clause with the
 definitions that it cites and their files, and where its proof stands.
-`tests/gate/docs.py --write` writes it, and without `--write` it compares."""
+`tests/gate/docs.py --write` writes it, and test_docs.py compares it."""
 
 import re
 

@@ -1,6 +1,5 @@
-"""Compares what the documents print with its sources, without a build.
+"""Compares what the documents print with its sources, without a build (test_docs.py).
 
-    python3 -m tests.gate.docs            compares, and fails with the place of each difference
     python3 -m tests.gate.docs --write    writes the answers, the stored examples and the blocks
                                           again
 
@@ -37,7 +36,7 @@ import sys
 from make_sample import examples
 from tables import answers
 from tests import TOP
-from tests.gate import contracts, pictures, type_names
+from tests.gate import contracts, pictures
 from tests.oracle.page import command_lines, steps
 
 STORED = TOP / "replay" / "scripts.txt"
@@ -231,22 +230,6 @@ def stored_text(scripts):
     return "".join(parts)
 
 
-def check_examples(scripts, wrong):
-    """Compares the answers beside the scripts with the tables and with what is replayed."""
-    for path in scripts.values():
-        name = path.relative_to(TOP)
-        beside = path.with_suffix(".answers")
-        if not beside.is_file():
-            wrong.append(f"{name}: the file of its answers is missing")
-        elif beside.read_text().splitlines() != answers(path.read_text().splitlines()):
-            wrong.append(f"{name}: the tables give other answers")
-    for path in (TOP / "examples").rglob("*.answers"):
-        if not path.with_suffix(".script").is_file():
-            wrong.append(f"{path.relative_to(TOP)}: its script is missing")
-    if not wrong and STORED.read_text() != stored_text(scripts):
-        wrong.append(f"{STORED.relative_to(TOP)}: its examples differ from those of examples/")
-
-
 def write(scripts):
     """Writes again what is compared, from the scripts and the sources."""
     for path in scripts.values():
@@ -260,31 +243,10 @@ def write(scripts):
 
 
 def main():
-    scripts = examples()
-    if sys.argv[1:] == ["--write"]:
-        write(scripts)
-    wrong, blocks, quoted, links = [], 0, 0, 0
-    check_examples(scripts, wrong)
-    known = set()
-    for path in scripts.values():
-        beside = path.with_suffix(".answers")
-        known.update(beside.read_text().splitlines() if beside.is_file() else [])
-    for path in documents():
-        document = Document(path, known, wrong)
-        document.walk()
-        blocks, quoted = blocks + document.blocks, quoted + document.quoted
-        links += check_links(path, wrong)
-    wrong += [*pictures.differing(), *contracts.differing(), *type_names.repeated()]
-    wrong += unknown_names(TOP / "docs" / "PROOF.md")
-    if wrong:
-        print(*wrong, f"docs: {len(wrong)} differences", sep="\n")
-        return 1
-    print(
-        f"docs: {len(scripts)} examples, {blocks} blocks, {quoted} quoted answers and {links} links"
-        " are as they stand"
-    )
-    return 0
+    if sys.argv[1:] != ["--write"]:
+        sys.exit("--write writes the documents; pytest tests/gate/test_docs.py compares them")
+    write(examples())
 
 
 if __name__ == "__main__":
-    sys.exit(main())
+    main()

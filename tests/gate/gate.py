@@ -1,9 +1,9 @@
-"""The gate: the tests `docs` and `release`, then `rt ci`. Beside its first proofs run the tests
-that need none, and beside its edits those that take what it has built: `archive` builds the library
-for them. Then `printed_numbers` compares the numbers of docs/tests.txt with what all of them have
-printed. Before the last line of `rt ci` it prints from which files each proof was made, as a
-release wants it, when each step was done, in minutes and seconds since the start, so that a rise is
-seen, and which tests it leaves out."""
+"""The gate: the tests of documents and of the release, then `rt ci`. Beside its first proofs run
+the tests that need none, and beside its edits those that take what it has built: `archive` builds
+the library for them. Then `printed_numbers` compares the numbers of docs/tests.txt with what all of
+them have printed. Before the last line of `rt ci` it prints from which files each proof was made,
+as a release wants it, when each step was done, in minutes and seconds since the start, so that a
+rise is seen, and which tests it leaves out."""
 
 import contextlib
 import os
@@ -26,8 +26,10 @@ STEPS = []
 PRINTED = []
 # What the dearest proof takes of the memory, in bytes.
 MEMORY = 3_500_000_000
+PYTEST = sys.executable, "-m", "pytest", "-q"
 # The tests that need no proof.
-FREE = ("oracle.runbooks", "oracle.networks", "gate.examples", "gate.mistakes")
+FREE = ("oracle.test_runbooks", "oracle.test_networks", "gate.test_examples",
+        "gate.test_mistakes")
 # The priority of edits, as that of `nice`.
 LOW = 10
 # What it leaves out, for that needs servers, root or hours.
@@ -99,9 +101,9 @@ class Beside(threading.Thread):
     def __init__(self, module, *words, under=()):
         room, name = module.split(".")
         super().__init__(daemon=True, name=name)
-        by_pytest = "pytest", "-q", f"tests/{room}/{name}.py"
-        run = by_pytest if name.startswith("test_") else (f"tests.{module}", *words)
-        self.words = [*under, sys.executable, "-m", *run]
+        by_name = sys.executable, "-m", f"tests.{module}", *words
+        by_pytest = *PYTEST, f"tests/{room}/{name}.py"
+        self.words = [*under, *(by_pytest if name.startswith("test_") else by_name)]
         self.test = None
         # What waits for it.
         self.later = []
@@ -126,8 +128,8 @@ class After(Beside):
     """A script of tests that runs after these crates are proved or kept, on what `rt ci` has built
     or restored, and after these scripts have passed."""
 
-    def __init__(self, module, *words, after):
-        super().__init__(module, *words)
+    def __init__(self, module, *words, after, under=()):
+        super().__init__(module, *words, under=under)
         self.wanted = set(after)
         self.alone = threading.Lock()
 
@@ -187,7 +189,7 @@ def note_of(done, scripts):
 
 def main():
     for name in ("docs", "release"):
-        if subprocess.run([sys.executable, "-m", f"tests.gate.{name}"], cwd=TOP).returncode:
+        if subprocess.run([*PYTEST, f"tests/gate/test_{name}.py"], cwd=TOP).returncode:
             return 1
         note(name)
     # At low priority: each crate waits for the proofs of those below it.
@@ -222,17 +224,18 @@ def waiting(folder):
     """The tests that wait for proofs. Some share the library in a folder."""
     # The library takes no proof of `keyset_c`, only of the crates below it.
     archive = After("library.archive", folder, after=["dnssec_status", "dnssec_policy"])
-    library = After("library.library", folder, after=["keyset", "archive"])
+    library = After("library.test_library", under=["env", f"LIBRARY={folder}"],
+                    after=["keyset", "archive"])
     archive.later.append(library)
     return [
-        After("scripts.memory", after=["callers", "keyset"]),
-        After("scripts.sets", after=["callers"]),
-        After("scripts.notes", after=["keyset"]),
+        After("scripts.test_memory", after=["callers", "keyset"]),
+        After("scripts.test_sets", after=["callers"]),
+        After("scripts.test_notes", after=["keyset"]),
         After("command.transcripts", after=["keyset"]),
         After("command.test_rolling", after=["keyset"]),
-        After("scripts.nexts", after=["keyset"]),
-        After("scripts.rolls", after=["keyset"]),
-        After("scripts.automatic", after=["keyset"]),
+        After("scripts.test_nexts", after=["keyset"]),
+        After("scripts.test_rolls", after=["keyset"]),
+        After("scripts.test_automatic", after=["keyset"]),
         archive,
         library,
     ]

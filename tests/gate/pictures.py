@@ -1,6 +1,6 @@
 """Makes the pictures of docs/pictures that show no roll: crates.svg, by crates.txt, and
 network.svg. The others are those of `vaqsider draw` for the example of their name.
-`tests/gate/docs.py --write` writes both, and without `--write` it compares them."""
+`tests/gate/docs.py --write` writes both, and test_docs.py compares them."""
 
 from html import escape
 

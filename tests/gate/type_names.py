@@ -1,5 +1,5 @@
 """Lists the types of the crates that share a name with another one: a reader takes two types of one
-name for one thing. `tests/gate/docs.py` fails if there are any.
+name for one thing. `tests/gate/test_docs.py` fails if there are any.
 
     python3 -m tests.gate.type_names    prints each name that several types have, with their files
 """

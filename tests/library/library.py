@@ -1,13 +1,11 @@
-"""Tests the library that `make lib` makes, and its callers in C, Rust and Python.
+"""Tests the library that `make lib` makes, and its callers in C, Rust and Python (test_library.py).
 
-    python3 -m tests.library.library FOLDER
-            takes the one that `make lib` or `tests/library/archive.py` has left there
     python3 -m tests.library.library FOLDER valgrind|asan
-            only its tests in C, under a checker of memory
+            its tests in C, under a checker of memory
     python3 -m tests.library.library FOLDER elsewhere
-            only its tests in C: those of another architecture, by the compiler CC, run under RUNNER
+            its tests in C: those of another architecture, by the compiler CC, run under RUNNER
     python3 -m tests.library.library FOLDER python
-            only its tests in Python: for a Python of another architecture, on one of EVERY scripts
+            its tests in Python: for a Python of another architecture, on one of EVERY scripts
 
 A script and its answers are those of `replay/scripts.txt`. The program `keyset` has to answer them,
 damaged scripts and long ones as the library does, and `keyset status` has to show what sessions
@@ -21,8 +19,7 @@ import re
 import subprocess
 import sys
 import tempfile
-import time
-from concurrent.futures import ThreadPoolExecutor
+from inspect import signature
 from itertools import islice
 from pathlib import Path
 
@@ -139,7 +136,7 @@ def elsewhere(folder, room):
     told.append(run(*RUNNER, notes, *NOTED, STEP))
     told.append(run(*RUNNER, build_sessions(folder, room / "policies"), STEP))
     for caller, flags in (("C", c_flags(folder)), ("C by the shared object", shared_flags(folder))):
-        told.append(test_c_caller(room, caller, flags) + "\n")
+        told.append(expect_c_rolls(room, caller, flags) + "\n")
     program = programs.build(folder, room)
     told.append(programs.test(program, stored_scripts(), STEP // 6) + "\n")
     told.append(words.test(program))
@@ -365,9 +362,17 @@ def expect_rolls(caller, command, **how):
     return f"the caller in {caller} answers {len(examples)} examples as the program"
 
 
-def test_c_caller(room, caller, flags):
+def expect_c_rolls(room, caller, flags):
     run(CC, *STRICT, *C99, "-o", room / "roll", LIBRARY / "c" / "roll.c", *flags)
     return expect_rolls(caller, [*RUNNER, room / "roll"])
+
+
+def test_c_caller(folder, room):
+    return expect_c_rolls(room, "C", c_flags(folder))
+
+
+def test_c_caller_by_shared_object(folder, room):
+    return expect_c_rolls(room, "C over the shared object", shared_flags(folder))
 
 
 def shared_flags(folder):
@@ -378,7 +383,7 @@ def shared_flags(folder):
 
 
 def test_rust_caller(folder, room):
-    rust.test(folder, room)
+    rust.build_examples(folder, room)
     return expect_rolls("Rust", [room / "rust" / "debug" / "examples" / "roll"])
 
 
@@ -389,74 +394,55 @@ def test_python_caller(folder):
     return expect_rolls("Python", [sys.executable, "-B", LIBRARY / "python" / "roll.py"], env=made)
 
 
+def test_program_in_c(program):
+    return programs.test(program, stored_scripts())
+
+
+def test_install(folder):
+    return install.test(folder)
+
+
+# The tests that load the library into this Python, all others that are short, and the two that take
+# the longest. Each gives a line.
+IN_PYTHON = (
+    test_statuses, test_python_caller, session_notes.test_in_python, test_in_python,
+    test_status_program, test_resumed, test_malformed, test_damaged, test_frozen, test_long,
+)
+TESTS = (
+    test_static_buffer, test_accepted, test_notes, test_policies, test_c_caller,
+    test_c_caller_by_shared_object, test_program_in_c, words.test, rust.test_stored,
+    test_rust_caller, rust.test_project, rust.test_package, rust.test_build,
+    session_notes.test_callers, *IN_PYTHON, test_install,
+)
+LONGEST = test_in_c, test_sessions
+# What stands before the lines of some tests. Before those of the others stands `library`.
+NAMES = {
+    test_statuses: "sessions", test_in_python: "sessions", test_status_program: "sessions",
+    test_sessions: "sessions", test_long: "long", test_install: "install",
+}
+
+
+def line_of(test, given):
+    """The line of a test, which takes what its parameters name."""
+    said = test(**{name: given(name) for name in signature(test).parameters})
+    return f"{NAMES.get(test, 'library')}: {said}"
+
+
 def in_python(folder, _):
     """The tests in this Python, whose architecture the library is for."""
-    yield from tests_in_python(folder, session_notes.questions_of_operators())
-
-
-def test(folder, room):
-    """Gives the name of each test, and what it has done."""
-    expect_exports(folder)
-    expect_no_links(folder)
-    # The two that take the longest run beside the others.
-    with ThreadPoolExecutor() as pool:
-        sessions_in_c = pool.submit(test_sessions, folder, room)
-        in_c = pool.submit(test_in_c, folder, room)
-        yield from short_tests(folder, room)
-        yield "library", in_c.result()
-        yield "sessions", sessions_in_c.result()
-
-
-def short_tests(folder, room):
-    yield "library", test_static_buffer(folder, room)
-    yield "library", test_accepted(folder, room)
-    yield "library", test_notes(folder, room)
-    yield "library", test_policies(folder, room)
-    yield "library", test_c_caller(room, "C", c_flags(folder))
-    yield "library", test_c_caller(room, "C over the shared object", shared_flags(folder))
-    program = programs.build(folder, room)
-    yield "library", programs.test(program, stored_scripts())
-    yield "library", words.test(program)
-    yield "library", test_rust_caller(folder, room)
-    yield "library", rust.test_project(folder, room)
-    yield "library", rust.test_package(folder, room)
-    yield "library", rust.test_build(folder, room)
-    questions = session_notes.questions_of_operators()
-    yield "library", session_notes.test_callers(folder, room, questions)
-    yield from tests_in_python(folder, questions)
-    yield "install", install.test(folder)
-
-
-def tests_in_python(folder, questions):
-    """The tests that load the library into this Python."""
-    yield "sessions", test_statuses(folder)
-    yield "library", test_python_caller(folder)
-    keyset = python_module(folder)
-    yield "library", session_notes.test_in_python(keyset, questions)
-    yield "sessions", test_in_python(keyset)
-    yield "sessions", test_status_program(keyset)
-    yield "library", test_resumed(keyset)
-    yield "library", test_malformed(keyset)
-    yield "library", test_damaged(keyset)
-    yield "library", test_frozen(keyset)
-    yield "long", test_long(folder, keyset)
+    given = {"folder": folder, "keyset": python_module(folder),
+             "questions": session_notes.questions_of_operators()}
+    return "\n".join(line_of(test, given.__getitem__) for test in IN_PYTHON)
 
 
 def main():
-    began = time.monotonic()
+    folder, which = Path(sys.argv[1]).resolve(), sys.argv[2]
     with tempfile.TemporaryDirectory() as room:
-        room = Path(room)
-        folder, which = Path(sys.argv[1]).resolve(), "".join(sys.argv[2:])
         try:
-            if which in CHECKERS:
-                print(CHECKERS[which](folder, room))
-                return 0
-            for name, line in {"": test, "python": in_python}[which](folder, room):
-                print(f"{name}: {line}", flush=True)
+            print({**CHECKERS, "python": in_python}[which](folder, Path(room)))
         except Wrong as wrong:
             print(f"library: {wrong}")
             return 1
-    print(f"library: {time.monotonic() - began:.0f} s")
     return 0
 
 

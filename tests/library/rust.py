@@ -33,10 +33,16 @@ def environment(folder, room):
     }
 
 
-def test(folder, room):
-    """The test that no package has, since it reads stored scripts; and the examples are built."""
-    for words in (("test", "--test", "stored"), ("build", "--examples")):
-        run("cargo", *words, *QUIET, "--locked", cwd=CRATE, env=environment(folder, room))
+def test_stored(folder, room):
+    """The test that no package has, since it reads stored scripts."""
+    words = "test", "--test", "stored"
+    run("cargo", *words, *QUIET, "--locked", cwd=CRATE, env=environment(folder, room))
+    return "the crate passes its test with stored scripts"
+
+
+def build_examples(folder, room):
+    words = "build", "--examples"
+    run("cargo", *words, *QUIET, "--locked", cwd=CRATE, env=environment(folder, room))
 
 
 def test_project(folder, room):

@@ -7,6 +7,7 @@ import sys
 from pathlib import Path
 
 from tests.gate.tools import CC, C99, EVERY, NOTED, STRICT, TOP, WRAPPED, Wrong, c_flags, run
+from tests.library import rust
 from tests.scripts import notes
 
 LIBRARY = TOP / "library"
@@ -88,7 +89,8 @@ def expect_fault(keyset, lines, fault):
 
 
 def test_callers(folder, room, questions):
-    """The three callers that say which reports are due. (cargo builds its own with its tests.)"""
+    """The three callers that say which reports are due."""
+    rust.build_examples(folder, room)
     run(CC, *STRICT, *C99, "-o", room / "due", LIBRARY / "c" / "due.c", *c_flags(folder))
     made = {**os.environ, "KEYSET_LIBRARY": str(folder / "lib" / "libkeyset.so")}
     callers = {

@@ -138,7 +138,7 @@ class Pair:
         """The DS of the signer that leaves goes: the parent has only the keys of the other."""
         yield from other.comes_to(other.book[KSK_ROLL][1])
         other.other = None
-        since = yield from other.publish({"cds"})
+        yield from other.publish({"cds"})
         if not self.world.takes_cds:
             self.world.tell(other.due()["ds"])
         wanted = other.due()["ds"]

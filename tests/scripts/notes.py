@@ -1,17 +1,9 @@
-"""Operators of `tests/oracle/runbooks.py` who keep notes, as docs/REFERENCE.md has them.
-
-The program `keyset notes` is asked for each report. Its answer has to be what the rule of
-docs/REFERENCE.md says, for which `tests/oracle/notes.py` has code of its own. It may be no more
-than rule 1 of docs/OPERATORS.md, as it is played, except for the difference of clocks. Half of them
-report what their notes say, and no zone breaks by it. With one second less zones break. At some
-reports each digit of the notes is lost in turn, and at all of them a moment before the report's
-step is asked about (`tests/scripts/mistyped.py`)."""
+"""Notes as docs/REFERENCE.md has them, those with and without faults, and those of operators of
+`tests/oracle/runbooks.py` who keep them: questions about what is due, which the program
+`keyset notes` is asked."""
 
 import random
-import resource
 import subprocess
-import sys
-import time
 from itertools import permutations
 
 from keyset.rolls import ROLLS
@@ -20,7 +12,6 @@ from tests.oracle import runbooks
 from tests.oracle.book import left_out, runbooks as book
 from tests.oracle.notes import Notes
 from tests.oracle.points import PAIRS, POINTS
-from tests.scripts import mistyped
 
 # A script of three calls, and what is answered to notes beside it and a question.
 SCRIPT = """zone example.com
@@ -109,12 +100,6 @@ INPUTS = {
     f"{LATE}\n\nbefore 1 1 1\npublished ds 3 5 18446744073709551615\ndue 9":
         UNTIL.format(18446744073709551615),
 }
-# At how many reports each digit of the notes is lost.
-MISTYPED = 3
-
-# A thousand calls beside a reference of 1 MB, and the memory in which they are answered: less than
-# the sets after each call take.
-CALLS, LONG, ROOM = 1000, "L" * 1_000_000, 64 << 20
 
 
 def some_orders():
@@ -140,148 +125,10 @@ def played(orders, wrong):
     return questions, back
 
 
-def broken_by_less(orders, wrong):
-    """Operators who report one second less than their notes say, until three of their zones are
-    broken. Gives how many zones that took."""
-    broken, told, unsaid = 0, book(), left_out(POINTS + PAIRS)
-    for seed, order in enumerate(orders):
-        less = runbooks.play(seed, order, told, unsaid, lambda one: Notes(one, True, less=1))
-        broken += less[2] is not None
-        if broken == 3:
-            return seed + 1
-    wrong.append(f"notes: with one second less {broken} zones of {len(orders)} break")
-    return len(orders)
-
-
 def asked(text):
     return subprocess.run(NOTES, input=text, capture_output=True, text=True)
-
-
-def check(text, wanted, wrong):
-    """An input has this answer, or is refused with this text, and nothing is answered."""
-    done = asked(text)
-    is_fault = wanted.startswith(("script: ", "notes: "))
-    told = (done.returncode, (done.stderr if is_fault else done.stdout).rstrip())
-    if told != (is_fault, wanted) or (is_fault and done.stdout):
-        wrong.append(f"notes: {wanted!r} is to be said of {text!r}, and {told} was")
-
-
-def refuse(wrong):
-    """Malformed notes are refused at their first line with a fault, and each question is answered
-    or malformed."""
-    for notes, wanted in ANSWERS.items():
-        check(f"{SCRIPT}\n\n{notes}\ndue 9\n", wanted, wrong)
-    for text, wanted in INPUTS.items():
-        check(text, wanted, wrong)
-
-
-def answer_in_little_room(wrong):
-    """An answer takes memory for its input, and not for what was published after each call."""
-    keys = [f"add-zsk {LONG} - 13 3 9 yes", f"set-present {LONG} yes 9"]
-    script = "\n".join([SCRIPT, *keys, *["wait1 zsk-roll 9"] * CALLS])
-    done = subprocess.run(
-        NOTES, input=f"{script}\n\nbefore 1 1 1\ndue 9\n", capture_output=True, text=True,
-        preexec_fn=lambda: resource.setrlimit(resource.RLIMIT_AS, (ROOM, ROOM)),
-    )
-    if (done.returncode, done.stdout) != (0, f"{NOT_YET}\n"):
-        wrong.append(f"notes: {CALLS} calls in {ROOM >> 20} MB: {done.returncode} {done.stderr}")
 
 
 def text_of(questions):
     """The questions, as the program reads them."""
     return "\n\n".join(f"{each.script}\n\n{each.notes}\ndue {each.moment}" for each in questions)
-
-
-def compare_all(questions, text, wrong):
-    """Compares the answers to all questions with both rules."""
-    told = [answer.splitlines() for answer in text.split("\n\n")]
-    if len(told) != len(questions):
-        wrong.append(f"notes: {len(questions)} questions have {len(told)} answers")
-    for question, lines in zip(questions, told):
-        compare(question, lines, wrong)
-
-
-def compare(question, lines, wrong):
-    """Compares an answer with both rules."""
-    call, roll, *_, due, most = question
-    told = [line for line in lines if roll in line.split()]
-    if due is None:
-        is_right = len(told) == 1 and told[0].startswith(f"not yet: {call} {roll} waits for ")
-    else:
-        is_right = told == [f"{call} {roll} {due} {question.moment}"]
-    if not is_right:
-        wrong.append(f"notes: {call} {roll} is due with {due}, and answered {told}")
-    elif most is not None and due > most:
-        wrong.append(f"notes: {told[0]}, and rule 1 says {most}")
-
-
-def mistype(questions, wrong):
-    """At some reports each digit of the notes is lost in turn. Gives how often, and how often a
-    version was then published before its call."""
-    tried = early = 0
-    for question in random.Random(0).sample(questions, MISTYPED):
-        for notes, refused in mistyped.mistakes(question.script, question.notes):
-            done = asked(f"{question.script}\n\n{notes}\ndue {question.moment}\n")
-            if (done.returncode, done.stderr.rstrip()) != (int(refused is not None), refused or ""):
-                wrong.append(f"notes: {refused} is to be said of {notes!r}, and {done.stderr} was")
-            tried += 1
-            early += str(refused).endswith("its call")
-    return tried, early
-
-
-def ask_early(questions, wrong):
-    """At each report a second before its step is asked about, and the step's."""
-    times = [mistyped.step_time(each.script, each.call, each.roll) for each in questions]
-    asks = zip(questions, times)
-    text = "\n\n".join(
-        f"{each.script}\n\n{each.notes}\ndue {time - 1}\ndue {time}" for each, time in asks
-    )
-    told = asked(text).stdout.split("\n\n")
-    if len(told) != 2 * len(questions):
-        wrong.append(f"notes: {2 * len(questions)} early questions have {len(told)} answers")
-    for question, time, *answers in zip(questions, times, told[::2], told[1::2]):
-        before, then = (
-            [line for line in told.splitlines() if question.roll in line.split()]
-            for told in answers
-        )
-        wanted = f"not yet: {question.call} {question.roll} waits until {time}"
-        if before != [wanted] or len(then) != 1 or "waits until" in then[0]:
-            wrong.append(f"notes: {before} and {then} are answered around {wanted!r}")
-
-
-def main():
-    began, wrong = time.monotonic(), []
-    orders = some_orders()
-    questions, back = played(orders, wrong)
-    zones = broken_by_less(orders, wrong)
-    refuse(wrong)
-    answer_in_little_room(wrong)
-    done = asked(text_of(questions))
-    if done.returncode:
-        wrong.append(f"notes: status {done.returncode}: {done.stderr}")
-    compare_all(questions, done.stdout, wrong)
-    ask_early(questions, wrong)
-    tried, early = mistype(questions, wrong)
-    if wrong:
-        print(*wrong[:20], sep="\n")
-        return 1
-    print(
-        f"notes: {len(orders)} zones, {of_questions(questions)}; {back} times a parent went"
-        f" back, over no step; with one second less 3 of {zones} zones break; {len(ANSWERS)} notes"
-        f" and {len(INPUTS)} inputs with and without faults; {CALLS} calls beside a reference of"
-        f" {len(LONG):,} bytes in {ROOM >> 20} MB; {tried} notes lack a digit, {early} publish"
-        f" before a call; no report before its step; {time.monotonic() - began:.0f} s"
-    )
-    return 0
-
-
-def of_questions(questions):
-    """What the answers to questions were compared with."""
-    waits = sum(question.due is None for question in questions)
-    sharp = sum(question.most is not None for question in questions)
-    return (f"{len(questions)} answers, of which {waits} say not yet, are those of the rule, and"
-            f" {sharp} of them no more than rule 1")
-
-
-if __name__ == "__main__":
-    sys.exit(main())

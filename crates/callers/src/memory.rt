@@ -1,5 +1,5 @@
-//! Calls, one of which may get no memory. `tests/scripts/memory.py` lets each request for memory
-//! fail.
+//! Calls, one of which may get no memory. `tests/scripts/test_memory.py` lets each request for
+//! memory fail.
 mod copies;
 mod names;
 mod requests;

@@ -1,8 +1,8 @@
 //! Writes what scripts are answered, what their records say, whether `audit` and `audit_window`
 //! agree on these, and the whole key set after each call: what the getters of a copy give, the
 //! texts of its states, and for each roll the actions that are due, when its wait is over, and
-//! whether waits are answered so. `tests/scripts/sets.py` compares all that with the tables and
-//! with stored answers.
+//! whether waits are answered so. `tests/scripts/test_sets.py` compares all that with the tables
+//! and with stored answers.
 ghost use Rattle.std.specs.Prelude.{IfOk, string_bytes};
 ghost use Rattle.dnssec_record.specs.Answer.{IsAnswerOf};
 

@@ -1,20 +1,19 @@
-"""Checks types by mypy: those of the command, and those of the Python package, as a caller does who
-has installed it.
+"""Checks all Python by flake8, and types by mypy: those of the command, and those of the Python
+package, as a caller does who has installed it.
 
-    python3 -m tests.gate.mistakes
-
-The files that pyproject.toml names have no fault under `--strict`. In the program below each line
-with a comment has a mistake, and mypy has to name exactly these lines."""
+No file breaks a rule that .flake8 has, and those that pyproject.toml names have no fault under
+`--strict`. In the programs below each line with a comment has a mistake. flake8 has to name exactly
+these faults, and mypy exactly these lines."""
 
 import re
 import shutil
 import subprocess
 import sys
-import tempfile
-import time
 import venv
 from importlib.util import find_spec
 from pathlib import Path
+
+import pytest
 
 from tests.gate.tools import TOP, Wrong, run
 
@@ -65,14 +64,34 @@ except (Locked, Wait) as error:
     caught: Error = error
 '''
 
+BROKEN = f"""\
+import os  # F401
+from tables import *  # F403
+
+
+def Named(lines):  # N802
+    said = lines == None  # E711 F841
+    return undefined  # F405
+
+
+raise NotImplemented  # F901 {"of long lines" * 6}  # E501
+"""
+
+
+def ran(*words, **how):
+    """What a tool writes of the faults that it finds."""
+    try:
+        done = subprocess.run(list(map(str, words)), capture_output=True, text=True, **how)
+    except FileNotFoundError:
+        raise Wrong(f"{words[0]} is missing here, and is needed") from None
+    if done.returncode not in (0, 1) or done.stderr:
+        raise Wrong(f"{words[0]} ends with {done.returncode}: {done.stdout}{done.stderr}")
+    return done.stdout.splitlines()
+
 
 def mypy(*words, **how):
     """What mypy writes: a line for each fault, and then how many files it has checked."""
-    words = ["mypy", "--strict", "--no-pretty", *map(str, words)]
-    done = subprocess.run(words, capture_output=True, text=True, **how)
-    if done.returncode not in (0, 1):
-        raise Wrong(f"mypy ends with {done.returncode}: {done.stdout}{done.stderr}")
-    return done.stdout.splitlines()
+    return ran("mypy", "--strict", "--no-pretty", *words, **how)
 
 
 def installed(room):
@@ -86,43 +105,42 @@ def installed(room):
     return python
 
 
-def test_sources(cache):
+@pytest.fixture(scope="module")
+def cache(tmp_path_factory):
+    """What mypy keeps from one run to the next."""
+    return tmp_path_factory.mktemp("mypy")
+
+
+def test_rules(say):
+    """No Python of the repository breaks a rule."""
+    assert ran("flake8", "--jobs", "1", cwd=TOP) == []
+    say("mistakes: no Python breaks a rule of flake8")
+
+
+def test_broken_rules():
+    """flake8 names each fault of a program that breaks rules, and no other."""
+    named = ran("flake8", "--format", "%(row)d %(code)s", "-", cwd=TOP, input=BROKEN)
+    wanted = [f"{n} {code}" for n, line in enumerate(BROKEN.splitlines(), start=1)
+              for code in re.findall(r"\b[EFN]\d+", line)]
+    assert sorted(named) == sorted(wanted)
+
+
+def test_types(cache, say):
     """No file of the command and of the package has a fault."""
     said = mypy("--cache-dir", cache, "--python-executable", sys.executable, cwd=TOP)
     clean = re.fullmatch(r"Success: no issues found in (\d+) source files", said[-1])
-    if not clean:
-        raise Wrong("\n".join(said))
+    assert clean, "\n".join(said)
     lacks = "" if find_spec("psycopg") else "; psycopg isn't here, so nothing is known of its types"
-    return f"{clean[1]} files have no fault under --strict{lacks}"
+    say(f"mistakes: {clean[1]} files have no fault under --strict{lacks}")
 
 
-def test_mistakes(room, cache):
+def test_mistakes(cache, say, tmp_path):
     """mypy finds each mistake of a caller, and no other."""
-    (room / "program.py").write_text(PROGRAM)
-    python = installed(room)
-    faults = mypy("--cache-dir", cache, "--python-executable", python, "program.py", cwd=room)
+    (tmp_path / "program.py").write_text(PROGRAM)
+    python = installed(tmp_path)
+    faults = mypy("--cache-dir", cache, "--python-executable", python, "program.py", cwd=tmp_path)
     places = (re.match(r"program\.py:(\d+): error", fault) for fault in faults)
     found = {int(place[1]) for place in places if place}
     wanted = {n for n, line in enumerate(PROGRAM.splitlines(), start=1) if "  # " in line}
-    if found != wanted:
-        differ = f"not found: {sorted(wanted - found)}, and found: {sorted(found - wanted)}"
-        raise Wrong("\n".join([differ, *faults]))
-    return f"mypy finds {len(wanted)} mistakes of a caller"
-
-
-def main():
-    began = time.monotonic()
-    with tempfile.TemporaryDirectory() as room:
-        room = Path(room)
-        try:
-            print(f"mistakes: {test_sources(room / 'cache')}")
-            print(f"mistakes: {test_mistakes(room, room / 'cache')}")
-        except Wrong as wrong:
-            print(f"mistakes: {wrong}")
-            return 1
-    print(f"mistakes: {time.monotonic() - began:.0f} s")
-    return 0
-
-
-if __name__ == "__main__":
-    sys.exit(main())
+    assert found == wanted, "\n".join(faults)
+    say(f"mistakes: mypy finds {len(wanted)} mistakes of a caller")

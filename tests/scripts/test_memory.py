@@ -13,15 +13,13 @@ there is no request.
 import os
 import re
 import subprocess
-import sys
-import tempfile
-import time
 from dataclasses import dataclass
 from pathlib import Path
 
-from tests.gate.tools import CRATES, NOTES, PROGRAM, STATUS, STRICT, Wrong, run, stored_scripts
+import pytest
 
-CALLERS = CRATES / "callers" / "out" / "callers"
+from tests.gate.tools import NOTES, PROGRAM, STATUS, STRICT, Wrong, run, stored_scripts
+
 
 # The scripts that the works begin with.
 SCRIPTS = ("rolls-beside-many-keys", "public-keys-published-one-by-one")
@@ -76,11 +74,19 @@ class Outcome:
     made: int
 
 
-def build(folder):
-    """Builds the allocator."""
-    allocator, source = Path(folder, "memory.so"), Path(__file__).with_name("memory.c")
-    run("cc", *STRICT, "-shared", "-fPIC", "-o", allocator, source)
-    return allocator
+@pytest.fixture(scope="module")
+def allocator(tmp_path_factory):
+    made = tmp_path_factory.mktemp("memory") / "memory.so"
+    run("cc", *STRICT, "-shared", "-fPIC", "-o", made, Path(__file__).with_name("memory.c"))
+    return made
+
+
+@pytest.fixture(scope="module")
+def failed(counts, say):
+    """Counts requests that have failed."""
+    yield counts
+    say(f"memory: {counts['calls']} requests of calls and {counts['program']} requests of the"
+        " program failed in turn")
 
 
 def outcome_of(allocator, command, text, failing):
@@ -94,15 +100,14 @@ def outcome_of(allocator, command, text, failing):
     return Outcome(ran.stdout, told["said"], ran.returncode, int(told["made"]))
 
 
-def in_turn(allocator, letter, script):
-    """Lets each request of a work fail. Gives how many failed, and how many of them made it refuse
-    a call."""
+def in_turn(allocator, callers, letter, script):
+    """Lets each request of a work fail. Gives how many failed."""
     work = WORKS[letter]
-    first = with_ample(allocator, BEGINNINGS.get(letter, RECORD), script)
-    made = range(first + 1, with_ample(allocator, letter, script) + 1)
+    first = with_ample(allocator, callers, BEGINNINGS.get(letter, RECORD), script)
+    made = range(first + 1, with_ample(allocator, callers, letter, script) + 1)
     refused = 0
     for failing in made:
-        outcome = outcome_of(allocator, [CALLERS], letter + script, failing)
+        outcome = outcome_of(allocator, [callers], letter + script, failing)
         if outcome.made < failing:
             raise Wrong(f"{work}: request {failing} was not made: {outcome}")
         refused += is_refused(f"{work}: request {failing}", outcome)
@@ -112,13 +117,12 @@ def in_turn(allocator, letter, script):
         raise Wrong(f"{work} has a verdict though a request was refused")
     if letter != DEFINITION and refused == 0:
         raise Wrong(f"{work}: no call was refused for lack of memory")
-    print(f"{work}: {len(made)} requests for memory failed in turn, {refused} of a call")
     return len(made)
 
 
-def with_ample(allocator, letter, script):
+def with_ample(allocator, callers, letter, script):
     """How many requests a work makes if none fails."""
-    outcome = outcome_of(allocator, [CALLERS], letter + script, 0)
+    outcome = outcome_of(allocator, [callers], letter + script, 0)
     if outcome.status or outcome.said or outcome.written != "ample\n":
         raise Wrong(f"{letter}: it doesn't go well with ample memory: {outcome}")
     return outcome.made
@@ -140,7 +144,6 @@ def in_turn_of_program(allocator, command, text):
     ample = outcome_of(allocator, command, text, 0)
     if ample.status or ample.said or not ample.written or not ample.made:
         raise Wrong(f"{name}: it doesn't go well with ample memory: {ample}")
-    refused = 0
     for failing in range(1, ample.made + 1):
         outcome = outcome_of(allocator, command, text, failing)
         is_refused = outcome.status == 3 and not outcome.written and LACKED.fullmatch(outcome.said)
@@ -148,8 +151,6 @@ def in_turn_of_program(allocator, command, text):
         is_of_call = len(command) == 1 and refuses_call(outcome, ample)
         if not (is_refused or is_ample or is_of_call):
             raise Wrong(f"{name}: request {failing}: {outcome}")
-        refused += bool(is_refused)
-    print(f"{name}: {ample.made} requests for memory failed in turn, {refused} ended it")
     return ample.made
 
 
@@ -160,14 +161,33 @@ def refuses_call(outcome, ample):
     return is_answered and lines.count(OUT_OF_MEMORY) == 1
 
 
-def expect_none(allocator):
+def stored_script(sought):
+    """The lines of a stored script."""
+    return next(script for name, script, _ in stored_scripts() if name == sought)
+
+
+def test_names(allocator, callers, failed):
+    failed["calls"] += in_turn(allocator, callers, NAMES, "")
+
+
+@pytest.mark.parametrize("letter", [*WORKS][1:], ids=WORKS.get)
+@pytest.mark.parametrize("name", SCRIPTS)
+def test_work(name, letter, allocator, callers, failed):
+    failed["calls"] += in_turn(allocator, callers, letter, stored_script(name))
+
+
+@pytest.mark.parametrize("asked", ASKED.items(), ids=["answers", "status", "notes"])
+def test_program(asked, allocator, program, failed):
+    failed["program"] += in_turn_of_program(allocator, *asked)
+
+
+@pytest.mark.parametrize("word", UNREAD)
+def test_nothing_read(word, allocator, program):
     """The program makes no request if it reads nothing."""
-    for word in UNREAD:
-        if made := outcome_of(allocator, [PROGRAM, word], "", 0).made:
-            raise Wrong(f"keyset {word}: {made} requests for memory")
+    assert outcome_of(allocator, [program, word], "", 0).made == 0
 
 
-def run_once(allocator):
+def test_further_question(allocator, program):
     """A further question makes as many requests for memory after a long script as after a short
     one."""
     made = [
@@ -177,31 +197,3 @@ def run_once(allocator):
     (short, short_more), (long, long_more) = made
     if short_more - short != long_more - long:
         raise Wrong(f"keyset notes: a further question runs the script again: {made} requests")
-
-
-def main():
-    began, total = time.monotonic(), 0
-    stored = {name: script for name, script, _ in stored_scripts()}
-    try:
-        with tempfile.TemporaryDirectory() as folder:
-            allocator = build(folder)
-            total += in_turn(allocator, NAMES, "")
-            for name in SCRIPTS:
-                for letter in [*WORKS][1:]:
-                    total += in_turn(allocator, letter, stored[name])
-            programs = sum(in_turn_of_program(allocator, *asked) for asked in ASKED.items())
-            expect_none(allocator)
-            run_once(allocator)
-    except Wrong as wrong:
-        print(wrong)
-        return 1
-    seconds = time.monotonic() - began
-    print(
-        f"memory: {total} requests of calls and {programs} requests of the program failed in turn,"
-        f" {seconds:.0f} s"
-    )
-    return 0
-
-
-if __name__ == "__main__":
-    sys.exit(main())

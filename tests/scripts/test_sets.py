@@ -10,14 +10,13 @@ It asks the program `callers`, which `rt ci` has made by then.
 """
 
 import subprocess
-import sys
-import time
+
+import pytest
 
 from keyset.rolls import ALGORITHM_ROLL, CSK_ROLL, ROLLS
 from tables import KeySet
-from tests.gate.tools import TOP, Wrong, stored_scripts
+from tests.gate.tools import stored_scripts
 
-PROGRAM = TOP / "crates" / "callers" / "out" / "callers"
 
 FIRST_KEYS = """\
 zone example.com
@@ -248,39 +247,51 @@ def check(name, script, stored, parts):
         if i > 0:
             wanted.append(keyset.call(line))
         if sorted(next(parts).split("\n")) != told(keyset):
-            raise Wrong(f"{name}: the key set differs from that of the tables: {script[: i + 1]}")
+            pytest.fail(f"{name}: the key set differs from that of the tables: {script[: i + 1]}")
     if answers.split("\n")[:-1] != [*wanted, keyset.published()] or stored not in (None, answers):
-        raise Wrong(f"{name}: the answers differ from those of the tables: {script}")
+        pytest.fail(f"{name}: the answers differ from those of the tables: {script}")
     record = keyset.record[1:]
     if entries != [f"{len(record)} entries, one verdict: true", *map(entry, record)]:
-        raise Wrong(f"{name}: the record differs from that of the tables: {script}")
+        pytest.fail(f"{name}: the record differs from that of the tables: {script}")
 
 
-def main():
-    began = time.monotonic()
-    scripts = [(course[0], lines, None) for course in courses() for lines in scripts_of(*course)]
-    scripts.append(("many keys", [*many_keys()], None))
-    made = len(scripts)
-    scripts += ((name, script.splitlines(), told.rstrip("\n"))
-                for name, script, told in stored_scripts())
-    given = "\n\n".join("\n".join(script) for _, script, _ in scripts)
-    ran = subprocess.run([PROGRAM], input=given, capture_output=True, text=True, check=True)
-    parts = iter(ran.stdout.split("\n\n"))
-    calls = 0
-    try:
-        for name, script, stored in scripts:
+STORED_SCRIPTS = [(name, script.splitlines(), told.rstrip("\n"))
+                  for name, script, told in stored_scripts()]
+
+
+@pytest.fixture(scope="module")
+def check_all(callers, counts, say):
+    """Checks scripts, of which some have stored answers, and counts them."""
+
+    def check_all(name, scripts):
+        given = "\n\n".join("\n".join(script) for script, _ in scripts)
+        ran = subprocess.run([callers], input=given, capture_output=True, text=True, check=True)
+        parts = iter(ran.stdout.split("\n\n"))
+        for script, stored in scripts:
             check(name, script, stored, parts)
-            calls += len(script) - 1
-    except Wrong as wrong:
-        print(f"sets: {wrong}")
-        return 1
-    print(
-        f"sets: {len(list(courses()))} courses in {made - 1} scripts, one of {MANY} keys,"
-        f" {len(scripts) - made} stored scripts, {calls} calls: answers, {len(scripts)} records and"
-        f" whole key sets are those of the tables, {time.monotonic() - began:.0f} s"
-    )
-    return 0
+        counts["scripts"] += len(scripts)
+        counts["calls"] += sum(len(script) - 1 for script, _ in scripts)
+
+    yield check_all
+    made = counts["scripts"] - counts["stored"] - counts["of many keys"]
+    say(f"sets: {counts['courses']} courses in {made} scripts, one of {MANY} keys,"
+        f" {counts['stored']} stored scripts, {counts['calls']} calls: answers,"
+        f" {counts['scripts']} records and whole key sets are those of the tables")
 
 
-if __name__ == "__main__":
-    sys.exit(main())
+@pytest.mark.parametrize("course", courses(), ids=lambda course: course[0])
+def test_course(course, check_all, counts):
+    counts["courses"] += 1
+    check_all(course[0], [(lines, None) for lines in scripts_of(*course)])
+
+
+def test_many_keys(check_all, counts):
+    counts["of many keys"] += 1
+    check_all("many keys", [([*many_keys()], None)])
+
+
+@pytest.mark.parametrize("stored", STORED_SCRIPTS, ids=lambda stored: stored[0])
+def test_stored_script(stored, check_all, counts):
+    counts["stored"] += 1
+    name, script, answers = stored
+    check_all(name, [(script, answers)])

@@ -4,7 +4,7 @@ key set of `replay/tables.py`. What is said is compared with the definition, as
 tests/oracle/what_next.py has it, and at its end each script is answered by the program: all its
 calls are accepted.
 
-    python3 -m tests.scripts.automatic [ROLLS [ZONE [JOBS]]]
+    python3 -m tests.scripts.test_automatic ROLLS ZONE JOBS
             how many rolls are played at least, from which zone on, and how many at once
 
 The policies are random, and change on the way: lifetimes and demands, the rolls by which keys are
@@ -328,13 +328,28 @@ def lies(wrong: list[str]) -> str:
     return f"by 2 kinds of untrue notes some zone of {zones} breaks"
 
 
+def zones_of(rolls: int, first: int = 0) -> range:
+    """Zones from this one on, which make so many rolls at least."""
+    return range(first, first - (-rolls // ROLLS_OF_A_ZONE))
+
+
+def test_automatic_zones(program, say):
+    wrong: list[str] = []
+    say(f"automatic: {follow(zones_of(ROLLS_IN_THE_GATE), 1, wrong)}")
+    assert wrong == []
+
+
+def test_automatic_lies(program, say):
+    wrong: list[str] = []
+    say(f"automatic: {lies(wrong)}")
+    assert wrong == []
+
+
 def main() -> int:
     began, wrong = time.monotonic(), []
-    defaults = ROLLS_IN_THE_GATE, 0, 1
-    least, first, jobs = (*map(int, sys.argv[1:]), *defaults[len(sys.argv) - 1:])
-    zones = range(first, first - (-least // ROLLS_OF_A_ZONE))
+    least, first, jobs = map(int, sys.argv[1:])
     try:
-        print(f"automatic: {follow(zones, jobs, wrong)}", flush=True)
+        print(f"automatic: {follow(zones_of(least, first), jobs, wrong)}", flush=True)
         print(f"automatic: {lies(wrong)}")
     except Wrong as fault:
         wrong.append(f"automatic: {fault}")

@@ -10,9 +10,9 @@ it isn't met in some zone.
 """
 
 import random
-import sys
-import time
 from itertools import permutations, product
+
+import pytest
 
 from judge import has_chain
 from keyset.rolls import ROLLS
@@ -242,30 +242,49 @@ def is_held(parent, number, now):
     return False
 
 
-def main():
-    began, wrong = time.monotonic(), []
-    told, unsaid = book(), left_out(POINTS + PAIRS)
-    orders = random.Random(1).sample([*permutations(ROLLS)], ZONES)
-    rows = [(f"zone {seed}", alone(seed, order, told, unsaid))
-            for seed, order in enumerate(orders)]
-    rows += [(f"two signers {seed}", two(seed, told, unsaid)) for seed in range(TWO)]
-    for name, (_, _, faults) in rows:
-        wrong += [f"networks: {name}: {fault}" for fault in faults[:3]]
-    zones = [until_unmet(point, told, frozenset(unsaid)) for point in GUIDE]
-    wrong += [f"networks: within the guide's rules as they are defined: {point.name}"
-              for point, number in zip(GUIDE, zones) if number is None]
-    if wrong:
-        print(*wrong[:20], sep="\n")
-        return 1
-    instants, choices = (sum(row[column] for _, row in rows) for column in (0, 1))
-    print(
-        f"networks: {ZONES} zones with all six rolls, and {TWO} with two signers, meet each premise"
-        f" at {instants} instants; {choices} choices of sets have a chain; {len(GUIDE)} points left"
-        f" out, of which each is found within {max(zones)} zones;"
-        f" {time.monotonic() - began:.0f} s"
-    )
-    return 0
+ORDERS = random.Random(1).sample([*permutations(ROLLS)], ZONES)
 
 
-if __name__ == "__main__":
-    sys.exit(main())
+@pytest.fixture(scope="module")
+def guides():
+    """The book, and the points that the guides don't say."""
+    return book(), left_out(POINTS + PAIRS)
+
+
+@pytest.fixture(scope="module")
+def networks(counts, say):
+    """Counts what networks have."""
+    yield counts
+    say(f"networks: {counts['zones']} zones with all six rolls, and {counts['two']} with two"
+        f" signers, meet each premise at {counts['instants']} instants; {counts['choices']} choices"
+        f" of sets have a chain; {counts['points']} points left out, of which each is found within"
+        f" {counts['most']} zones")
+
+
+@pytest.mark.parametrize("zone", range(ZONES))
+def test_one_signer(zone, guides, networks):
+    networks["zones"] += 1
+    expect_premises(alone(zone, ORDERS[zone], *guides), networks)
+
+
+@pytest.mark.parametrize("zone", range(TWO))
+def test_two_signers(zone, guides, networks):
+    networks["two"] += 1
+    expect_premises(two(zone, *guides), networks)
+
+
+@pytest.mark.parametrize("point", GUIDE, ids=lambda point: point.name)
+def test_without(point, guides, networks):
+    """Within the guide's rules as they are defined no zone is without this point."""
+    told, unsaid = guides
+    networks["points"] += 1
+    number = until_unmet(point, told, frozenset(unsaid))
+    assert number is not None
+    networks["most"] = max(networks["most"], number)
+
+
+def expect_premises(played, networks):
+    instants, choices, faults = played
+    networks["instants"] += instants
+    networks["choices"] += choices
+    assert faults[:3] == []

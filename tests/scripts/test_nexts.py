@@ -1,10 +1,7 @@
 """What a policy says to do next, by the program `keyset next` and by its twin of the game
 (what_next.py): they have to say the same, or refuse with the same words. The questions are drawn:
 each stored script up to some line, notes of it, a policy and a moment. Bad days have an answer of
-their own (bad_days.py).
-
-    python3 -m tests.scripts.nexts [QUESTIONS]    how many are asked at least
-"""
+their own (bad_days.py)."""
 
 from __future__ import annotations
 
@@ -12,11 +9,12 @@ import itertools
 import random
 import re
 import subprocess
-import sys
 from collections import Counter
 from collections.abc import Iterator, Sequence
 from concurrent.futures import ThreadPoolExecutor
 from dataclasses import dataclass
+
+import pytest
 
 from keyset import programs
 from keyset.rolls import rolls_of
@@ -27,6 +25,7 @@ from tests.oracle.spread import KINDS
 
 QUESTIONS, LAST, TTLS = 4000, 2**64 - 1, (0, 1, 60, 300, 3600, 2**31, 2**32 - 1)
 MOMENT = re.compile(r"(?:start|report\d|wait\d) .* (\d+)")
+DAYS = [*bad_days.days()]
 
 
 @dataclass(frozen=True)
@@ -113,38 +112,33 @@ def drawn(dice: random.Random, stored: list[list[str]]) -> Question:
     return Question(policy(dice, most), lines, notes(dice, reached, most), min(second, LAST))
 
 
-def wrong_on_bad_days() -> Iterator[str]:
-    """What isn't said as it has to be on a bad day."""
-    for what, day, wanted in bad_days.days():
-        question = Question(day.policy, day.script, day.notes, day.now)
-        for by, said in ("program", question.by_program()), ("twin", question.by_twin()):
-            if said != wanted:
-                yield f"{what}: the {by} says {said!r}, and not {wanted!r}"
-
-
-def main() -> int:
-    count = int(sys.argv[1]) if len(sys.argv) > 1 else QUESTIONS
+def test_questions(program, say):
     dice, stored = random.Random(62), scripts()
-    questions = [drawn(dice, stored) for _ in range(count)]
+    questions = [drawn(dice, stored) for _ in range(QUESTIONS)]
     with ThreadPoolExecutor(4) as pool:
-        said = list(pool.map(Question.by_program, questions))
-    words: Counter[str] = Counter()
-    wrong = []
-    for question, by_program in zip(questions, said):
-        by_twin = question.by_twin()
-        words[by_twin.partition(" ")[0].rstrip(":")] += 1
-        # (The twin takes notes that the program refuses.)
-        if by_program.startswith("status 1: notes: "):
-            words["notes refused"] += 1
-        elif by_program != by_twin:
-            wrong.append(f"{question}: the program says {by_program!r}, and the twin {by_twin!r}")
-    wrong += wrong_on_bad_days()
-    print(*wrong[:10], sep="\n", end="\n" if wrong else "")
-    days = sum(1 for _ in bad_days.days())
+        answers = zip(questions, pool.map(Question.by_program, questions))
+        judged = [judged_by_twin(*answer) for answer in answers]
+    wrong = [fault for _, fault in judged if fault]
+    words = Counter(word for word, _ in judged)
     told = ", ".join(f"{number} {word}" for word, number in sorted(words.items()))
-    print(f"nexts: {count} questions ({told}), {days} bad days, {len(wrong)} differences")
-    return 1 if wrong else 0
+    say(f"nexts: {QUESTIONS} questions ({told}), {len(DAYS)} bad days, {len(wrong)} differences")
+    if wrong:
+        pytest.fail("\n".join(wrong[:10]), pytrace=False)
 
 
-if __name__ == "__main__":
-    sys.exit(main())
+def judged_by_twin(question: Question, by_program: str) -> tuple[str, str | None]:
+    """What is done next by the twin, in a word, and how it differs from what the program says. (The
+    twin takes notes that the program refuses.)"""
+    if by_program.startswith("status 1: notes: "):
+        return "notes refused", None
+    by_twin = question.by_twin()
+    differ = f"{question}: the program says {by_program!r}, and the twin {by_twin!r}"
+    return by_twin.partition(" ")[0].rstrip(":"), None if by_program == by_twin else differ
+
+
+@pytest.mark.parametrize("bad_day", DAYS, ids=lambda bad_day: bad_day[0])
+def test_bad_day(bad_day, program):
+    _, day, wanted = bad_day
+    question = Question(day.policy, day.script, day.notes, day.now)
+    assert question.by_program() == wanted
+    assert question.by_twin() == wanted

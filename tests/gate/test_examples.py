@@ -1,7 +1,5 @@
 """Compiles the example of each docstring in crates/*/src, without a proof.
 
-    python3 -m tests.gate.examples [-v]    with -v it shows the program if that doesn't compile
-
 Each example becomes a function of a program that is made in a folder of its own. What an example
 takes for granted, as `alloc` or the key set `set`, is a parameter of that function. The program is
 compiled by `rt try`, and does nothing.
@@ -10,10 +8,6 @@ compiled by `rt try`, and does nothing.
 import re
 import shutil
 import subprocess
-import sys
-import tempfile
-import time
-from pathlib import Path
 
 from tests.gate.tools import CRATES, TOP
 
@@ -66,6 +60,8 @@ OWN = {
     "sleep": "fn sleep(left: Duration) {}",
     "watch": "fn watch(kind: SetKind) {}",
 }
+
+
 def examples():
     """The text of each example, with its place."""
     for path in sorted(CRATES.glob("dnssec_*/src/**/*.rt")):
@@ -163,18 +159,9 @@ fn main(rt: HostRuntime) -> anyhow::Result<()> {
 """
 
 
-def main():
-    began, items = time.monotonic(), public_items()
+def test_docstrings(say, tmp_path):
+    items = public_items()
     modules = [module(n, *each, items) for n, each in enumerate(examples())]
-    text = "\n".join(["#![tactic(auto)]", *modules, MAIN])
-    with tempfile.TemporaryDirectory() as room:
-        done = compiled(text, Path(room))
-    if done.returncode or done.stdout != "compiled\n":
-        print(done.stdout, done.stderr, text if "-v" in sys.argv else "", sep="\n")
-        return 1
-    print(f"examples: {len(modules)} docstrings compile; {time.monotonic() - began:.0f} s")
-    return 0
-
-
-if __name__ == "__main__":
-    sys.exit(main())
+    done = compiled("\n".join(["#![tactic(auto)]", *modules, MAIN]), tmp_path)
+    assert (done.returncode, done.stdout) == (0, "compiled\n"), done.stderr
+    say(f"examples: {len(modules)} docstrings compile")
