@@ -42,7 +42,7 @@ use Rattle.dnssec_policy.specs.Laws.{IsPrompt, UntilOver}
 use Rattle.dnssec_policy.specs.Todo.{Make, Todo, rank}
 use Rattle.dnssec_policy.specs.Ttls.{report_takes}
 use Rattle.dnssec_policy.specs.View.{View}
-use Rattle.dnssec_policy.proofs.Automatic.{automatic-plain}
+use Rattle.dnssec_policy.proofs.PlainCalls.{automatic-plain}
 use Rattle.dnssec_policy.proofs.Bound.{ends-in-time, in-time, no-longer}
 use Rattle.dnssec_policy.proofs.May.{May}
 use Rattle.dnssec_policy.proofs.Notes.{add-moment, at-now, none-ahead}

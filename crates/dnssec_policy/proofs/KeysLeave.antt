@@ -42,7 +42,7 @@ use Rattle.dnssec_policy.specs.Next.{next_of}
 use Rattle.dnssec_policy.specs.Todo.{Make, rank}
 use Rattle.dnssec_policy.specs.View.{View}
 use Rattle.dnssec_policy.proofs.Accepted.{listed-in, works-goes}
-use Rattle.dnssec_policy.proofs.Automatic.{automatic-plain}
+use Rattle.dnssec_policy.proofs.PlainCalls.{automatic-plain}
 use Rattle.dnssec_policy.proofs.Delays.{auto, in-turn}
 use Rattle.dnssec_policy.proofs.InTime.{renewals-in-time}
 use Rattle.dnssec_policy.proofs.Lags.{costs-grow, more-by, none-by, sum-by}

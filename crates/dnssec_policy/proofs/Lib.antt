@@ -24,7 +24,7 @@ pub mod May
 pub mod Said
 pub mod Accepted
 pub mod Clear
-pub mod Automatic
+pub mod PlainCalls
 pub mod ByHand
 pub mod Whole
 pub mod Notes

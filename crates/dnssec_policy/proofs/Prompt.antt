@@ -58,7 +58,7 @@ use Rattle.dnssec_policy.specs.Todo.{Todo, Make, NotBefore, Rest, Stuck, is_soon
 use Rattle.dnssec_policy.specs.Todo.{rank, sooner}
 use Rattle.dnssec_policy.specs.Ttls.{lasting}
 use Rattle.dnssec_policy.specs.View.{View, reach_in}
-use Rattle.dnssec_policy.proofs.Automatic.{automatic-plain}
+use Rattle.dnssec_policy.proofs.PlainCalls.{automatic-plain}
 use Rattle.dnssec_policy.proofs.Order.{NotLater, no-later, rank-le, roll-said}
 use Rattle.dnssec_policy.proofs.Steps.{lasted, stepped}
 

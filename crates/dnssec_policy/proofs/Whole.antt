@@ -30,7 +30,7 @@ use Rattle.dnssec_network.specs.Network.{Network}
 use Rattle.dnssec_policy.specs.declared.policy.Policy.{Policy}
 use Rattle.dnssec_policy.specs.Automatic.{IsAutomatic, is_add}
 use Rattle.dnssec_policy.specs.View.{View}
-use Rattle.dnssec_policy.proofs.Automatic.{said}
+use Rattle.dnssec_policy.proofs.PlainCalls.{said}
 use Rattle.dnssec_policy.proofs.May.{May}
 use Rattle.dnssec_policy.proofs.Whole.Keys.{HasOf, is_alike, IsWhole, waited-alike, waited-ksk}
 use Rattle.dnssec_policy.proofs.Whole.Keys.{waited-zsk, stale-zsk, blank-kept}
