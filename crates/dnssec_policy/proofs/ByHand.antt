@@ -22,7 +22,7 @@ use Rattle.dnssec_policy.specs.Next.{answer_of, lasts, next_of, stuck_of, unless
 use Rattle.dnssec_policy.specs.Next.{unless_lasting}
 use Rattle.dnssec_policy.specs.Todo.{Make, NotBefore, Stuck, Todo}
 use Rattle.dnssec_policy.specs.View.{View}
-use Rattle.dnssec_policy.proofs.{Automatic.only, May.May, Said.may}
+use Rattle.dnssec_policy.proofs.{PlainCalls.only, May.May, Said.may}
 
 -- ---- automatic calls
 

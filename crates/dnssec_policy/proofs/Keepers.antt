@@ -26,7 +26,7 @@ use Rattle.dnssec_policy.specs.Kept.{AutomaticRunsServeKeepers, IsAutomaticKeepi
 use Rattle.dnssec_policy.specs.Kept.{KeptAlgorithmsSign, keeping}
 use Rattle.dnssec_policy.specs.Ttls.{keeps, lasting}
 use Rattle.dnssec_policy.specs.View.{View}
-use Rattle.dnssec_policy.proofs.{Automatic.automatic-plain, May.May, Said.may}
+use Rattle.dnssec_policy.proofs.{PlainCalls.automatic-plain, May.May, Said.may}
 use Rattle.dnssec_policy.proofs.{Whole.automatic-whole}
 use Rattle.dnssec_policy.proofs.Kept.{kept_before, kept_fact, still-due, still-true}
 use Rattle.dnssec_policy.proofs.Notes.{all-by-notes, none-ahead}

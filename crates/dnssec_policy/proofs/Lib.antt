@@ -1,25 +1,25 @@
 -- What carries each law:
 --
--- | Law                               | Lemma                                 | File      |
--- |-----------------------------------|---------------------------------------|-----------|
--- | all of them                       | `may`                                 | Said      |
--- | `automatic_runs_are_plain`        | `automatic-plain`                     | Automatic |
--- | the same, clause `whole`          | `automatic-whole`                     | Whole     |
--- | `automatic_runs_are_untouched`    | `untouched`                           | ByHand    |
--- | `automatic_reports_are_by_notes`  | `by-notes`, `none-ahead`              | Notes     |
--- | `automatic_runs_reach_resolvers`  | those, and the network's              | Notes     |
--- | `automatic_runs_serve_keepers`    | `serves-keepers`, `kept-sign`         | Keepers   |
--- | `next_is_accepted`                | `clear`                               | Clear     |
--- | `automatic_ends_follow`           | `follows`                             | Ends      |
--- | `automatic_deletions_follow`      | `leaves`                              | Ends      |
--- | `next_goes_on`                    | `prompt`, `ahead`                     | Prompt    |
--- | `rolls_are_in_time`               | `no-longer`, `in-time`                | Bound     |
--- | `rolls_end`                       | `rolls-end`                           | RollsEnd  |
--- | `starts_are_in_time`              | `renewals-in-time`, `changes-in-time` | InTime    |
--- | `keys_leave`                      | `keys-leave`                          | KeysLeave |
--- | `nothing_is_silent`               | `outspoken`                           | Silence   |
--- | `rest_is_as_wanted`               | `as-wanted`                           | Rests     |
--- | `automatic_runs_grow`             | `grows`                               | Growing   |
+-- | Law                              | Lemma                                 | File       |
+-- |----------------------------------|---------------------------------------|------------|
+-- | all of them                      | `may`                                 | Said       |
+-- | `automatic_runs_are_plain`       | `automatic-plain`                     | PlainCalls |
+-- | the same, clause `whole`         | `automatic-whole`                     | Whole      |
+-- | `automatic_runs_are_untouched`   | `untouched`                           | ByHand     |
+-- | `automatic_reports_are_by_notes` | `by-notes`, `none-ahead`              | Notes      |
+-- | `automatic_runs_reach_resolvers` | those, and the network's              | Notes      |
+-- | `automatic_runs_serve_keepers`   | `serves-keepers`, `kept-sign`         | Keepers    |
+-- | `next_is_accepted`               | `clear`                               | Clear      |
+-- | `automatic_ends_follow`          | `follows`                             | Ends       |
+-- | `automatic_deletions_follow`     | `leaves`                              | Ends       |
+-- | `next_goes_on`                   | `prompt`, `ahead`                     | Prompt     |
+-- | `rolls_are_in_time`              | `no-longer`, `in-time`                | Bound      |
+-- | `rolls_end`                      | `rolls-end`                           | RollsEnd   |
+-- | `starts_are_in_time`             | `renewals-in-time`, `changes-in-time` | InTime     |
+-- | `keys_leave`                     | `keys-leave`                          | KeysLeave  |
+-- | `nothing_is_silent`              | `outspoken`                           | Silence    |
+-- | `rest_is_as_wanted`              | `as-wanted`                           | Rests      |
+-- | `automatic_runs_grow`            | `grows`                               | Growing    |
 pub mod May
 pub mod Said
 pub mod Accepted

@@ -27,7 +27,7 @@ use Rattle.dnssec_policy.specs.declared.policy.Policy.{Policy}
 use Rattle.dnssec_policy.specs.Automatic.{IsAutomatic, is_add}
 use Rattle.dnssec_policy.specs.Ttls.{keeps, lasting}
 use Rattle.dnssec_policy.specs.View.{View}
-use Rattle.dnssec_policy.proofs.{Automatic.said, May.May}
+use Rattle.dnssec_policy.proofs.{PlainCalls.said, May.May}
 
 -- ---- one call
 

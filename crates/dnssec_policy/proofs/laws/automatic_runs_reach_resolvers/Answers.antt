@@ -4,7 +4,7 @@ use Rattle.dnssec_run.specs.Safe.{Dnskey, Ds, ZoneSigners}
 use Rattle.dnssec_network.specs.Network.{ReportsAreTrue}
 use Rattle.dnssec_network.proofs.Held.{held-cached, held-each, resolvers_find_chain}
 use Rattle.dnssec_network.proofs.Noted.{notes_make_reports_true}
-use Rattle.dnssec_policy.proofs.{Automatic.automatic-plain, Whole.automatic-whole}
+use Rattle.dnssec_policy.proofs.{PlainCalls.automatic-plain, Whole.automatic-whole}
 use Rattle.dnssec_policy.proofs.Notes.{by-notes, none-ahead}
 use Rattle.std.proofs.Common.{arith}
 use Rattle.dnssec_policy.proofs.laws.automatic_runs_reach_resolvers.Goals as goal
