@@ -12,7 +12,7 @@ from unittest import mock
 import dns.dnssec
 import dns.rdata
 
-from tests.command import adaptors, stores, testkeys
+from tests.command import signer_courses, stores, testkeys
 from tests.command.terminal import STORED, folder, typed
 from vaqsider import importing, keyfiles
 from vaqsider.errors import Failure
@@ -248,7 +248,7 @@ def rows():
         with folder():
             for path in Path().glob("K*.key"):
                 path.unlink()
-            keys = adaptors.make()
+            keys = signer_courses.make()
             names = {key: it for it, key in keys.items()}
             try:
                 told = tell(keys)
@@ -375,7 +375,7 @@ def of_sources():
     for name, tell, _, _ in ROWS:
         if name in STAY:
             with folder():
-                keys = tell(adaptors.make()).keys
+                keys = tell(signer_courses.make()).keys
                 found = {it.reference for it in keys if it.private is None}
             if len(found) != 2 or not all(re.fullmatch(STAY[name], str(it)) for it in found):
                 yield f"{name} calls private halves {found}"

@@ -28,7 +28,7 @@ import dns.query
 import dns.rdatatype
 
 from live.postgres import Postgres
-from tests.command import adaptors
+from tests.command import signer_courses
 from tests.command.terminal import folder
 from vaqsider import keyfiles
 from vaqsider.errors import Failure
@@ -52,15 +52,15 @@ mail 7200 A 127.0.0.2
 KEYS = {"K1": ("13", True), "K2": ("13", True), "Z1": ("13", False), "Z2": ("13", False),
         "C3": ("13", True), "K4": ("8", True), "Z4": ("8", False)}
 TWO = ("K1,Z1,K4,Z4 K1,K4 Z1,Z4 -", "K1,Z1,K4,Z4 K1,K4 Z1,Z4 K4", "K4,Z4 K4 Z4 -")
-OF_PDNS = (*adaptors.COURSE[1:], *TWO, "K4,Z4 K4 Z4 0", "- - - -")
-OF_KNOT = (*adaptors.COURSE[1:], *adaptors.OF_CSK, *TWO)
+OF_PDNS = (*signer_courses.COURSE[1:], *TWO, "K4,Z4 K4 Z4 0", "- - - -")
+OF_KNOT = (*signer_courses.COURSE[1:], *signer_courses.OF_CSK, *TWO)
 COURSES = {
     "pdns": OF_PDNS,
     "pdns-pgsql": OF_PDNS[:5],
     "pdns-api": OF_PDNS,
     "knot": OF_KNOT,
     "knot-pkcs11": OF_KNOT,
-    "bind-inline": (*adaptors.COURSE[1:], *TWO),
+    "bind-inline": (*signer_courses.COURSE[1:], *TWO),
 }
 SOFTHSM = "/usr/lib/softhsm/libsofthsm2.so"
 SCHEMA = Path("/usr/share/doc/pdns-backend-sqlite3/schema.sqlite3.sql")
@@ -333,12 +333,12 @@ def course(name: str):
         known = list(keys.values())
         try:
             for text in COURSES[name]:
-                wanted = adaptors.sets(keys, text)
+                wanted = signer_courses.sets(keys, text)
                 yield from (f"{name}: {text}: {it}" for it in step(server, known, wanted))
             if name.startswith("pdns"):
                 yield from (f"{name}: {it}" for it in own_cds(server, known))
             if name == "pdns":
-                yield from locked(server, known, adaptors.sets(keys, COURSES[name][0]))
+                yield from locked(server, known, signer_courses.sets(keys, COURSES[name][0]))
         finally:
             server.end()
 
