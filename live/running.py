@@ -15,11 +15,10 @@ from by_command import DS_TTL, DUE, KSK, OK, TTL, UNAVAILABLE, WARNING, ZSK, Ope
 from dnspython import dns
 from from_bind import HERE, Bind, free_port, is_signed, publish
 from keys import Version, plain_records, run
+from knot_signers import Knot, KnotByPkcs11
+from pdns_signers import Pdns, PdnsByApi, PdnsOfItsOwnKeys
 from processes import Failed, end, outcome
-from signers import (
-    RNDC, SECRET, Hooked, Knot, KnotByPkcs11, Named, OfBind, OfLdns, Pdns, PdnsByApi,
-    PdnsOfItsOwnKeys,
-)
+from signers import RNDC, SECRET, Hooked, Named, OfBind, OfLdns
 
 # The algorithm of the keys after an algorithm roll.
 OTHER = "14"
