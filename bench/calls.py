@@ -19,8 +19,8 @@ has proved is used again; the rest takes some minutes. The gate wants each file 
 to a crate that it proves, so the program has another suffix here.
 
 The folder of `--original` has a `build.sh OUT`, which makes a program of its `main.rs` and of the
-original's text, and a `stubs.rs` for what that text imports. `calls.rs` takes the place of its
-`main.rs`. Without `--original` only our figures are printed.
+original's text, and a `stubs.rs` for what that text imports. `calls.rs`, with `calls_sets.rs` in
+it, takes the place of its `main.rs`. Without `--original` only our figures are printed.
 """
 
 import argparse
@@ -129,7 +129,10 @@ def build_original(original, folder):
             (folder / path.name).symlink_to(path)
     copy = folder / original.name
     shutil.copytree(original, copy, copy_function=shutil.copyfile)
-    shutil.copyfile(BENCH / "calls.rs", copy / "main.rs")
+    # (Its script knows of no other file of ours, so the sets stand in the same one.)
+    text, sets = ((BENCH / name).read_text() for name in ("calls.rs", "calls_sets.rs"))
+    text = text.replace("mod calls_sets;", f"mod calls_sets {{\n{sets}}}")
+    (copy / "main.rs").write_text(text)
     program = folder / "calls-of-the-original"
     command = ["sh", copy / "build.sh", program]
     subprocess.run(command, stdout=sys.stderr, check=True)

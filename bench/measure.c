@@ -1,5 +1,5 @@
-/* Runs a program, and writes its processor seconds and its greatest memory in KB into a file. It ends
-   the program, and ends with status 71, if that takes more than so many seconds.
+/* Runs a program, and writes its processor seconds and its greatest memory in KB into a file. It
+   ends the program, and ends with status 71, if that takes more than so many seconds.
 
        measure FILE SECONDS PROGRAM ARGUMENTS..
 

@@ -25,8 +25,8 @@ TOP = Path(__file__).resolve().parent.parent
 sys.path.append(str(TOP))
 
 from tests.command import answering
-from tests.command.rolling_world import ZONE, World, living
-from tests.command.rolling import played
+from tests.command.rolling_folder import living, played
+from tests.command.rolling_world import ZONE, World
 from tests.command.terminal import folder, typed
 from vaqsider import resting as kept
 

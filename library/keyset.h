@@ -10,8 +10,8 @@
    called, and keeps no pointer. What it allocates it frees before it returns, except what a session
    keeps until `keyset_close`.
 
-   Where it runs: on Linux, with an x86-64 or a 64-bit ARM processor. It links against the C library,
-   and nothing else: `cc caller.c -lkeyset`.
+   Where it runs: on Linux, with an x86-64 or a 64-bit ARM processor. It links against the C
+   library, and nothing else: `cc caller.c -lkeyset`.
 
    Threads: the library has no data of its own, takes no lock, opens no file and reads no clock. So
    threads may call it side by side, each with sessions and an `out` of its own. A session may go
@@ -136,7 +136,8 @@ uint32_t keyset_accept(struct keyset_session *session, const uint8_t *line, size
    malformed      no call is made, and the session is as it was (malformed, kept)
    short          the call is made, and its answer has `length` bytes (short, needed). Don't make it
                   again: `keyset_told` writes its answer
-   out of memory  no call is made, and the session is as it was (memory, kept): asking again may help
+   out of memory  no call is made, and the session is as it was (memory, kept): asking again may
+                  help
    lost           memory ran out after a part of the call was made, so the session is closed (lost):
                   open it again with its lines
    closed         it was closed (closed)
@@ -188,11 +189,11 @@ uint32_t keyset_note(struct keyset_session *session, const uint8_t *line, size_t
 struct keyset_answered keyset_due(const struct keyset_session *session, uint64_t seconds,
                                   uint8_t *out, size_t out_length);
 
-/* Writes what a policy says to do next at this second since 1970, after the calls of a script and by
-   the notes beside it: one line without a line feed. docs/POLICY.md has the form of a policy and of
-   the line. It keeps nothing, and is for zones that roll by themselves: whatever it says, the calls
-   are accepted, and resolvers find a chain of trust (crates/dnssec_policy). An add of a key may come
-   between.
+/* Writes what a policy says to do next at this second since 1970, after the calls of a script and
+   by the notes beside it: one line without a line feed. docs/POLICY.md has the form of a policy and
+   of the line. It keeps nothing, and is for zones that roll by themselves: whatever it says, the
+   calls are accepted, and resolvers find a chain of trust (crates/dnssec_policy). An add of a key
+   may come between.
 
    answered       `out` begins with the line (said)
    not said       the policy, the script or the notes are refused, or a lifetime is shorter than its
@@ -226,8 +227,8 @@ void keyset_close(struct keyset_session *session);
    KEYSET_VERSION if header and library belong together. */
 uint32_t keyset_version(void);
 
-/* KEYSET_TEXT_ROOM bytes always suffice for these two (room). They take no memory, and write no line
-   feed (told).
+/* KEYSET_TEXT_ROOM bytes always suffice for these two (room). They take no memory, and write no
+   line feed (told).
 
    keyset_status_text   what a status means, as `out of memory`; of another number `no such status`
    keyset_version_text  the release of the linked library, as `1.1.0` */

@@ -41,9 +41,10 @@ declared=$(sed -n 's/^[a-z].* \(keyset_[a-z_]*\)(.*/--keep-global-symbol=\1/p' "
 printf 'keyset %s\0' "$release" >release
 ./llvm-objcopy $declared --add-section .keyset=release keyset.o
 "$tools/llvm-ar" rcs libkeyset.a keyset.o
-"$tools/ld.lld" -shared --build-id=sha1 -z noexecstack -z now -z defs -soname "libkeyset.so.$interface" \
-    -o "libkeyset.so.$interface" keyset.o "$libc"
+"$tools/ld.lld" -shared --build-id=sha1 -z noexecstack -z now -z defs \
+    -soname "libkeyset.so.$interface" -o "libkeyset.so.$interface" keyset.o "$libc"
 # (no link: `rt all check` refuses a tree with one)
 ln "libkeyset.so.$interface" libkeyset.so
 rm -f keyset.o heap.o release llvm-objcopy
-sed "s|@VERSION@|$release|; s|@UP@|../..|; s|@LIBRARIES@|lib|" "$here/keyset.pc.in" >pkgconfig/keyset.pc
+sed "s|@VERSION@|$release|; s|@UP@|../..|; s|@LIBRARIES@|lib|" "$here/keyset.pc.in" \
+    >pkgconfig/keyset.pc

@@ -20,11 +20,13 @@ from typing import Optional
 
 from asking import ask, data_of, is_signed_by_ds
 from by_command import DS_TTL, OK, TTL
+from knot_signers import Knot
 from parent import NEGATIVE
+from pdns_signers import Pdns
 from places import CHILD, PARENT
 from processes import Failed, end
 from running import Running
-from signers import Knot, Named, Pdns, replace
+from signers import Named, replace
 
 # For how long each scene is played, that of a signer that runs, and the most that one may take with
 # its end, in seconds.

@@ -10,8 +10,9 @@ from pathlib import Path
 from by_command import DS_TTL, TTL
 from from_bind import HERE
 from keys import run
+from knot_signers import FAR, KEYSTORE, PIN, SOFTHSM, Knot, KnotByPkcs11
 from processes import Failed, end, outcome, program
-from signers import FAR, KEYSTORE, PIN, SOFTHSM, Knot, KnotByPkcs11, OfFiles
+from signers import OfFiles
 
 SCHEMA = Path("/usr/share/opendnssec/schema.sqlite")
 VERSION = "INSERT INTO databaseVersion (version) VALUES (1);"

@@ -6,20 +6,18 @@ import asyncio
 import itertools
 import json
 import re
-import shutil
 import signal
 import sys
 import time
 
-from by_command import DS_TTL, DUE, KSK, OK, TTL, UNAVAILABLE, WARNING, ZSK, Operator
+from by_command import DS_TTL, DUE, KSK, OK, TTL, UNAVAILABLE, ZSK, Operator
 from dnspython import dns
-from from_bind import HERE, Bind, free_port, is_signed, publish
-from keys import Version, plain_records, run
+from from_bind import is_signed
+from keys import run
+from knot_signers import Knot, KnotByPkcs11
+from pdns_signers import PdnsByApi, PdnsOfItsOwnKeys
 from processes import Failed, end, outcome
-from signers import (
-    RNDC, SECRET, Hooked, Knot, KnotByPkcs11, Named, OfBind, OfLdns, Pdns, PdnsByApi,
-    PdnsOfItsOwnKeys,
-)
+from signers import Hooked, Named, OfBind, OfLdns
 
 # The algorithm of the keys after an algorithm roll.
 OTHER = "14"
@@ -263,69 +261,6 @@ async def by_hand(operator, told):
                         *operator.named())
 
 
-POLICY = """\
-options {{
-  directory "{folder}"; pid-file "{folder}/pid"; session-keyfile "{folder}/session.key";
-  key-directory "{folder}"; port {port}; listen-on {{ {here}; }}; listen-on-v6 {{ none; }};
-  recursion no; notify no; allow-transfer {{ any; }}; dnssec-validation no;
-}};
-key k {{ algorithm hmac-sha256; secret "{secret}"; }};
-controls {{ inet {here} port {control} allow {{ any; }} keys {{ k; }}; }};
-dnssec-policy "scene" {{
-  keys {{ ksk lifetime unlimited algorithm 13; zsk lifetime unlimited algorithm 13; }};
-  dnskey-ttl {ttl}; max-zone-ttl {ttl}; parent-ds-ttl {ds_ttl};
-  publish-safety 1; retire-safety 1; zone-propagation-delay 2; parent-propagation-delay 1;
-}};
-zone "{zone}" {{
-  type primary; file "{folder}/zone"; dnssec-policy "scene"; inline-signing yes;
-}};
-"""
-
-
-class Policy(Bind):
-    """BIND, which signs by a policy and can be told that the parent has the DS."""
-
-    def begin(self):
-        self.control = free_port()
-        settings = {"folder": self.folder, "here": HERE, "control": self.control}
-        (self.folder / "rndc.conf").write_text(RNDC.format(**settings, secret=SECRET))
-        version = Version(self.serial, TTL, TTL)
-        records = plain_records(self.zone.name, version, self.zone.letters)
-        (self.folder / "zone").write_text(f"$TTL {TTL}\n" + "\n".join(records) + "\n")
-        (self.folder / "conf").write_text(POLICY.format(
-            **settings, port=self.port, secret=SECRET, zone=self.zone.name, ttl=TTL,
-            ds_ttl=DS_TTL))
-        name = f"signer-{self.zone.name.rstrip('.')}"
-        self.zone.world.processes.start(
-            name, "named", "-g", "-n", "1", "-c", str(self.folder / "conf"))
-
-    async def has_ds(self):
-        """The operator tells it so, as dnssec-policy wants it."""
-        await run(self.folder, "rndc", "-c", "rndc.conf", "dnssec", "-checkds", "published",
-                  self.zone.name)
-
-
-async def round_trip(zone):
-    """docs/COMING-FROM.md: BIND signs by a policy. Its keys come in, and PowerDNS signs, then Knot,
-    then `act` by BIND's tools. With each signer a key rolls."""
-    operator = Running(zone)
-    bind = Policy(zone, operator.serial)
-    bind.begin()
-    await publish(operator, await bind.signed("NSEC"))
-    await operator.type(*words_of_import(operator, bind), ends=(WARNING,))
-    await bind.has_ds()
-    await come(operator, words_of_import(operator, bind))
-    await stop(operator, bind)
-    for maker, roll in ((Pdns, "zsk-roll"), (Knot, "ksk-roll")):
-        operator.signer = maker(operator)
-        await operator.signer.start(operator.served + 1)
-        await operator.act()
-        await is_right(operator)
-        await replace_one(operator, roll)
-    await back_to_files(operator)
-    await operator.type("check", operator.script)
-
-
 async def come(operator, words):
     """The import, again and again: first the other system may be in its own roll, then all has to
     stay the same for longer than every TTL. What that took is kept, in seconds."""
@@ -350,15 +285,6 @@ def took(operator, **seconds):
     path.write_text(json.dumps({**told, **seconds}))
 
 
-async def stop(operator, bind):
-    """What `import` says of BIND: its keys stay, and nothing of BIND's changes any more."""
-    for path in sorted(bind.folder.glob("K*")):
-        if path.suffix in (".key", ".private"):
-            shutil.copy(path, operator.folder)
-    processes = operator.zone.world.processes
-    end(processes.running.pop(f"signer-{operator.zone.name.rstrip('.')}"), signal.SIGTERM)
-
-
 async def is_everywhere(operator):
     """The slowest server has taken the last version."""
     await asyncio.sleep(operator.zone.world.fleet.SLOWEST + 1)
@@ -368,18 +294,6 @@ async def is_right(operator):
     """All servers have what is due, as soon as the slowest one has taken it."""
     await is_everywhere(operator)
     await operator.watch("--state")
-
-
-async def back_to_files(operator):
-    """From Knot back to BIND's tools, which sign a file: a higher serial, and another roll. The
-    signed file of long ago goes first: its keys have left the script."""
-    operator.signer = None
-    operator.signed.unlink()
-    operator.serial = operator.served + 1
-    operator.file.write_text(f"$TTL {TTL}\n" + "\n".join(operator.records()) + "\n")
-    await Operator.act(operator)
-    await is_right(operator)
-    await replace_one(operator, "zsk-roll")
 
 
 def words_of_import(operator, bind=None):
@@ -406,5 +320,4 @@ HONEST = {
     "signer-knot-pkcs11": rolls(KnotByPkcs11),
     "signer-bind-inline": rolls(Named),
     "signer-hook": rolls(Hooked),
-    "from-bind-to-pdns-to-knot": round_trip,
 }

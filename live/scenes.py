@@ -9,6 +9,7 @@ import by_words
 import commanded
 import emergencies
 import from_bind
+import from_policy
 import lost
 import offline
 import one_signer
@@ -37,7 +38,8 @@ class Scene(NamedTuple):
 
 # The longest come first.
 SCENES = [
-    *(Scene(name, play, "A", False) for name, play in running.HONEST.items()),
+    *(Scene(name, play, "A", False)
+      for name, play in {**running.HONEST, **from_policy.HONEST}.items()),
     *(Scene(name, play, "A", False, most=by_itself.MOST)
       for name, play in by_itself.HONEST.items()),
     *(Scene(name, play, "A", False) for name, play in by_itself.OF_SIGNERS.items()),
@@ -91,6 +93,7 @@ ONLY_WHOLE = {
     "from-bind-csk",
     "from-bind-serial-by-date",
     *running.HONEST,
+    *from_policy.HONEST,
     *by_itself.OF_SIGNERS,
     *by_words.HONEST,
     *takeovers.HONEST,

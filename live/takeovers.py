@@ -10,9 +10,11 @@ import running
 from by_command import TTL, WARNING
 from from_bind import is_signed, publish
 from keys import run
+from knot_signers import Knot
 from opendnssec import LEAVES, RESTS, KnotOfItsToken, OpenDnssec
+from pdns_signers import Pdns, PdnsByApi
 from processes import Failed
-from signers import Knot, Named, OfBind, Pdns, PdnsByApi
+from signers import Named, OfBind
 
 PATIENCE = 30
 # A serial that the signer from before, which goes on meanwhile, doesn't reach.

@@ -6,7 +6,8 @@
 #
 # It installs nothing unless all files have the sums of SHA256SUMS, which lies beside it too.
 # `share/vaqsider/installed` lists what was installed. Files that an earlier install has left, and
-# this one lacks, go; a shared object of an older interface stays, since programs may be linked to it.
+# this one lacks, go; a shared object of an older interface stays, since programs may be linked to
+# it.
 set -eu
 umask 022
 export LC_ALL=C

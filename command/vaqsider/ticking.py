@@ -14,11 +14,9 @@ from pathlib import Path
 from typing import TYPE_CHECKING
 
 from keyset import Notes, WrongArgument
-from keyset.lines import Line
 from keyset.notes import Seen
-from keyset.rolls import TIMED
 
-from . import act, advice, calling, hooks, linting, parents, parsing, plan, policies, resting
+from . import act, advice, calling, expecting, hooks, parents, parsing, policies, resting
 from . import shortnames, signers, status, watching, words
 from .advice import Said
 from .ending import PARENT_LACKS, REFUSED, RUN_LOW, STUCK, Clock, Deed, Done, End, Log
@@ -79,28 +77,9 @@ class Tick:
         """Reads the script, and expects that a tick can go on from it."""
         self.lines, self.told = status.read(self.script, self.clock())
         self.notes = Notes(self.script)
-        for expect in (self._expect_chain, self._expect_notes, self._expect_clock):
-            expect()
-
-    def _expect_chain(self) -> None:
-        if not self.told["chain"]["safe"]:
-            raise Done(BROKEN, "the chain of trust is broken: nothing is done until it is mended")
-
-    def _expect_notes(self) -> None:
-        if not self.notes.lines:
-            text = "is missing: it begins with 'before TTL TTL TTL'"
-            raise Done(WARNING, f"{self.notes.path} {text}")
-
-    def _expect_clock(self) -> None:
-        """No line lies ahead of the clock. Else it was set back, and no moment of now is right."""
-        moments = [Line(line).moment or 0 for line in self.lines
-                   if line.partition(" ")[0] in TIMED]
-        moments += [int(line.rpartition(" ")[2]) for line in self.notes.lines[1:]]
-        last = max(moments, default=0)
-        if last > int(self.clock()):
-            is_allowed = last <= self.clock() + 2 * self.policy.clock
-            text = f"its last moment, {words.moment(last)}, lies ahead of the clock"
-            raise Done(DUE if is_allowed else WARNING, f"{text}: was that set back?")
+        expecting.expect_chain(self.told)
+        expecting.expect_notes(self.notes)
+        expecting.expect_clock(self.lines, self.notes, self.clock, self.policy)
 
     def step(self) -> None:
         """One deed, by what is most urgent."""
@@ -253,7 +232,7 @@ class Tick:
         waits for it, CDS is out; then the call is asked for once more, with its moment."""
         word, roll = said.line.split(" ")[:2]
         if word == "start":
-            self._expect_able(said.line)
+            expecting.expect_able(said.line, self.lines, self.script, self.zone, self.policy)
         kinds = self.kinds().get(roll, []) if word in ("report1", "report2", "done") else []
         if "ds" in kinds and not self.is_cds_out:
             self.take_cds_out()
@@ -267,17 +246,6 @@ class Tick:
             raise Done(WARNING, "; ".join(made.text()), event=REFUSED)
         self.is_cds_out = False
         self.say("called", [f"{made.line}: {made.reply}"])
-
-    def _expect_able(self, start: str) -> None:
-        """The signer can do all of the roll that this line starts. Else it isn't begun."""
-        _, roll, old, new, moment = start.split(" ")
-        spans = linting.Spans.of(self.script, int(moment))
-        able = linting.planned(self.policy, self.script, self.zone)
-        try:
-            plan.Plan(self.lines, int(moment), spans.ttls, spans.delays, able).roll(roll, old, new)
-        except plan.Unable as unable:
-            text = f"signer {self.policy.signer} can't do a {roll}: {unable.lacks}"
-            raise Done(WARNING, text, event=REFUSED) from None
 
     def reported(self, line: str) -> str:
         """A report with the TTL that is said, and what clocks may differ by: one may be behind at

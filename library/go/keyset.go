@@ -202,8 +202,8 @@ func (s *Session) Status() ([]byte, error) {
 }
 
 // Note takes the next line of the zone's notes: what is published, with which TTL in seconds, and
-// when all servers gave it. The error is a *MalformedError, a *RefusedError if the line can't follow
-// those before it, ErrOutOfMemory or ErrClosed. Then the notes are as they were.
+// when all servers gave it. The error is a *MalformedError, a *RefusedError if the line can't
+// follow those before it, ErrOutOfMemory or ErrClosed. Then the notes are as they were.
 func (s *Session) Note(line string) error {
 	s.alone.Lock()
 	defer s.alone.Unlock()

@@ -1,6 +1,6 @@
 //! Links libkeyset.a: that of the folder `KEYSET_LIB`; else the one that lies in this crate, as a
-//! release has it for each architecture; else what `make lib` has made; else the one that pkg-config
-//! finds. Its header has to be of the interface that this crate is written for.
+//! release has it for each architecture; else what `make lib` has made; else the one that
+//! pkg-config finds. Its header has to be of the interface that this crate is written for.
 
 use std::path::{Path, PathBuf};
 use std::process::{self, Command};

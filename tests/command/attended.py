@@ -11,7 +11,8 @@ from collections.abc import Iterator
 from pathlib import Path
 from unittest import mock
 
-from tests.command.rolling_world import ZONE, Servers, World, lines, living, tick
+from tests.command.rolling_folder import lines, living, tick
+from tests.command.rolling_world import ZONE, Servers, World
 from tests.command.terminal import TOP, folder, typed
 
 DAY = 86400

@@ -22,7 +22,8 @@ from unittest import mock
 
 from live.postgres import NAME, Postgres
 from tests.command import answering
-from tests.command.rolling_world import ZONE, World, living, shape
+from tests.command.rolling_folder import living, shape
+from tests.command.rolling_world import ZONE, World
 from tests.command.terminal import TOP, folder, typed
 
 LIFETIMES = "ksk-lifetime 15d\nzsk-lifetime 6d\n"

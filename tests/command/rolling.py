@@ -1,6 +1,6 @@
 """Zones that roll by themselves, in a world of this process (rolling_world.py): courses by each
-kind of policy; ticks that are killed after each change on disk; two at once; clocks that jump; a
-full disk; hooks that hang or lie; policies with each word wrong; and what needs a person
+kind of policy, rolls that are asked for, and early ends. Beside them what goes wrong
+(rolling_mishaps.py), what policies say (rolling_policies.py), and what needs a person
 (attended.py).
 
     pytest tests/command/test_rolling.py    all of it
@@ -11,32 +11,23 @@ it knows the word."""
 
 from __future__ import annotations
 
-import copy
 import io
 import json
-import os
 import re
-import resource
 import shutil
-import signal
-import tempfile
-import threading
 import time
-from collections.abc import Callable, Iterator
-from concurrent.futures import ProcessPoolExecutor
-from contextlib import contextmanager
+from collections.abc import Iterator
 from dataclasses import dataclass
 from html.parser import HTMLParser
 from pathlib import Path
 from unittest import mock
 
-from tests.command import attended, rolling_world
-from tests.command.rolling_world import BEGIN, ZONE, Broken, World, lines, living, shape, tick
-from tests.command.terminal import TOP, folder, typed
+from tests.command import attended, rolling_mishaps, rolling_policies
+from tests.command.rolling_folder import COUNTS, DAY, SPLIT, lines, living, played, shape, tick
+from tests.command.rolling_world import BEGIN, UNSIGNED, ZONE, Broken, World
+from tests.command.terminal import folder, typed
 from tests.oracle import what_next
 
-COUNTS = {"ticks": 0, "rolls": 0, "kills": 0, "policies": 0, "commands": 0}
-DAY = 86400
 # The notes and the reports of DS sets: no server gives CDS any more then.
 OF_DS = re.compile(r"noted: everywhere ds |"
                    r"called: report(1 ksk-double-ds-roll|2 (ksk|csk|algorithm)-roll) ")
@@ -66,15 +57,6 @@ COURSES = (
     Course("a registrar", "ksk-lifetime 10d\nparent hook\non-ds registrar\n",
            ("algorithm-roll", "ksk-roll"), 25, reads_cds=False),
 )
-
-
-def played(world: World, until: int, every: int = 6 * 3600) -> Iterator[tuple[int, int, str]]:
-    """Ticks as a timer makes them, more often while something is waited for."""
-    while world.now < until:
-        status, said = tick(world)
-        COUNTS["ticks"] += 1
-        yield world.now, status, said
-        world.passes(min(60 if status else every, max(1, until - world.now)))
 
 
 def course_faults(course: Course) -> Iterator[str]:
@@ -148,363 +130,10 @@ def rest() -> Iterator[str]:
         after = {path: path.read_bytes() for path in Path().rglob("*") if path.is_file()}
         if status or before != after or "nothing is due before" not in said:
             yield f"at rest it ends with {status}: {said}"
-        Path(f"{ZONE}.zone").write_text(rolling_world.UNSIGNED + "www IN A 127.0.0.2\n")
+        Path(f"{ZONE}.zone").write_text(UNSIGNED + "www IN A 127.0.0.2\n")
         status, said = tick(world)
         if "published: the unsigned zone has changed" not in said:
             yield f"after a change of the zone it says {said}"
-
-
-# ---- killed, and two at once
-
-
-SPLIT = "ksk-lifetime 15d\nzsk-lifetime 6d\n"
-# What a tick finds: how long a zone was played before, and what it then does.
-SITUATIONS = {
-    "the first keys": ("", lambda said: True),
-    "a DS set": (SPLIT, lambda said: "published: publish ds" in said),
-    "CDS goes out": (SPLIT, lambda said: "CDS goes out" in said),
-    "a new key": (SPLIT, lambda said: "start zsk-roll" in said),
-    "a key leaves": (SPLIT, lambda said: "moved away" in said),
-    "a registrar": ("parent hook\non-ds registrar\n", lambda said: "DS handed over" in said),
-}
-
-
-@contextmanager
-def dying(count: int) -> Iterator[None]:
-    """This process ends before it changes files for the time of this number."""
-    left = [count]
-
-    def before(change):
-        def made(*given, **named):
-            left[0] -= 1
-            if left[0] == 0:
-                os.kill(os.getpid(), signal.SIGKILL)
-            return change(*given, **named)
-
-        return made
-
-    names = ("fsync", "replace", "rename", "mkdir", "unlink", "pwrite", "ftruncate")
-    with mock.patch.multiple(os, **{name: before(getattr(os, name)) for name in names}):
-        yield
-
-
-def is_killed(world: World, count: int) -> bool:
-    """Whether a tick in a process of its own was killed at a change; else it came to its end."""
-    if (child := os.fork()) == 0:
-        with dying(count):
-            tick(world)
-        os._exit(0)
-    return os.WIFSIGNALED(os.waitpid(child, 0)[1])
-
-
-def before_it(name: str) -> Iterator[tuple[World, str]]:
-    """The world just before a tick does what a situation is about, and the folder then."""
-    policy, does = SITUATIONS[name]
-    world = World(reads_cds="hook" not in policy)
-    with folder() as here, living(world, policy):
-        for _ in range(200):
-            kept = copy.deepcopy(world)
-            with tempfile.TemporaryDirectory() as made:
-                shutil.copytree(here, made, dirs_exist_ok=True)
-                status, said = tick(world)
-                if does(said):
-                    yield kept, made
-                    return
-            world.passes(60 if status else 6 * 3600)
-    raise AssertionError(f"{name}: it never comes")
-
-
-@contextmanager
-def again(world: World, made: str) -> Iterator[World]:
-    """A copy of the folder and of the world as they were."""
-    with tempfile.TemporaryDirectory(dir="/dev/shm") as copied:
-        shutil.copytree(made, copied, dirs_exist_ok=True)
-        os.chdir(copied)
-        twin = copy.deepcopy(world)
-        with living(twin, Path(f"{ZONE}.policy").read_text().removeprefix(rolling_world.POLICY)):
-            yield twin
-
-
-def killed_in(name: str) -> tuple[list[str], int]:
-    """Kills a tick at each of its changes in turn. The next one leaves what one leaves that was
-    never killed."""
-    faults, count = [], 0
-    for kept, made in before_it(name):
-        here = os.getcwd()
-        with again(kept, made) as world:
-            wanted = tick(world)[0], shape()
-        while True:
-            count += 1
-            with again(kept, made) as world:
-                if not is_killed(world, count):
-                    break
-                found = tick(world)[0], shape()
-                if found != wanted:
-                    faults.append(f"{name}: killed at change {count}: {found}, not {wanted}")
-        os.chdir(here)
-    return faults, count - 1
-
-
-def killed() -> Iterator[str]:
-    with ProcessPoolExecutor() as pool:
-        for faults, count in pool.map(killed_in, SITUATIONS):
-            COUNTS["kills"] += count
-            yield from faults
-
-
-def at_once(part: Callable[[], None], count: int) -> None:
-    """Runs a part so many times at once."""
-    threads = [threading.Thread(target=part) for _ in range(count)]
-    for thread in threads:
-        thread.start()
-    for thread in threads:
-        thread.join()
-
-
-def together() -> Iterator[str]:
-    """Ticks at once: one does what is due, and the others find it locked, or nothing left."""
-    from vaqsider import ticks
-
-    world = World()
-    with folder(), living(world, SPLIT):
-        ends, begun = [], threading.Barrier(4)
-
-        def one() -> None:
-            begun.wait()
-            ends.append(ticks.tick(f"{ZONE}.script", lambda: world.now, lambda deed: None))
-
-        for _ in range(12):
-            at_once(one, 4)
-            world.loads()
-            world.passes(60)
-        if worst := [end for end in ends if end.status > 1]:
-            yield f"of ticks at once one ends with {worst[0]}"
-        words = [line.split(" ")[0] for line in lines()]
-        if words != ["zone", "add-ksk", "add-zsk", "start", "report1", "wait1", "report2", "wait2",
-                     "done"]:
-            yield f"ticks at once have made {words}"
-
-
-# ---- clocks, disks
-
-
-def clocks() -> Iterator[str]:
-    """A clock that was set back: nothing is done, and a person is asked for. Once it is right, all
-    goes on."""
-    world = World()
-    with folder(), living(world, SPLIT):
-        tick(world)
-        for back in (1, 60, 3600, BEGIN):
-            before, world.now = shape(), world.now - back
-            status, said = tick(world)
-            if status != 2 or "was that set back?" not in said or shape() != before:
-                yield f"set back by {back} it ends with {status}: {said}"
-            world.now += back
-        world.passes(60)
-        status, said = tick(world)
-        if "report1" not in said:
-            yield f"with the right clock it says {said}"
-        world.now += 10 * DAY
-        tick(world)
-        world.now -= 10 * DAY
-        status, said = tick(world)
-        if status != 2:
-            yield f"back from ten days ahead it ends with {status}: {said}"
-
-
-def disks() -> Iterator[str]:
-    """A disk that is full at some length of a file: no line is torn, and once there is room the
-    tick leaves what it leaves otherwise."""
-    with folder(), living(World(), SPLIT) as world:
-        wanted = tick(world)[0], shape()
-    _, hard = resource.getrlimit(resource.RLIMIT_FSIZE)
-    for most in (0, 1, 30, 100, 200, 300, 500, 900):
-        with folder(), living(World(), SPLIT) as world:
-            resource.setrlimit(resource.RLIMIT_FSIZE, (most, hard))
-            try:
-                status, said = tick(world)
-            finally:
-                resource.setrlimit(resource.RLIMIT_FSIZE, (hard, hard))
-            if status != 2 or Path(f"{ZONE}.script").read_text()[-1:] != "\n":
-                yield f"with files of {most} bytes it ends with {status}: {said}"
-            found = tick(world)[0], shape()
-            if found != wanted:
-                yield f"after files of {most} bytes it leaves {found}, not {wanted}"
-
-
-# ---- commands that hang or lie
-
-
-@dataclass(frozen=True)
-class Hook:
-    """What a program does that ought to make a key, and what the tick says of it."""
-
-    name: str
-    does: str
-    says: str
-
-
-HOOKS = (
-    Hook("hangs", "sleep 100", "it has not ended within 1 s"),
-    Hook("hangs, and its child too", "sleep 100 & echo $! >pid; sleep 100",
-         "it has not ended within 1 s"),
-    Hook("leaves a child", "sleep 100 & exit 1", "it has not ended within 1 s"),
-    Hook("fails", "echo no room >&2; exit 3", "status 3: no room"),
-    Hook("makes nothing", "true", "it has made no key of role ksk"),
-    Hook("makes half a key", "echo x >Kexample.com.+013+00001.key",
-         "it has made no key of role ksk"),
-    Hook("keeps the private half", f"cp {TOP}/tests/command/files/K*64103.key .",
-         "it has made no key of role ksk"),
-    Hook("makes a key of another role", f"cp {TOP}/tests/command/files/K*10133.key .; "
-         "echo 40693 >Kexample.com.+013+10133.private", "it has made no key of role ksk"),
-    Hook("speaks for long", "head -c 100000 /dev/zero | tr '\\0' x; exit 1", "status 1: xxx"),
-)
-
-
-def hooks() -> Iterator[str]:
-    """Each command is really run, for at most a second: nothing that it does stops a tick, and no
-    key comes in."""
-    from vaqsider import hooks as real
-
-    run = real.run
-    for row in HOOKS:
-        COUNTS["commands"] += 1
-        world = World()
-        world.runs = lambda *given, **named: run(*given, **{**named, "seconds": 1})
-        with folder() as here:
-            Path("program").write_text(f"#!/bin/sh\n{row.does}\n")
-            Path("program").chmod(0o755)
-            with living(world):
-                policy = Path(f"{ZONE}.policy")
-                text = policy.read_text().replace("keygen keygen", f"keygen {here / 'program'}")
-                policy.write_text(text)
-                status, said = tick(world)
-                if status != 2 or row.says not in said or len(lines()) > 1:
-                    yield f"{row.name}: it ends with {status}: {said}"
-            for pid in here.glob(".*/pid"):
-                stat = Path(f"/proc/{pid.read_text().strip()}/stat")
-                if stat.exists() and "(sleep) S" in stat.read_text():
-                    yield f"{row.name}: its child goes on"
-
-
-def parents() -> Iterator[str]:
-    """A registrar that says yes and does nothing is told once, and after a while a person is asked
-    for; and a parent that is told by hand is waited for."""
-    for policy, status_at_first, says in (
-        ("parent hook\non-ds registrar\npatience 1h\non-event tell\n", 1, "DS handed over"),
-        ("parent ask\npatience 1h\non-event tell\n", 2, "give the parent the DS set: example.com."),
-    ):
-        world = World(reads_cds=False, believes=False)
-        with folder(), living(world, policy):
-            said, status = "", 0
-            for _ in range(60):
-                status, said = tick(world)
-                if says in said:
-                    break
-                world.passes(60)
-            if status != status_at_first or says not in said:
-                yield f"{policy!r}: it ends with {status}: {said}"
-            world.passes(2 * 3600)
-            status, said = tick(world)
-            tick(world)
-            told = [it["words"][0] for it in world.told()]
-            if status != 2 or told.count("registrar") > 1 or told.count("tell") not in (1, 2):
-                yield f"{policy!r}: then it ends with {status}, and has told {told}: {said}"
-
-
-# ---- policies
-
-# A line, and why it is refused.
-WRONG = (
-    ("policy", "followed by what it says"), ("policy x csk-roll", "an algorithm"),
-    ("policy 256 csk-roll", "an algorithm"), ("policy 13", "csk-roll, or by a roll of KSKs"),
-    ("policy 13 zsk-roll", "csk-roll, or by a roll of KSKs"),
-    ("policy 13 zsk-roll ksk-roll", "csk-roll, or by a roll of KSKs"),
-    ("policy 13 csk-roll csk-roll", "csk-roll, or by a roll of KSKs"),
-    ("zsk-once soon", "a moment"), ("ksk-lifetime 1y", "a time span"),
-    ("ksk-lifetime -1", "a time span"),
-    ("zsk-lifetime 90 d", "a time span"), ("delete-after never", "a time span"),
-    ("zsk-lifetime 9999999999999", "a time span"), ("keygen '", "a command with its arguments"),
-    ("signatures never", "a time span"), ("jitter x", "a time span"), ("renew-before", "followed"),
-    ("clock never", "a time span"), ("purge x", "a time span"),
-    ("serial up", "one of unixtime"), ("port 0", "a port"), ("port 65536", "a port"),
-    ("parent mail", "one of cds, hook, ask"), ("on-ds '\"", "a command"), ("patience x", "a time"),
-    ("lifetime 3d", "it begins with one of"), ("POLICY 13 csk-roll", "it begins with one of"),
-    ("signer bind\nsigner ldns", "said once"), ("on-event", "followed"), ("reload '", "a command"),
-    ("dnskey-ttl 5x", "a time span"), ("server", "followed"), ("nsec3", "followed"),
-)
-# A policy, and what the lint says of it.
-LINTED = (
-    ("ksk-lifetime 1d", "ksk-lifetime 1 d is shorter than a ksk-roll, which takes"),
-    ("zsk-lifetime 30min", "zsk-lifetime 30 min is shorter than a zsk-roll, which takes"),
-    ("zsk-lifetime 60s", "the TTL of dnskey, 1 min, isn't below zsk-lifetime 1 min"),
-    ("signatures 60s", "the TTL of zone, 1 min, isn't below signatures 1 min"),
-    ("renew-before 30s", "renew-before 30 s is too late"),
-    ("signatures 3d\nrenew-before 3d", "renew-before 3 d isn't below the time of signatures, 3 d"),
-    ("signatures 3d\njitter 2d\nrenew-before 1d", "renew-before 1 d isn't below the time of"),
-    ("parent hook", "parent hook needs on-ds COMMAND"),
-    ("on-ds true", "on-ds is never run with parent cds"),
-    ("keygen no-such-program", "keygen: no-such-program isn't a program here"),
-    ("policy 3 csk-roll", "algorithm 3 isn't one that dnssec-keygen makes keys of"),
-    ("policy 13 csk-roll\ncsk-lifetime 1h", "csk-lifetime 1 h is shorter than a csk-roll, which"),
-    ("zsk-lifetime 40min\nclock 10min", "zsk-lifetime 40 min is shorter than a zsk-roll, which"),
-    ("policy 13 csk-roll\nsigner pdns", "signer pdns: start csk-roll csk1 csk2"),
-    ("signer other", "signer other: --signer is bind, ldns"),
-    ("signer knot\nsignatures 3d", "lifetime: knot has that in its own settings"),
-)
-
-
-def policies() -> Iterator[str]:
-    """Each word of a policy, wrong: it is refused by its line's number, or found by the lint."""
-    with folder():
-        yield from (fault for text, why in WRONG for fault in refused(text, why))
-        for text in ("policy 13 csk-roll\nzsk-lifetime 9d", "csk-lifetime 9d", "csk-once 5"):
-            yield from refused(text, "speaks of keys that its rolls don't renew", "")
-        typed(["init", ZONE, "--before", 60, 60, 60])
-        for text, why in LINTED:
-            COUNTS["policies"] += 1
-            Path(f"{ZONE}.policy").write_text(f"{text}\n")
-            said, status = typed(["policy", "check", f"{ZONE}.script"])
-            if status != 2 or f"warning: {why}" not in said:
-                yield f"{text!r}: it ends with {status}: {said}"
-        Path(f"{ZONE}.policy").unlink()
-        said, status = typed(["tick", f"{ZONE}.script"])
-        if status != 2 or "example.com.policy is missing" not in said:
-            yield f"without a policy it ends with {status}: {said}"
-
-
-def refused(text: str, why: str, line: str = "line {}: ") -> Iterator[str]:
-    """A policy whose last line is refused."""
-    COUNTS["policies"] += 1
-    Path("a.policy").write_text(f"# a policy\n\n{text}\n")
-    said, status = typed(["policy", "check", "a.policy"])
-    begin = f"a.policy: {line.format(3 + text.count(chr(10)))}"
-    if status != 64 or begin not in said or why not in said:
-        yield f"{text!r}: it ends with {status}: {said}"
-
-
-def years() -> Iterator[str]:
-    """`policy show` has the calls that ticks then make, in this order, and no more."""
-    world, end = World(), BEGIN + 14 * DAY
-    with folder(), living(world, SPLIT):
-        words = ["policy", "show", f"{ZONE}.script", "--until", end]
-        said, status = typed(words, world.now)
-        calls = said.partition("\n\n")[2].splitlines()
-        shown = [line.split("Z  ")[-1].split()[1:] for line in calls]
-        calendar, _ = typed([*words, "--calendar"], world.now)
-        picture, _ = typed([*words, "--picture"], world.now)
-        for _ in played(world, end):
-            pass
-        made = [line.split(" ") for line in lines()[1:]]
-    if status or [called(it) for it in shown] != [called(it) for it in made]:
-        yield f"policy show ends with {status}: {said}"
-    if calendar.count("BEGIN:VEVENT") != len(shown) or not picture.startswith("<svg "):
-        yield f"its calendar is {calendar}, and its picture {picture}"
-
-
-def called(line: list[str]) -> list[str]:
-    """The word of a line, and its roll, if it is of one."""
-    return line[:2] if line[1].endswith("roll") else line[:1]
 
 
 def demands() -> Iterator[str]:
@@ -666,8 +295,8 @@ def shown() -> Iterator[str]:
 
 
 CHECKS = {it.__name__: it for it in (
-    policies, years, renewals, rest, clocks, disks, together, hooks, parents, demands, early_ends,
-    many, shown, *attended.CHECKS, courses, killed,
+    *rolling_policies.CHECKS, renewals, rest, *rolling_mishaps.CHECKS, demands, early_ends, many,
+    shown, *attended.CHECKS, courses, rolling_mishaps.killed,
 )}
 
 

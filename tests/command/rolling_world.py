@@ -3,16 +3,11 @@ maker of keys, all in this process, and a clock that the test sets. Nothing here
 
 from __future__ import annotations
 
-import contextlib
 import json
 import os
-import re
-import shutil
-from collections.abc import Iterator
 from dataclasses import dataclass, field
 from itertools import product
 from pathlib import Path
-from unittest import mock
 
 import dns.dnssec
 import dns.exception
@@ -24,10 +19,6 @@ import dns.rdatatype
 import dns.rrset
 
 from tests.command import answering, testkeys
-from tests.command.terminal import typed
-from tests.oracle import what_next
-from vaqsider import advice
-from vaqsider.errors import Failure
 
 ZONE, PARENT_TTL = "example.com", 300
 TTLS = {"ds": PARENT_TTL, "dnskey": 60, "zone": 60}
@@ -38,7 +29,6 @@ UNSIGNED = f"""$TTL 60
 ns IN A 127.0.0.1
 """
 SETS = ("dnskey", "signers", "zone", "cds")
-KEY = re.compile(r"Kexample\.com\.\+\d+\+\d+")
 # Keys of the tests are small numbers; those that are made here begin with this one.
 FIRST_KEY = 200_000
 
@@ -299,103 +289,3 @@ def tag_of(data: str) -> int:
 def signers(sets: dict, kind: str) -> frozenset:
     of = (data.split() for _, data in sets.get("RRSIG", ()))
     return frozenset(int(it[6]) for it in of if it[0] == kind)
-
-
-# The program's answers, if it knows the word.
-ASK, KNOWN, ASKED = advice.ask, [], [0]
-
-
-def said(*question) -> str:
-    """What comes next: the twin and the program have to say the same."""
-    by_twin = what_next.said(*question)
-    if is_known():
-        ASKED[0] += 1
-        if (by_program := ASK(*question)) != by_twin:
-            raise AssertionError(f"{question}: {by_program!r}, and by the twin {by_twin!r}")
-    return by_twin
-
-
-def is_known() -> bool:
-    if not KNOWN:
-        try:
-            ASK(["policy 13 csk-roll"], [f"zone {ZONE}"], ["before 0 0 0"], 0)
-            KNOWN.append(True)
-        except Failure as failure:
-            KNOWN.append(advice.NOT_KNOWN not in str(failure))
-    return KNOWN[0]
-
-
-POLICY = """keygen keygen
-server ns1 ns2
-parent-server p1 p2
-signatures 20d
-renew-before 5d
-"""
-
-
-@contextlib.contextmanager
-def living(world: World, policy: str = "", asks: bool = True) -> Iterator[World]:
-    """A new folder with the script of an unsigned zone, its notes and its policy, in this world. By
-    `asks` it is asked what comes next."""
-    from vaqsider import advice, asking, hooks, signing, zonefile
-    from vaqsider.signers import daemon
-
-    if not Path(f"{ZONE}.script").exists():
-        for stored in Path().glob("K*.key"):
-            stored.unlink()
-        Path(f"{ZONE}.zone").write_text(UNSIGNED)
-        usual = POLICY.splitlines(keepends=True)
-        of_signer = "signer hook" in policy
-        usual = [it for it in usual if not (of_signer and it.startswith(("signatures", "renew")))]
-        Path(f"{ZONE}.policy").write_text("".join(usual) + policy)
-        typed(["init", ZONE, "--before", 60, 60, 60], world.now)
-    with contextlib.ExitStack() as stack:
-        for target, name, stands_in in (
-            (asking, "exchange", world.exchange), (asking, "is_address", lambda name: True),
-            (signing, "run", world.signs), (zonefile, "run", world.signs),
-            (hooks, "run", world.runs), (daemon, "said", world.hooked),
-            (advice, "ask", said if asks else advice.ask),
-            (signing.shutil, "which", lambda name: f"/usr/bin/{name}"),
-        ):
-            stack.enter_context(mock.patch.object(target, name, stands_in))
-        yield world
-
-
-def tick(world: World, *options: str) -> tuple[int, str]:
-    """A tick of the zone at this moment: its status, and what it says."""
-    world.loads()
-    said, status = typed(["tick", f"{ZONE}.script", *options], world.now)
-    world.loads()
-    world.caches()
-    return status, said
-
-
-def shape() -> dict:
-    """What a tick has left, without the names of keys: lines, notes, files, and what is published.
-    A crash may cost a serial number, and a key that nobody knows of."""
-    script = Path(f"{ZONE}.script").read_text()
-    names = {it: f"K{n}" for n, it in enumerate(dict.fromkeys(KEY.findall(script)), start=1)}
-    tags = {it.rpartition("+")[2]: name for it, name in names.items()}
-    text = script + Path(f"{ZONE}.notes").read_text()
-    for name, short in [*names.items(), *((str(int(tag)), name) for tag, name in tags.items())]:
-        text = text.replace(name, short)
-    signed, here = Path(f"{ZONE}.zone.signed"), {path.stem for path in Path().glob("K*.key")}
-    drafts = (it.name for it in Path().glob(".*") if it.name.endswith((".act", ".draft")))
-    sets = records_of(signed) if signed.exists() else {}
-    return {
-        "text": text, "here": sorted(names.get(it, "another") for it in here),
-        "left": sorted(names.get(it.stem, "another") for it in Path("left").glob("K*.key")),
-        "making": len(list(Path().glob(".*.new-keys/*"))),
-        "published": {kind: len(of) for kind, of in sets.items()},
-        "drafts": sorted(drafts),
-    }
-
-
-def lines() -> list[str]:
-    return Path(f"{ZONE}.script").read_text().splitlines()
-
-
-def copy_to(folder: str) -> None:
-    """Copies this folder, and goes there."""
-    shutil.copytree(".", folder, dirs_exist_ok=True)
-    os.chdir(folder)

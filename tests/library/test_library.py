@@ -8,7 +8,7 @@ from pathlib import Path
 import pytest
 
 from tests import TOP
-from tests.library import library, programs, session_notes
+from tests.library import library, programs, scripts_in_python, session_notes
 
 
 @pytest.fixture(scope="module")
@@ -28,7 +28,7 @@ def room(tmp_path_factory):
 @pytest.fixture(scope="module")
 def keyset(folder):
     """The package for Python, with this library."""
-    return library.python_module(folder)
+    return scripts_in_python.python_module(folder)
 
 
 @pytest.fixture(scope="module")

@@ -1,5 +1,5 @@
-"""Scripts with a malformed line, each with the number of the first one. `tests/library/library.py`
-gives them to the program and the library."""
+"""Scripts with a malformed line, each with the number of the first one.
+`tests/library/scripts_in_python.py` gives them to the program and the library."""
 
 # The first line is the word `zone`, one space, and a name.
 ZONE_LINES = [

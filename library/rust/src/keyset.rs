@@ -172,8 +172,8 @@ impl KeySet {
         append_line(&mut self.notes, &line)
     }
 
-    /// What a policy says to do next at this moment, by the notes. The text of a policy has the form
-    /// that docs/POLICY.md has. It runs the script again.
+    /// What a policy says to do next at this moment, by the notes. The text of a policy has the
+    /// form that docs/POLICY.md has. It runs the script again.
     ///
     /// # Errors
     ///

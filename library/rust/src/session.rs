@@ -41,9 +41,9 @@ impl Session {
     ///
     /// # Errors
     ///
-    /// [`Error::Malformed`] if the line doesn't have the form of a line; [`Error::OutOfMemory`]. The
-    /// session is then as it was. After [`Error::Lost`] it is of no more use: open a new one with its
-    /// lines.
+    /// [`Error::Malformed`] if the line doesn't have the form of a line; [`Error::OutOfMemory`].
+    /// The session is then as it was. After [`Error::Lost`] it is of no more use: open a new one
+    /// with its lines.
     pub fn call(&mut self, line: &str) -> Result<String, Error> {
         let mut out = room(ROOM)?;
         // SAFETY: each pointer is that of a slice with its length; only we use the handle.
