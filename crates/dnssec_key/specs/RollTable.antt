@@ -121,6 +121,11 @@ abbrev pub which : HalfOfCode → Half
 which code.First = First
 which code.Second = Second
 
+-- whether it is the second one
+abbrev pub is_second : HalfOfCode → Bool
+is_second code.First = false
+is_second code.Second = true
+
 -- half of a roll: a change spreads and is reported, then old data leaves the caches
 pub record HalfRoll : Type 0 where
   pub report : Writes  -- the stamps that the report writes

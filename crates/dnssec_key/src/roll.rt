@@ -1,6 +1,6 @@
 //! Rolls: their kinds, their phases, their halves, and what they ask of the operator.
 ghost use Rattle.std.specs.Prelude.{◌≡◌};
-ghost use Rattle.dnssec_key.specs.RollTable.{which, after_expiry, cache_expire};
+ghost use Rattle.dnssec_key.specs.RollTable.{which, after_expiry, cache_expire, is_second};
 
 /// The kind of a roll (RFC 6781, section 4.1).
 #[derive(Clone, Copy, Debug, PartialEq, Eq, Hash)]
@@ -63,7 +63,7 @@ pub enum RollState {
 }
 
 /// One of the two halves of a roll: a change, a report that it has spread, and a wait.
-#[derive(Clone, Copy, PartialEq)]
+#[derive(Clone, Copy, Debug, PartialEq, Eq)]
 pub enum Half {
     First,
     Second,
@@ -103,6 +103,13 @@ pub enum Action {
 }
 
 impl Half {
+    /// The half that a report is of: `second` says whether it is the second one of its roll.
+    pub fn of_report(second: bool) -> Self
+        ensures { is_second result ≡ second }
+    {
+        if second { Half::Second } else { Half::First }
+    }
+
     /// The phase in which old data leaves the caches, which hold it for at most `ttl` seconds.
     pub fn cache_expire(self, ttl: u32) -> RollState
         ensures { result ≡ cache_expire (which self) ttl }

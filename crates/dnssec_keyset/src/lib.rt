@@ -14,9 +14,9 @@ mod wait;
 
 pub use dnssec_base::{Name, NameError, SecurityAlgorithm, Timestamp};
 pub use dnssec_key::{
-    Action, Available, Error, Key, KeyState, KeyTimestamps, KeyType, RollState, RollType, UnixTime,
-    default_stamps_are_none, default_states_are_unused, equal_errors_are_one, equal_kinds_are_one,
-    equal_moments_are_one, equal_phases_are_one, equal_states_are_one,
+    Action, Available, Error, Half, Key, KeyState, KeyTimestamps, KeyType, RollState, RollType,
+    UnixTime, default_stamps_are_none, default_states_are_unused, equal_errors_are_one,
+    equal_kinds_are_one, equal_moments_are_one, equal_phases_are_one, equal_states_are_one,
     moments_are_in_order_of_time,
 };
 pub use set::KeySet;

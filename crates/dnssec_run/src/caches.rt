@@ -1,9 +1,10 @@
 //! What caches hold of a record, and what a report retires of it.
 ghost use Rattle.std.specs.Prelude.{◌≡◌};
+ghost use Rattle.dnssec_key.specs.RollTable.{is_second};
 ghost use Rattle.dnssec_run.specs.Asked.{report_of};
 ghost use Rattle.dnssec_run.specs.Safe.{kind_of, retires};
 
-use dnssec_keyset::{Action, RollState, RollType};
+use dnssec_keyset::{Action, Half, RollState, RollType};
 
 /// The kinds of sets that caches hold.
 #[derive(Clone, Copy, Debug, PartialEq, Eq)]
@@ -23,16 +24,15 @@ pub enum SetKind {
 ///
 /// ```rust
 /// // After the DS report of a KSK roll and its TTL no cache holds the DS set of before the wait.
-/// let retired = retires(RollType::KskRoll, true, SetKind::Ds);
+/// let retired = retires(RollType::KskRoll, Half::Second, SetKind::Ds);
 /// ```
-pub fn retires(roll: RollType, second: bool, kind: SetKind) -> bool
-    ensures { result ≡ retires roll second (kind_of kind) }
+pub fn retires(roll: RollType, half: Half, kind: SetKind) -> bool
+    ensures { result ≡ retires roll (is_second half) (kind_of kind) }
 {
     let report = report_of(kind);
-    if second {
-        roll.actions_in(RollState::Propagation2).contains(&report)
-    } else {
-        roll.actions_in(RollState::Propagation1).contains(&report)
+    match half {
+        Half::First => roll.actions_in(RollState::Propagation1).contains(&report),
+        Half::Second => roll.actions_in(RollState::Propagation2).contains(&report),
     }
 }
 

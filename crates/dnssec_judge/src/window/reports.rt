@@ -5,7 +5,7 @@ ghost use Rattle.dnssec_run.specs.Steps.{base_of};
 ghost use Rattle.dnssec_judge.specs.Inner.Floor.{over_by};
 ghost use Rattle.dnssec_judge.specs.Inner.Window.{is_over_at, most, over, over_any};
 
-use dnssec_keyset::UnixTime;
+use dnssec_keyset::{Half, UnixTime};
 use dnssec_run::{Mark, SetKind, Steps, retires};
 use std::time::Duration;
 
@@ -32,7 +32,7 @@ impl Due {
         let Mark::Report { roll, second, ttl } = mark else {
             return None;
         };
-        if !retires(roll, second, kind) {
+        if !retires(roll, Half::of_report(second), kind) {
             return None;
         }
         let moment = moment?;
