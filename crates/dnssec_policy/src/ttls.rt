@@ -6,7 +6,7 @@ ghost use Rattle.dnssec_run.specs.Safe.{kind_of};
 ghost use Rattle.dnssec_policy.specs.Ttls.{AreHighest, after_news, at_most_due, if_retired, keeps};
 ghost use Rattle.dnssec_policy.specs.Ttls.{lasting, report_takes, roll_takes, ttl_in, with_ttl};
 
-use dnssec_keyset::RollType;
+use dnssec_keyset::{Half, RollType};
 use dnssec_network::{Before, News};
 use dnssec_run::{SetKind, retires};
 
@@ -99,7 +99,7 @@ impl HighestTtls {
         requires { due ≤ 4_294_967_296 }
         ensures { result ≡ lasting (ttl_in self.now) roll second due }
     {
-        if retires(roll, second, SetKind::Ds) {
+        if retires(roll, Half::of_report(second), SetKind::Ds) {
             let cds = u64::from(self.of(SetKind::ZoneSigners)) + 1;
             (due + self.keeps()).max(cds)
         } else {
@@ -111,7 +111,7 @@ impl HighestTtls {
     fn if_retired(&self, roll: RollType, second: bool, kind: SetKind) -> u32
         ensures { result ≡ if_retired (ttl_in self.now) roll second (kind_of kind) }
     {
-        if retires(roll, second, kind) {
+        if retires(roll, Half::of_report(second), kind) {
             self.of(kind)
         } else {
             0
