@@ -3,7 +3,11 @@ use Rattle.std.proofs.Common.{◌≡◌, ◌≢◌, ℕ, List, Option, Some, Non
 use Rattle.dnssec_record.specs.declared.fault.ScriptFault.TheVariants.{Malformed, Device}
 use Rattle.dnssec_record.specs.declared.fault.ScriptFault.TheVariants.{OutOfMemory}
 use Rattle.dnssec_record.specs.{Answer.AnswerFault, declared.fault.ScriptFault.ScriptFault}
+use Rattle.dnssec_record.specs.Fault.{fault_of_reading}
+use Rattle.dnssec_script.specs.Inner.Reading.{IsReadFault}
 use Rattle.dnssec_script.specs.Script.{IsScript, lines_of}
+use Rattle.dnssec_script.specs.declared.lines.ReadFault.{ReadFault}
+use Rattle.dnssec_script.specs.declared.lines.ReadFault.TheVariants as read
 use Rattle.dnssec_script.proofs.Judging.{never_malformed}
 use Rattle.dnssec_run.specs.declared.call.Call.{Call}
 
@@ -12,6 +16,12 @@ pub of_input : (left : Option (List ℕ)) (P : List ℕ → Type 0) (shown read 
     → IfSome left (λ text. read ≡ text) → shown ≡ read → P shown → IfSome left P
 of_input None P shown read whole same holds = tt
 of_input (Some text) P shown read whole same holds = subst P (same ∙ whole) holds
+
+-- a script that isn't read on has this fault
+pub answer_fault : (script : List ℕ) (fault : ReadFault) → IsReadFault script fault
+    → AnswerFault script (fault_of_reading fault)
+answer_fault script (read.Malformed n) is = is
+answer_fault script read.OutOfMemory is = is
 
 -- a script has no such fault
 pub never_fault : (script : List ℕ) (fault : ScriptFault) → AnswerFault script fault

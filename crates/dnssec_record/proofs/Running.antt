@@ -18,8 +18,8 @@ use Rattle.dnssec_run.specs.Origins.{CachedSet, set_at, set_in}
 use Rattle.dnssec_judge.specs.declared.{judging.Judge.Judge, verdict.Broken.Broken}
 use Rattle.dnssec_judge.specs.{Judge.ComesNext, Judge.KeepsLast, Judge.Knows, Verdict.IsVerdict}
 use Rattle.dnssec_script.specs.Inner.Statement.{Makes, statement_says}
-use Rattle.dnssec_script.specs.declared.statement.Statement.{Statement}
-use Rattle.dnssec_record.proofs.Made.{HasMade, all_made, one_made}
+use Rattle.dnssec_script.specs.declared.{lines.Lines.Lines, statement.Statement.Statement}
+use Rattle.dnssec_record.proofs.Made.{Finds, HasMade, all_made, one_made}
 use Rattle.dnssec_record.specs.Answer.{IsAnswerOf}
 use Rattle.dnssec_record.specs.Output.{answers, chain_line, published_text, reply_text, set_line}
 use Rattle.dnssec_record.specs.Output.{set_text, sets_text}
@@ -173,17 +173,17 @@ one_follows name calls entries r q j k outcome news so m handed judged =
 abbrev pub Answered : List ℕ → Recorder → Judge → List ℕ → List Call → List Entry → Type 0
 Answered text r j name calls entries = Follows name calls entries r j × (text ≡ answers entries)
 
--- one more call, of the next statement
-pub one_more : {script : List ℕ} {all left rest : List Statement} {s : Statement} {n m : ℕ}
+-- one more call, of the next line
+pub one_more : {script : List ℕ} {old new : Lines} {found : Option Statement} {s : Statement}
     (text after : List ℕ) (r q : Recorder) (j k : Judge) (outcome : Outcome)
-    (news : Option Published) → HasMade script all left n (Answered text r j)
-    → left ≡ s ∷ rest → m + 1 ≡ n → Makes (statement_says s) r q outcome
+    (news : Option Published) → HasMade script old (Answered text r j)
+    → Finds old new found → found ≡ Some s → Makes (statement_says s) r q outcome
     → news ≡ (if outcome.may_publish then Some q.published else None)
     → ((entries : List Entry) (e : Entry) → ComesNext entries e outcome.mark outcome.moment news
     → KeepsLast entries outcome.frames news → Knows entries j → Knows (entries ++ e ∷ []) k)
     → after ≡ text ++ reply_text outcome.reply ++ codes "\n"
-    → HasMade script all rest m (Answered after q k)
-one_more text after r q j k outcome news h next one makes handed judged wrote =
+    → HasMade script new (Answered after q k)
+one_more text after r q j k outcome news h next some makes handed judged wrote =
     let e = entry_of outcome q.published in
     let line = λ (e : Entry). reply_text e.reply ++ codes "\n" in
     let more : answers h.entries ++ line e ≡ answers (h.entries ++ e ∷ []) =
@@ -191,20 +191,20 @@ one_more text after r q j k outcome news h next one makes handed judged wrote =
     let said : after ≡ answers h.entries ++ line e =
     wrote ∙ append_assoc text (reply_text e.reply) (codes "\n")
     ∙ ap (λ t. t ++ line e) h.so.1 in
-    one_made (Answered text r j) (Answered after q k) h makes.call (h.entries ++ e ∷ []) next one
+    one_made (Answered text r j) (Answered after q k) h makes.call (h.entries ++ e ∷ []) next some
     makes.is_call (
       one_follows h.name h.calls h.entries r q j k outcome news h.so.0 makes handed judged,
       said ∙ more,
     )
 
--- all statements of a script, with the sets and the verdict after their answers
-pub all_answered : {script : List ℕ} {all left : List Statement} {n : ℕ}
+-- all calls of a script, with the sets and the verdict after their answers
+pub all_answered : {script : List ℕ} {old : Lines} (new : Lines) {found : Option Statement}
     (text sets whole : List ℕ) (r : Recorder) (j : Judge) (verdict : Option Broken)
-    → HasMade script all left n (Answered text r j) → n ≡ 0
+    → HasMade script old (Answered text r j) → Finds old new found → found ≡ None
     → ((entries : List Entry) → Knows entries j → IsVerdict entries verdict)
     → sets ≡ text ++ published_text r.published → whole ≡ sets ++ chain_line verdict
     → IsAnswerOf script whole
-all_answered text sets whole r j verdict h none judged shown wrote =
+all_answered new text sets whole r j verdict h next none judged shown wrote =
     let front : sets ≡ answers h.entries ++ set_line h.entries =
     shown ∙ ap (λ t. t ++ published_text r.published) h.so.1
     ∙ ap (λ l. answers h.entries ++ l) h.so.0.shown in
@@ -213,7 +213,7 @@ all_answered text sets whole r j verdict h none judged shown wrote =
       calls = h.calls;
       entries = h.entries;
       verdict = verdict;
-      is_script = all_made (Answered text r j) h none;
+      is_script = all_made (Answered text r j) new h next none;
       is_run = h.so.0.records.run;
       is_verdict = judged h.entries h.so.0.knows;
       is_output = wrote ∙ ap (λ t. t ++ chain_line verdict) front;

@@ -1,8 +1,15 @@
 -- The faults of a script: their statuses and texts.
 use Rattle.std.specs.Prelude.{ℕ, List, ◌++◌, codes, decimal}
+use Rattle.dnssec_script.specs.declared.lines.ReadFault.{ReadFault}
+use Rattle.dnssec_script.specs.declared.lines.ReadFault.TheVariants as read
 use Rattle.dnssec_record.specs.declared.fault.ScriptFault.{ScriptFault}
 use Rattle.dnssec_record.specs.declared.fault.ScriptFault.TheVariants.{Malformed, Device}
 use Rattle.dnssec_record.specs.declared.fault.ScriptFault.TheVariants.{OutOfMemory}
+
+-- the fault of a script that isn't read on
+abbrev pub fault_of_reading : ReadFault → ScriptFault
+fault_of_reading (read.Malformed n) = Malformed n
+fault_of_reading read.OutOfMemory = OutOfMemory
 
 -- the status that a program ends with
 abbrev pub fault_status : ScriptFault → ℕ

@@ -1,9 +1,10 @@
 //! Why a script was not answered.
 ghost use Rattle.std.specs.Prelude.{◌≡◌, Some};
-ghost use Rattle.dnssec_record.specs.Fault.{fault_status, script_fault_text};
+ghost use Rattle.dnssec_record.specs.Fault.{fault_of_reading, fault_status, script_fault_text};
 ghost use Rattle.dnssec_record.specs.declared.fault.ScriptFault.TheVariants.{Device, OutOfMemory};
 
 use crate::device::DeviceFault;
+use dnssec_script::ReadFault;
 use std::alloc::{AllocError, AllocFailed};
 use std::fmt;
 
@@ -64,6 +65,17 @@ impl From<DeviceFault> for ScriptFault {
 
     fn from(_: DeviceFault) -> Self {
         ScriptFault::Device
+    }
+}
+
+impl From<ReadFault> for ScriptFault {
+    ghost from_gives = { λ read fault. fault ≡ fault_of_reading read };
+
+    fn from(fault: ReadFault) -> Self {
+        match fault {
+            ReadFault::Malformed(number) => ScriptFault::Malformed(number),
+            ReadFault::OutOfMemory => ScriptFault::OutOfMemory,
+        }
     }
 }
 

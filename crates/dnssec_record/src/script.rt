@@ -6,18 +6,16 @@ ghost use Rattle.dnssec_record.specs.Answer.{IsAnswerOf, AnswerFault, EndsSafe, 
 ghost use Rattle.dnssec_record.specs.Answer.{IsSafeAnswer, TakesAnswer, TakesAtMost};
 ghost use Rattle.dnssec_record.specs.Device.{Counts};
 ghost use Rattle.dnssec_record.specs.Inner.Devices.{FaultOfInput, TakesFront};
-ghost use Rattle.dnssec_script.specs.Inner.Reading.{IsOfStatements};
-ghost use Rattle.dnssec_script.specs.Script.{BeginsWithZone, IsFirstMalformed, IsScript};
+ghost use Rattle.dnssec_script.specs.Script.{IsFirstMalformed, IsScript};
 ghost use Rattle.dnssec_run.specs.declared.call.Call.{Call};
 ghost use Rattle.dnssec_record.specs.declared.fault.ScriptFault.TheVariants.{Device, OutOfMemory};
 
 use crate::answers::{push_answer, push_chain_line, push_published};
 use crate::device::{DeviceFault, Sink, Source};
 use crate::fault::ScriptFault;
-use dnssec_base::Name;
 use dnssec_judge::Judge;
 use dnssec_run::{Recorder, Run};
-use dnssec_script::{Reading, Statement, read_script};
+use dnssec_script::Lines;
 use std::alloc::Global;
 
 /// How many bytes the input is asked for at once.
@@ -25,12 +23,11 @@ const PIECE: usize = 4096;
 
 /// Runs the script that `input` gives, and writes its answers to `output`.
 ///
-/// The whole input is read and checked before anything is run. Each call has a line with its
-/// answer: `ok` and the actions that are due, or `refused: ` and the reason. A refused call doesn't
-/// stop the script. After the answers comes a line with the sets that are published at the end. The
-/// last line is the verdict on the record: `chain safe`, or
+/// Each call has a line with its answer: `ok` and the actions that are due, or `refused: ` and the
+/// reason. A refused call doesn't stop the script. After the answers comes a line with the sets
+/// that are published at the end. The last line is the verdict on the record: `chain safe`, or
 /// `chain broken at=N ds=I dnskey=J zone=L` with the first sets without a chain. Nothing is written
-/// before the verdict is known.
+/// before the whole input is read and the verdict is known.
 ///
 /// `alloc` gives the memory for the script, its calls and the answers. The caller makes sure that
 /// the counts of faults of both devices have room for one more.
@@ -127,13 +124,13 @@ fn answer_to(alloc: Global, script: &[u8]) -> Result<String, ScriptFault>
     ensures ok { IfOk result (λ text. IsAnswerOf script.now (string_bytes text)) }
     ensures err { IfErr result (AnswerFault script.now) }
 {
-    let (name, statements) = statements_of(alloc, script)?;
+    let (name, mut lines) = Lines::begin(alloc, script)?;
     let mut text = String::new(alloc);
     let mut recorder = Recorder::new(alloc, name);
     let Ok(mut judge) = Judge::new(alloc) else {
         return Err(ScriptFault::OutOfMemory);
     };
-    for statement in statements {
+    while let Some(statement) = lines.next(alloc)? {
         let Ok(outcome) = statement.advance(alloc, &mut recorder) else {
             return Err(ScriptFault::OutOfMemory);
         };
@@ -150,11 +147,11 @@ fn answer_to(alloc: Global, script: &[u8]) -> Result<String, ScriptFault>
 }
 
 /// Runs the calls of a script, and answers the run with its record, for a caller who looks at its
-/// positions. The whole script is checked before anything is run.
+/// positions.
 ///
 /// # Errors
 ///
-/// - `Malformed` with the number of the first malformed line. Nothing was run.
+/// - `Malformed` with the number of the first malformed line. What was run is gone.
 /// - `OutOfMemory` if there is no memory for the script or its record.
 ///
 /// ```rust
@@ -168,10 +165,10 @@ pub fn record_script(alloc: Global, script: &[u8]) -> Result<Run, ScriptFault>
     ensures ok { IfOk result (λ run. IsRunOf script.now run.keyset run.entries.items) }
     ensures err { IfErr result (AnswerFault script.now) }
 {
-    let (name, statements) = statements_of(alloc, script)?;
+    let (name, mut lines) = Lines::begin(alloc, script)?;
     let mut recorder = Recorder::new(alloc, name);
-    let mut entries = Vec::with_capacity(alloc, statements.len())?;
-    for statement in statements {
+    let mut entries = Vec::new(alloc);
+    while let Some(statement) = lines.next(alloc)? {
         let Ok(entry) = statement.make(alloc, &mut recorder) else {
             return Err(ScriptFault::OutOfMemory);
         };
@@ -181,21 +178,6 @@ pub fn record_script(alloc: Global, script: &[u8]) -> Result<Run, ScriptFault>
         keyset: recorder.into_keyset(),
         entries,
     })
-}
-
-/// The name of the zone of a script, and its statements.
-pub(crate) fn statements_of(
-    alloc: Global,
-    script: &[u8],
-) -> Result<(Name<Vec<u8>>, Vec<Statement<'_>>), ScriptFault>
-    ensures ok { IfOk result (λ read. IsOfStatements script.now read.0 read.1.items) }
-    ensures zone { IfOk result (λ _. BeginsWithZone script.now) }
-    ensures err { IfErr result (AnswerFault script.now) }
-{
-    match read_script(alloc, script)? {
-        Reading::Script(name, statements) => Ok((name, statements)),
-        Reading::Malformed(number) => Err(ScriptFault::Malformed(number)),
-    }
 }
 
 /// Writes all of the bytes, or fails with some of them written.

@@ -18,12 +18,11 @@ ghost use Rattle.dnssec_run.specs.declared.record.Reply.TheVariants.{Refused};
 use crate::answers::{answer_line, is_accepted, push_answer, push_chain_line, push_published};
 use crate::courses::{Courses, Listed, Turn};
 use crate::fault::{CallFault, ScriptFault};
-use crate::script::statements_of;
 use dnssec_base::Name;
 use dnssec_judge::{Broken, Judge};
 use dnssec_keyset::{Error, KeySet, RollType};
 use dnssec_run::{Call, Moments, Published, Recorder, Reply, Steps};
-use dnssec_script::{Statement, read_line, read_zone};
+use dnssec_script::{Lines, Statement, read_line, read_zone};
 use std::alloc::{AllocError, Global};
 
 /// A session of at most this many keys is fitted to them. So no call costs more for that than
@@ -109,9 +108,9 @@ impl Session {
         ensures ok { IfOk result (Resumes script.now) }
         ensures err { IfErr result (AnswerFault script.now) }
     {
-        let (name, statements) = statements_of(alloc, script)?;
+        let (name, mut lines) = Lines::begin(alloc, script)?;
         let mut session = Session::new(alloc, name)?;
-        for statement in statements {
+        while let Some(statement) = lines.next(alloc)? {
             let reply = session.take(alloc, statement)?;
             check_memory(reply)?;
         }

@@ -1,17 +1,19 @@
--- The lines of a script, judged: each has its form, or one is the first that has not; what is kept
--- of each, and its call.
+-- The lines of a script: each has its form, or one is the first that has not; and how far they are
+-- read.
 use Rattle.std.proofs.Common.{◌≡◌, ◌≢◌, ℕ, zero, suc, ◌+◌, ◌-◌, ◌<◌, ◌≤◌, ◌==◌, if◌then◌else◌}
-use Rattle.std.proofs.Common.{false, true, Some, is_some, IsSome, Bor, List, [], ◌∷◌, ◌++◌, map}
-use Rattle.std.proofs.Common.{length, get_or, take, refl, sym, ap, ◌∙◌, arith, length-append, subst}
+use Rattle.std.proofs.Common.{false, true, Some, None, is_some, IsSome, List, [], ◌∷◌, ◌++◌}
+use Rattle.std.proofs.Common.{length, get_or, refl, sym, ap, ◌∙◌, arith, length-append, subst}
+use Rattle.std.proofs.Common.{append_assoc, append-nil, Option}
 use Rattle.std.specs.Prelude.{MatchBool, nat_lt}
-use Rattle.std.proofs.lemmas.{Bool.Decides.nat_tests, Bool.false≢true, List.get_or_default}
-use Rattle.std.proofs.lemmas.List.{Splits.length-slice_split, get_or-take, length-map, map-append}
+use Rattle.std.proofs.lemmas.{Bool.Decides.nat_tests, Bool.false≢true}
 use Rattle.std.proofs.Math.Seq.{get_or-append_seam, take-append_seam}
-use denote.Bor.{now}
 use Rattle.dnssec_run.specs.declared.call.Call.{Call}
-use Rattle.dnssec_script.specs.Script.{AreLinesOf, AreScript, HasForm, IsFirstMalformed, IsFirstOf}
-use Rattle.dnssec_script.specs.Script.{IsZoneLine, call_says, line_of, lines_of, says, without_end}
-use Rattle.dnssec_script.specs.Inner.{Reading.IsOfStatements, Statement.statement_says}
+use Rattle.dnssec_script.specs.Script.{AreLinesOf, AreScript, BeginsWithZone, HasForm}
+use Rattle.dnssec_script.specs.Script.{IsFirstMalformed, IsFirstOf, IsLineOf, IsScript, IsZoneLine}
+use Rattle.dnssec_script.specs.Script.{NamesZone, line_of, lines_of, says, without_end}
+use Rattle.dnssec_script.specs.Inner.{Reading.HasRead, Reading.parts_left, Reading.ReadsOn}
+use Rattle.dnssec_script.specs.Inner.Statement.{statement_says}
+use Rattle.dnssec_script.specs.declared.lines.Lines.{Lines}
 use Rattle.dnssec_script.specs.declared.statement.Statement.{Statement}
 
 -- a line feed at the end is taken off, and no other byte
@@ -27,19 +29,15 @@ pub ruleset ends = (without_end_last, nat_tests)
 
 -- ---- the form of each line
 
--- there is always a first line
-pub some_line : (script : List ℕ) → 0 < length (lines_of script)
-some_line script = let count = length-slice_split (λ b. b == 10) (without_end script) in omega arith
-
--- what makes a call says something
-each_says : (lines : List (List ℕ)) (calls : List Call) → AreLinesOf lines calls
-    → (i : ℕ) → i < length lines → IsSome (says (get_or lines i []))
-each_says [] [] each i within = absurd (omega arith)
-each_says [] (call ∷ calls) each i within = absurd each
-each_says (line ∷ lines) [] each i within = absurd each
-each_says (line ∷ lines) (call ∷ calls) each zero within = ap is_some each.0
-each_says (line ∷ lines) (call ∷ calls) each (suc i) within =
-    each_says lines calls each.1 i (omega arith)
+-- what makes a call says something, also if further lines follow
+each_says : (lines rest : List (List ℕ)) (calls : List Call) → AreLinesOf lines calls
+    → (i : ℕ) → i < length lines → IsSome (says (get_or (lines ++ rest) i []))
+each_says [] rest [] each i within = absurd (omega arith)
+each_says [] rest (call ∷ calls) each i within = absurd each
+each_says (line ∷ lines) rest [] each i within = absurd each
+each_says (line ∷ lines) rest (call ∷ calls) each zero within = ap is_some each.0
+each_says (line ∷ lines) rest (call ∷ calls) each (suc i) within =
+    each_says lines rest calls each.1 i (omega arith)
 
 -- a line past the first has its form if it says something
 form_past : (zone : List ℕ) (lines : List (List ℕ)) (i : ℕ)
@@ -60,7 +58,9 @@ script_forms [] name calls is n above within = absurd is
 script_forms (zone ∷ lines) name calls is zero above within = absurd (omega arith)
 script_forms (zone ∷ lines) name calls is (suc zero) above within = (name, is.0)
 script_forms (zone ∷ lines) name calls is (suc (suc i)) above within =
-    subst (λ T. T) (sym (form_past zone lines i)) (each_says lines calls is.1 i (omega arith))
+    let said = subst (λ ls. IsSome (says (get_or ls i []))) (append-nil lines)
+    (each_says lines [] calls is.1 i (omega arith)) in
+    subst (λ T. T) (sym (form_past zone lines i)) said
 
 -- a script has no malformed line
 pub never_malformed : (lines : List (List ℕ)) (name : List ℕ) (calls : List Call) (n : ℕ)
@@ -77,87 +77,90 @@ zone_first zone lines none = record {
   before = λ k above below. absurd (omega arith);
 }
 
--- a first line that says nothing, after the line of the zone
-call_first : (zone : List ℕ) (lines : List (List ℕ)) (name : List ℕ) (i : ℕ)
-    → IsZoneLine zone name → i < length lines → is_some (says (get_or lines i [])) ≡ false
-    → ((k : ℕ) → k < i → is_some (says (get_or lines k [])) ≡ true)
-    → IsFirstOf (zone ∷ lines) (suc (suc i))
-call_first zone lines name i is within silent spoken = record {
-  number = (omega arith, omega arith);
-  malformed = λ form. false≢true (sym silent ∙ subst (λ T. T) (form_past zone lines i) form);
+-- a line that says nothing, after the line of the zone and those of calls
+silent_first : (zone : List ℕ) (name : List ℕ) (taken : List (List ℕ)) (calls : List Call)
+    (line : List ℕ) (rest : List (List ℕ)) → IsZoneLine zone name → AreLinesOf taken calls
+    → is_some (says line) ≡ false
+    → IsFirstOf (zone ∷ (taken ++ line ∷ rest)) (suc (suc (length taken)))
+silent_first zone name taken calls line rest is make silent = record {
+  number = (omega arith, omega (arith, long));
+  malformed = λ form. false≢true (sym silent ∙ ap (λ l. is_some (says l)) (sym stands)
+      ∙ subst (λ T. T) (form_past zone (taken ++ line ∷ rest) (length taken)) form);
   before = before;
 }
   where
-    before : (k : ℕ) → 0 < k → k < suc (suc i) → HasForm k (line_of (zone ∷ lines) k)
+    long : length (taken ++ line ∷ rest) ≡ length taken + length (line ∷ rest)
+    long = length-append taken (line ∷ rest)
+
+    stands : get_or (taken ++ line ∷ rest) (length taken) [] ≡ line
+    stands = get_or-append_seam taken line rest []
+
+    before : (k : ℕ) → 0 < k → k < suc (suc (length taken))
+        → HasForm k (line_of (zone ∷ (taken ++ line ∷ rest)) k)
     before zero above below = absurd (omega arith)
     before (suc zero) above below = (name, is)
     before (suc (suc k)) above below =
-        subst (λ T. T) (sym (form_past zone lines k)) (spoken k (omega arith))
+        subst (λ T. T) (sym (form_past zone (taken ++ line ∷ rest) k))
+        (each_says taken (line ∷ rest) calls make k (omega arith))
 
--- ---- from line 2 on
+-- ---- how far a script is read
 
--- the statements say what these lines say
-abbrev pub AreRead : List (Bor (List ℕ)) → List Statement → Type 0
-AreRead lines ss =
-    map (λ (l : Bor (List ℕ)). says l.now) lines ≡ map Some (map statement_says ss)
+-- one more line, and its call
+line_more : (lines : List (List ℕ)) (calls : List Call) (line : List ℕ) (call : Call)
+    → AreLinesOf lines calls → IsLineOf line call
+    → AreLinesOf (lines ++ line ∷ []) (calls ++ call ∷ [])
+line_more [] [] line call make is = (is, tt)
+line_more [] (other ∷ calls) line call make is = absurd make
+line_more (other ∷ lines) [] line call make is = absurd make
+line_more (other ∷ lines) (first ∷ calls) line call make is =
+    (make.0, line_more lines calls line call make.1 is)
 
--- each of them says something
-spoken_at : (lines : List (Bor (List ℕ))) (ss : List Statement) → AreRead lines ss → (k : ℕ)
-    → k < length lines → is_some (says (get_or (map now lines) k [])) ≡ true
-spoken_at [] ss so k below = absurd (omega arith)
-spoken_at (line ∷ lines) [] so k below = cc
-spoken_at (line ∷ lines) (s ∷ ss) so zero below =
-    let e : says line.now ≡ Some (statement_says s) = cc in
-    ap is_some e
-spoken_at (line ∷ lines) (s ∷ ss) so (suc k) below = spoken_at lines ss (cc) k (omega arith)
+-- a script that is read begins with its zone
+pub begins : {script name : List ℕ} {calls : List Call} {lines : Lines}
+    → HasRead script name calls lines → BeginsWithZone script
+begins {name = name} read =
+    subst (λ ls. NamesZone (line_of ls 1)) (sym read.are_all) (name, read.names_zone)
 
--- calls that say what the lines say are theirs
-spell_each : (lines : List (Bor (List ℕ))) (calls : List Call)
-    → map (λ (l : Bor (List ℕ)). says l.now) lines ≡ map Some (map call_says calls)
-    → AreLinesOf (map now lines) calls
-spell_each [] [] same = tt
-spell_each [] (call ∷ calls) same = cc
-spell_each (line ∷ lines) [] same = cc
-spell_each (line ∷ lines) (call ∷ calls) same = (cc, spell_each lines calls (cc))
+-- after the last line
+pub read_whole : (script name : List ℕ) (calls : List Call) (lines : Lines)
+    → HasRead script name calls lines → lines.rest ≡ None → IsScript script name calls
+read_whole script name calls lines read none =
+    let all : lines_of script ≡ read.zone ∷ read.taken =
+    read.are_all ∙ ap (λ rest. read.zone ∷ (read.taken ++ parts_left 10 rest)) none
+    ∙ ap (λ ls. read.zone ∷ ls) (append-nil read.taken) in
+    subst (λ ls. AreScript ls name calls) (sym all) (read.names_zone, read.make)
 
--- ---- the whole script
+-- the lines that are left begin with this one
+module _ (lines new : Lines) (line : List ℕ)
+    (next : parts_left 10 lines.rest ≡ line ∷ parts_left 10 new.rest)
+    (counted : new.count ≡ lines.count + 1) where
+  split : (script name : List ℕ) (calls : List Call) (read : HasRead script name calls lines)
+      → lines_of script ≡ read.zone ∷ (read.taken ++ line ∷ parts_left 10 new.rest)
+  split script name calls read =
+      read.are_all ∙ ap (λ ls. read.zone ∷ (read.taken ++ ls)) next
 
--- all lines after that of the zone
-pub all_read : (script zone : List ℕ) (rest : List (List ℕ)) (name : List ℕ)
-    (lines : List (Bor (List ℕ))) (ss : List Statement) → lines_of script ≡ zone ∷ rest
-    → IsZoneLine zone name → AreRead lines ss → map now lines ≡ rest
-    → IsOfStatements script name ss
-all_read script zone rest name lines ss split named so all = λ calls same.
-    subst (λ ls. AreScript ls name calls) (sym split) (
-      named,
-      subst (λ ls. AreLinesOf ls calls) all
-          (spell_each lines calls (so ∙ sym (ap (map Some) same))),
-    )
+  pub read_on : (found : Option Statement) (s : Statement) → found ≡ Some s
+      → says line ≡ Some (statement_says s) → (script name : List ℕ) (calls : List Call)
+      → HasRead script name calls lines → ReadsOn script name calls new found
+  read_on found s is says_so script name calls read =
+      subst (ReadsOn script name calls new) (sym is) (λ call same. record {
+        zone = read.zone;
+        taken = read.taken ++ line ∷ [];
+        are_all = split script name calls read ∙ ap (λ ls. read.zone ∷ ls)
+            (sym (append_assoc read.taken (line ∷ []) (parts_left 10 new.rest)));
+        names_zone = read.names_zone;
+        make = line_more read.taken calls line call read.make
+            (says_so ∙ ap Some (sym same));
+        count = let was = read.count in let long = length-append read.taken (line ∷ []) in
+            omega (arith, counted);
+      })
 
--- a line that says nothing, after those that were read
-pub first_silent : (script zone : List ℕ) (rest : List (List ℕ)) (name : List ℕ)
-    (lines : List (Bor (List ℕ))) (line : Bor (List ℕ)) (ss : List Statement) (n : ℕ)
-    → lines_of script ≡ zone ∷ rest → IsZoneLine zone name → AreRead lines ss
-    → map now lines ≡ take (length lines) rest
-    → (length lines < length rest) × (line.now ≡ get_or rest (length lines) line.now)
-    → false ≡ is_some (says line.now) → n ≡ length ss → IsFirstMalformed script (n + 2)
-first_silent script zone rest name lines line ss n split named so front here none counted =
-    let i = length lines in
-    let count : i ≡ length ss =
-    sym (length-map lines (λ (l : Bor (List ℕ)). says l.now)) ∙ ap length so
-    ∙ length-map (map statement_says ss) Some ∙ length-map ss statement_says in
-    let past : suc (suc i) ≡ n + 2 = omega arith in
-    let stands = here.1 ∙ get_or_default rest i line.now [] here.0 in
-    subst (λ ls. IsFirstOf ls (n + 2)) (sym split)
-    (subst (IsFirstOf (zone ∷ rest)) past
-    (call_first zone rest name i named here.0 (ap (λ l. is_some (says l)) (sym stands) ∙ sym none)
-    (λ k below. ap (λ l. is_some (says l)) (sym (get_or-take i rest k [] below)
-    ∙ ap (λ ls. get_or ls k []) (sym front)) ∙ spoken_at lines ss so k below)))
-
--- one more statement, whose call was made
-pub made_more : (calls : List Call) (call : Call) (ss : List Statement) (s : Statement)
-    → map call_says calls ≡ map statement_says ss → call_says call ≡ statement_says s
-    → map call_says (calls ++ call ∷ []) ≡ map statement_says (ss ++ s ∷ [])
-made_more calls call ss s made is =
-    map-append call_says calls (call ∷ []) ∙ ap (λ t. t ++ call_says call ∷ []) made
-    ∙ ap (λ v. map statement_says ss ++ v ∷ []) is ∙ sym (map-append statement_says ss (s ∷ []))
+  pub read_fault : (script name : List ℕ) (calls : List Call) → is_some (says line) ≡ false
+      → HasRead script name calls lines → IsFirstMalformed script new.count
+  read_fault script name calls silent read =
+      let number : suc (suc (length read.taken)) ≡ new.count =
+      let was = read.count in omega (arith, counted) in
+      subst (λ ls. IsFirstOf ls new.count) (sym (split script name calls read))
+      (subst (IsFirstOf (read.zone ∷ (read.taken ++ line ∷ parts_left 10 new.rest))) number
+      (silent_first read.zone name read.taken calls line (parts_left 10 new.rest) read.names_zone
+      read.make silent))

@@ -2,16 +2,18 @@
 --
 -- | Function                | Lemma                          | Files             |
 -- |-------------------------|--------------------------------|-------------------|
--- | `Fields::next`          | `next_field`                   | Cuts              |
+-- | `split_once`            | `parts_of`                     | Cuts              |
+-- | `number`                | `too_great`                    | Digits            |
 -- | `Fields::roll`          | `no_text`, `roll_read`         | Rolls, Ascii      |
 -- | `ReferenceList::references`   | `each_reference`, `parts_of`   | Lists             |
 -- | `algorithm`             | `no_algorithm`                 | Ascii             |
 -- | `reference`             | `reference_utf8`               | Ascii             |
 -- | `read_zone`             | `zone_none`, `spelled_utf8`    | Zone              |
--- | `read_script`           | `all_read`, `first_silent`     | Judging           |
+-- | `Lines::next`           | `read_on`, `read_fault`        | Judging           |
 --
 -- `Texts` is for the crates above.
 pub mod Ascii
+pub mod Digits
 pub mod Cuts
 pub mod Zone
 pub mod Rolls

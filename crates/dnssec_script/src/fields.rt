@@ -1,14 +1,15 @@
 //! The fields of a line of a script, and what each says.
-ghost use Rattle.std.specs.Prelude.{◌≡◌, ◌≤◌, if◌then◌else◌, List, [], map, IfOk};
+ghost use Rattle.std.specs.Prelude.{◌≡◌, ◌≤◌, ◌==◌, if◌then◌else◌, List, [], ◌∷◌, map, IfOk};
 ghost use Rattle.std.specs.Prelude.{Option, Some, None, is_some, IfSome};
 ghost use denote.Bor.{now};
-ghost use Rattle.std.specs.Option.{option_map};
+ghost use Rattle.std.specs.{List.slice_split, Option.option_map};
 ghost use Rattle.dnssec_script.specs.Script.{Value, Reference, Private, References, Flag, Roll};
 ghost use Rattle.dnssec_script.specs.Script.{Number, Moment, is_reference, as_reference};
 ghost use Rattle.dnssec_script.specs.Script.{as_private, as_list, as_yes_no, as_roll, as_number};
 ghost use Rattle.dnssec_script.specs.Script.{as_algorithm, as_tag, as_ttl, as_time};
 ghost use Rattle.dnssec_script.specs.Script.{is_list, is_number, number_of, references_of};
 ghost use Rattle.dnssec_script.specs.Script.{value_at, values_of, first_field, fields_of};
+ghost use Rattle.dnssec_script.specs.Inner.Reading.{parts_left};
 
 use dnssec_base::SecurityAlgorithm;
 use dnssec_keyset::{RollType, UnixTime};
@@ -51,14 +52,16 @@ fn number(most: u64, text: &[u8]) -> Option<u64>
     if text.is_empty() || text.len() > 20 {
         return None;
     }
-    let mut number = 0;
+    let mut number: u64 = 0;
     for digit in text {
         if !digit.is_ascii_digit() {
             return None;
         }
-        number = number * 10 + u128::from(*digit - b'0');
+        number = number
+            .checked_mul(10)?
+            .checked_add(u64::from(*digit - b'0'))?;
     }
-    u64::try_from(number).ok().filter(|number| *number <= most)
+    if number <= most { Some(number) } else { None }
 }
 
 /// A key's reference.
@@ -109,6 +112,16 @@ fn is_list(text: &[u8]) -> bool
             .all(|part| is_reference(part))
 }
 
+/// The text up to the first such byte, and what comes after it; none if it has no such byte.
+pub(crate) fn split_once(text: &[u8], byte: u8) -> (&[u8], Option<&[u8]>)
+    ensures { slice_split (λ b. b == byte) text.now ≡ result.0.now ∷ parts_left byte result.1 }
+{
+    match text.iter().position(|other| *other == byte) {
+        Some(at) => (&text[..at], Some(&text[at + 1..])),
+        None => (text, None),
+    }
+}
+
 /// The fields of a line that haven't been read yet, each between single spaces.
 #[derive(Drop)]
 pub struct Fields<'a> {
@@ -138,16 +151,8 @@ impl<'a> Fields<'a> {
     pub fn next(self) -> Option<(&'a [u8], Fields<'a>)>
         ensures { option_map (λ x. (x.0.now, x.1)) result ≡ first_field self.entry }
     {
-        let text = self.rest?;
-        match text.iter().position(|byte| *byte == b' ') {
-            Some(at) => Some((
-                &text[..at],
-                Fields {
-                    rest: Some(&text[at + 1..]),
-                },
-            )),
-            None => Some((text, Fields { rest: None })),
-        }
+        let (field, rest) = split_once(self.rest?, b' ');
+        Some((field, Fields { rest }))
     }
 
     /// Whether no field is left.

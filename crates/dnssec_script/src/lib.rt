@@ -7,5 +7,5 @@ mod lines;
 mod statement;
 
 pub use fields::Fields;
-pub use lines::{Reading, all_lines, read_script, read_zone};
+pub use lines::{Lines, ReadFault, all_lines, read_zone};
 pub use statement::{Start, Statement, read_line};

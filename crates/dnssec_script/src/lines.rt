@@ -1,22 +1,33 @@
 //! The lines of a script.
-ghost use Rattle.std.specs.Prelude.{◌≡◌, ℕ, List, map, IfOk, IfErr, IfSome, IfNone};
+ghost use Rattle.std.specs.Prelude.{◌≡◌, ℕ, suc, List, [], map, IfOk, IfErr, IfSome, IfNone};
 ghost use denote.Bor.{now};
 ghost use Rattle.dnssec_base.specs.NameText as names;
+ghost use Rattle.dnssec_run.specs.declared.call.Call.{Call};
 ghost use Rattle.dnssec_script.specs.Script.{BeginsWithZone, IsZoneLine, NamesZone};
 ghost use Rattle.dnssec_script.specs.Script.{lines_of, without_end};
-ghost use Rattle.dnssec_script.specs.Inner.Reading.{IsReadingOf};
+ghost use Rattle.dnssec_script.specs.Inner.Reading.{HasRead, IsReadFault, ReadsOn, lines_left};
+ghost use Rattle.dnssec_script.specs.declared.lines.ReadFault.TheVariants.{OutOfMemory};
 
+use crate::fields::split_once;
 use crate::statement::{Statement, read_line};
 use dnssec_base::{Name, NameError};
 use std::alloc::{AllocError, Global};
 
-/// What came of reading a script.
-#[derive(Drop)]
-pub enum Reading<'a> {
-    /// The name of its zone, and what each further line says.
-    Script(Name<Vec<u8>>, Vec<Statement<'a>>),
+/// Why a script isn't read on.
+#[derive(Clone, Copy, Debug, PartialEq)]
+pub enum ReadFault {
     /// The line of this number, counted from 1, is the first that doesn't have its form.
     Malformed(usize),
+    /// Memory has run out.
+    OutOfMemory,
+}
+
+impl From<AllocError> for ReadFault {
+    ghost from_gives = { λ _ fault. fault ≡ OutOfMemory };
+
+    fn from(_: AllocError) -> Self {
+        ReadFault::OutOfMemory
+    }
 }
 
 /// The lines of a text, for a caller who reads other lines than those of a script. A line feed at
@@ -78,29 +89,69 @@ fn zone_name(alloc: Global, text: &[u8]) -> Result<Option<Name<Vec<u8>>>, AllocE
     }
 }
 
-/// What the lines of a script say: the name of its zone, and a statement for each line after that.
-/// A malformed line ends the reading, so only the statements before it take memory.
+/// The lines of a script that are not read yet. Each is read when its turn comes, so no list of
+/// them takes memory.
 ///
-/// # Errors
-///
-/// `AllocError` if memory runs out. A script whose first line names no zone takes none.
-pub fn read_script<'a>(alloc: Global, script: &'a [u8]) -> Result<Reading<'a>, AllocError>
-    ensures read { IfOk result (IsReadingOf script.now) }
-    ensures memory { IfErr result (λ _. BeginsWithZone script.now) }
-{
-    let mut lines = without_end(script).split(|byte| *byte == b'\n');
-    let Some(first) = lines.next() else {
-        return Ok(Reading::Malformed(1));
-    };
-    let Some(name) = read_zone(alloc, first)? else {
-        return Ok(Reading::Malformed(1));
-    };
-    let mut statements = Vec::new(alloc);
-    for line in lines {
-        match read_line(alloc, line)? {
-            Some(statement) => statements.push(statement)?,
-            None => return Ok(Reading::Malformed(statements.len() + 2)),
+/// ```rust
+/// let (name, mut lines) = Lines::begin(alloc, script)?;
+/// while let Some(statement) = lines.next(alloc)? {
+///     statement.advance(alloc, &mut recorder)?;
+/// }
+/// ```
+#[derive(Drop)]
+pub struct Lines<'a> {
+    /// What comes after the lines that were read; none after the last one.
+    rest: Option<&'a [u8]>,
+    /// How many lines were read.
+    count: usize,
+}
+
+impl<'a> Lines<'a> {
+    /// The name of the zone of a script, and the lines after the first one, which names it.
+    ///
+    /// # Errors
+    ///
+    /// - `Malformed(1)` if the first line names no zone.
+    /// - `OutOfMemory` if there is no memory for the name.
+    pub fn begin(alloc: Global, script: &'a [u8]) -> Result<(Name<Vec<u8>>, Lines<'a>), ReadFault>
+        ensures ok { IfOk result (λ begun. HasRead script.now begun.0 [] begun.1) }
+        ensures zone { IfOk result (λ _. BeginsWithZone script.now) }
+        ensures err { IfErr result (IsReadFault script.now) }
+    {
+        let (first, rest) = split_once(without_end(script), b'\n');
+        match read_zone(alloc, first)? {
+            Some(name) => Ok((name, Lines { rest, count: 1 })),
+            None => Err(ReadFault::Malformed(1)),
         }
     }
-    Ok(Reading::Script(name, statements))
+
+    /// What the next line says; none after the last line.
+    ///
+    /// # Errors
+    ///
+    /// - `Malformed` with the number of the line if it doesn't have its form.
+    /// - `OutOfMemory` if there is no memory for its call. A line that makes no call takes none.
+    pub fn next(&mut self, alloc: Global) -> Result<Option<Statement<'a>>, ReadFault>
+        ensures ok { IfOk result (λ found. (script name : List ℕ) (calls : List Call) →
+            HasRead script name calls self.old → ReadsOn script name calls self.new found) }
+        ensures fewer { IfOk result (λ found. IfSome found (λ _.
+            lines_left self.old ≡ suc (lines_left self.new))) }
+        ensures err { IfErr result (λ fault. (script name : List ℕ) (calls : List Call) →
+            HasRead script name calls self.old → IsReadFault script fault) }
+    {
+        let Some(text) = self.rest else {
+            return Ok(None);
+        };
+        // More lines than can be counted would have no room.
+        let Some(count) = self.count.checked_add(1) else {
+            return Err(ReadFault::OutOfMemory);
+        };
+        let (line, rest) = split_once(text, b'\n');
+        self.rest = rest;
+        self.count = count;
+        match read_line(alloc, line)? {
+            Some(statement) => Ok(Some(statement)),
+            None => Err(ReadFault::Malformed(count)),
+        }
+    }
 }

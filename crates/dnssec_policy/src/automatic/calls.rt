@@ -5,8 +5,6 @@ ghost use Rattle.dnssec_record.specs.Answer.{AnswerFault};
 ghost use Rattle.dnssec_run.specs.declared.call.Call.{Call as AnyCall};
 ghost use Rattle.dnssec_run.specs.declared.record.Entry.{Entry};
 ghost use Rattle.dnssec_run.specs.declared.record.Reply.TheVariants.{Refused};
-ghost use Rattle.dnssec_script.specs.Inner.Reading.{IsOfStatements};
-ghost use Rattle.dnssec_script.specs.Script.{BeginsWithZone};
 ghost use Rattle.dnssec_policy.specs.Automatic.Calls.{GoesOn, IsAfter, Resumes, Takes};
 
 use crate::by_hand::FirstByHand;
@@ -14,7 +12,7 @@ use crate::last_waits::LastWaits;
 use dnssec_base::Name;
 use dnssec_keyset::Error;
 use dnssec_record::{Call, Reply, ScriptFault, Session};
-use dnssec_script::{Reading, Statement, read_script};
+use dnssec_script::{Lines, Statement};
 use std::alloc::{AllocError, Global};
 
 /// A session, the last second waits of its calls, and the first one by hand.
@@ -79,26 +77,13 @@ impl Calls {
     pub(crate) fn resume(alloc: Global, script: &[u8]) -> Result<Self, ScriptFault>
         ensures { IfOk result (Resumes script.now) }
     {
-        let (name, statements) = statements_of(alloc, script)?;
+        let (name, mut lines) = Lines::begin(alloc, script)?;
         let mut calls = Calls::new(alloc, name)?;
-        for statement in statements {
+        while let Some(statement) = lines.next(alloc)? {
             let reply = calls.take(alloc, statement)?;
             check_memory(&reply)?;
         }
         Ok(calls)
-    }
-}
-
-/// The name of the zone of a script, and its statements.
-fn statements_of(
-    alloc: Global,
-    script: &[u8],
-) -> Result<(Name<Vec<u8>>, Vec<Statement<'_>>), ScriptFault>
-    ensures { IfOk result (λ read. IsOfStatements script.now read.0 read.1.items) }
-{
-    match read_script(alloc, script)? {
-        Reading::Script(name, statements) => Ok((name, statements)),
-        Reading::Malformed(number) => Err(ScriptFault::Malformed(number)),
     }
 }
 

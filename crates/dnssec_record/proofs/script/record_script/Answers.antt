@@ -1,31 +1,43 @@
--- Each turn of the loop adds the entry of one statement.
-use Rattle.std.proofs.Common.{List, ◌++◌, ◌∷◌, [], ◌∙◌, ap, rules, subst, sym}
+-- Each turn of the loop adds the entry of one line.
+use Rattle.std.proofs.Common.{List, ◌++◌, ◌∷◌, [], ◌∙◌, ap, subst, sym}
+use Rattle.std.proofs.lemmas.Result.{err_from_is_err_and}
 use Rattle.dnssec_run.specs.{Record.world_at, Recorder.Records, declared.record.Entry.Entry}
-use Rattle.dnssec_record.proofs.Made.{all_made, none_made, one_made}
+use Rattle.dnssec_record.proofs.Answering.{answer_fault}
+use Rattle.dnssec_record.proofs.Made.{all_made, one_made}
 use Rattle.dnssec_record.proofs.script.record_script.Goals as goal
 
-pub loop-statement-init : goal.loop-statement-init
-loop-statement-init c =
-    none_made _ _ _ _ _ _ c.in_ok-name.ensures.ok
-    c.into_iter-statement-iterator.ensures.into_iter_gives.0 (search rules)
-    (subst (λ es. Records c.in_ok-name.name [] es c.new-recorder.result)
-    (sym c.in_ok-entries.ensures.items) c.new-recorder.ensures)
+pub loop-entries-init : goal.loop-entries-init
+loop-entries-init c = record {
+  name = c.in_ok-name.name;
+  calls = [];
+  read = c.in_ok-name.ensures.ok;
+  entries = [];
+  so = subst (λ es. Records c.in_ok-name.name [] es c.new-recorder.result)
+      (sym c.new-entries.ensures.items) c.new-recorder.ensures;
+}
 
-pub loop-statement-preserved : goal.loop-statement-preserved
-loop-statement-preserved c =
-    let at = c.loop-statement in let h = at.invariant in let made = c.in-Ok.ensures in
-    one_made _ _ h made.call [] c.in-Some.ensures.steps.0 c.in-Some.ensures.steps.1 made.is_call
+pub loop-entries-preserved : goal.loop-entries-preserved
+loop-entries-preserved c =
+    let at = c.loop-entries in let h = at.invariant in let made = c.in-Ok.ensures in
+    one_made _ _ h made.call [] c.in_ok-statement.ensures.ok c.in-Some.is made.is_call
     (subst (λ es. Records h.name (h.calls ++ made.call ∷ []) es c.make.new.recorder)
     (sym {A = List Entry} c.in_ok-push.ensures.items)
     (made.records h.name h.calls at.entries.items h.so))
 
 pub returns-clause-ok : goal.returns-clause-ok
 returns-clause-ok c =
-    let at = c.loop-statement in let h = at.invariant in record {
+    let at = c.loop-entries in let h = at.invariant in record {
       name = h.name;
       calls = h.calls;
-      is_script = all_made _ h c.in-None.ensures.steps.0;
+      is_script = all_made _ _ h c.in_ok-statement.ensures.ok c.in_default.is;
       is_run = h.so.run;
       is_set = c.into_keyset.ensures ∙ h.so.agrees.same
           ∙ ap (λ n. (world_at h.name h.calls at.entries.items n).set) (sym h.so.run.count);
     }
+
+pub returns-in_err-statement-clause-err : goal.returns-in_err-statement-clause-err
+returns-in_err-statement-clause-err c =
+    let h = c.loop-entries.invariant in let r = c.from_residual-in_err-statement.result in
+    let p = err_from_is_err_and r c.from_residual-in_err-statement.ensures.1 in
+    rw (p.1, p.2) (answer_fault c.args.script.now _
+    (c.in_err-statement.ensures.err c.args.script.now h.name h.calls h.read))

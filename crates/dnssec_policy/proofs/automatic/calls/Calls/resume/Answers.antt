@@ -1,33 +1,25 @@
--- Each turn of the loop makes the call of one statement.
-use Rattle.std.proofs.Common.{◌≢◌, rules, subst, sym}
+-- Each turn of the loop makes the call of one line.
+use Rattle.std.proofs.Common.{◌≢◌, [], subst, sym}
 use Rattle.std.proofs.lemmas.List.Elements.{All-nil, All-push}
 use Rattle.dnssec_base.specs.declared.error.Error.TheVariants.{OutOfMemory}
 use Rattle.dnssec_run.specs.declared.record.Reply.TheVariants.{Refused}
-use Rattle.dnssec_record.proofs.Made.{all_made, none_made, one_made}
+use Rattle.dnssec_record.proofs.Made.{all_made, one_made}
 use Rattle.dnssec_policy.proofs.automatic.calls.Calls.resume.Goals as goal
 
-pub loop-statement-init : goal.loop-statement-init
-loop-statement-init c =
-    none_made _ _ _ _ _ _ c.in_ok-name.ensures
-    c.into_iter-statement-iterator.ensures.into_iter_gives.0 (search rules)
-    (c.in_ok-calls.ensures, All-nil (λ entry. entry.reply ≢ Refused OutOfMemory))
+pub loop-calls-init : goal.loop-calls-init
+loop-calls-init c = record {
+  name = c.in_ok-name.name;
+  calls = [];
+  read = c.in_ok-name.ensures.ok;
+  entries = [];
+  so = (c.in_ok-calls.ensures, All-nil (λ entry. entry.reply ≢ Refused OutOfMemory));
+}
 
-pub loop-statement-preserved-in_ok-check_memory : goal.loop-statement-preserved-in_ok-check_memory
-loop-statement-preserved-in_ok-check_memory c =
-    let h = c.loop-statement.invariant in let made = c.in_ok-reply.ensures in
+pub loop-calls-preserved : goal.loop-calls-preserved
+loop-calls-preserved c =
+    let h = c.loop-calls.invariant in let made = c.in_ok-reply.ensures in
     let next = made.goes_on h.name h.calls h.entries h.so.0 in
-    one_made _ _ h made.call _ c.in-Some.ensures.steps.0 c.in-Some.ensures.steps.1 made.is_call (
-      next.after,
-      All-push (λ entry. entry.reply ≢ Refused OutOfMemory) h.entries next.entry h.so.1
-          (subst (λ reply. reply ≢ Refused OutOfMemory) (sym next.is_reply)
-          c.in_ok-check_memory.ensures.ok),
-    )
-
-pub loop-statement-preserved : goal.loop-statement-preserved
-loop-statement-preserved c =
-    let h = c.loop-statement.invariant in let made = c.in_ok-reply.ensures in
-    let next = made.goes_on h.name h.calls h.entries h.so.0 in
-    one_made _ _ h made.call _ c.in-Some.ensures.steps.0 c.in-Some.ensures.steps.1 made.is_call (
+    one_made _ _ h made.call _ c.in_ok-statement.ensures.ok c.in-Some.is made.is_call (
       next.after,
       All-push (λ entry. entry.reply ≢ Refused OutOfMemory) h.entries next.entry h.so.1
           (subst (λ reply. reply ≢ Refused OutOfMemory) (sym next.is_reply)
@@ -36,11 +28,11 @@ loop-statement-preserved c =
 
 pub returns : goal.returns
 returns c =
-    let h = c.loop-statement.invariant in record {
+    let h = c.loop-calls.invariant in record {
       name = h.name;
       calls = h.calls;
       entries = h.entries;
-      is_script = all_made _ h c.in-None.ensures.steps.0;
+      is_script = all_made _ _ h c.in_ok-statement.ensures.ok c.in_default.is;
       after = h.so.0;
       had_memory = h.so.1;
     }

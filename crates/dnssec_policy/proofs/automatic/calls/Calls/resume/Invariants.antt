@@ -1,11 +1,13 @@
--- The calls of the statements so far are made, and each had memory.
-use Rattle.std.specs.Vec.Iter.{into_iter_items, into_iter_len}
+-- The calls of the lines so far are made, and each had memory.
+use Rattle.dnssec_script.specs.Inner.Reading.{lines_left}
 use Rattle.dnssec_record.{specs.Session.HadMemory, proofs.Made.HasMade}
 use Rattle.dnssec_policy.specs.Automatic.Calls.{IsAfter}
 use Rattle.dnssec_policy.proofs.automatic.calls.Calls.resume.Given as goal
 
-abbrev pub invariant-loop-statement : goal.invariant-loop-statement
-invariant-loop-statement l =
-    HasMade l.script (into_iter_items l.initial.statement-iterator)
-    (into_iter_items l.statement-iterator) (into_iter_len l.statement-iterator)
+abbrev pub invariant-loop-calls : goal.invariant-loop-calls
+invariant-loop-calls l =
+    HasMade l.script l.lines
     (λ name calls entries. IsAfter name calls entries l.calls × HadMemory entries)
+
+abbrev pub decreases-loop-calls : goal.decreases-loop-calls
+decreases-loop-calls l = lines_left l.lines
