@@ -21,7 +21,7 @@ from places import RESOLVERS
 PACE, RETRY, GIVE_UP = 0.08, 2, 8
 ADDRESS = bytes((192, 0, 2, 1))
 SETS = ("SOA", "NS", "DNSKEY", "DS", "CDS", "CDNSKEY")
-NOERROR, NXDOMAIN, SERVFAIL = dns.rcode.NOERROR, dns.rcode.NXDOMAIN, dns.rcode.SERVFAIL
+NOERROR, NXDOMAIN = dns.rcode.NOERROR, dns.rcode.NXDOMAIN
 AD = 0x20
 
 

@@ -73,8 +73,7 @@ def rises(noted: Noted, step: int | None, calls: int, old: int, new: int) -> Ite
 
 
 def note(notes: Notes, lines: list[str], told: Status, look: Look) -> None:
-    """Notes the TTLs of the DS sets in a look that are above the noted ones, and whether the
-    present set is everywhere, if it doesn't change."""
+    """Notes the TTLs of the DS sets in a look that are above the noted ones."""
     step = _step(lines) if status.is_asked(told, ASKED) else None
     old = new = 0
     for (kind, type_, _), answer in look.answers.items():

@@ -278,17 +278,14 @@ class Tick:
     # ---- looks
 
     def eyes(self, kinds: list[str]) -> watching.Watcher:
-        """What all servers give of these kinds. What all give is noted, and a DS set only if no
-        server of the zone gives CDS."""
+        """What all servers give of these kinds. What all give is noted."""
         eyes = watching.Watcher(parsed(self.policy.for_watch(self.script)), self.clock, str)
         eyes.notes, eyes.lines = Notes(self.script), self.lines
         known = len(eyes.notes.lines)
         try:
             look = eyes.ask(self.told, kinds)
             parents.note(eyes.notes, self.lines, self.told, look)
-            left = look.cds_left()
-            eyes.judge(look, [kind for kind in kinds if not (left and kind == "ds")])
-            eyes.lacking += left
+            eyes.judge(look, kinds)
         except WrongArgument:
             raise
         except Failure as failure:

@@ -23,7 +23,8 @@ if TYPE_CHECKING:
 
 # What servers of the zone are asked for in any case.
 OF_ZONE = ("dnskey", "ns", "zone")
-CDS_OUT = "take CDS and CDNSKEY out by 'vaqsider act --no-cds', then 'vaqsider watch --call'"
+CDS_OUT = ("the DS set counts once no server gives CDS: take CDS and CDNSKEY out by "
+           "'vaqsider act --no-cds', then 'vaqsider watch --call'")
 
 
 class Watcher:
@@ -106,16 +107,16 @@ class Watcher:
 
     def judge(self, look: Look, kinds: list[str]) -> None:
         """Says what is lacking, and what is wrong in sets that nothing waits for, and notes which
-        sets are everywhere."""
-        self.lacking, self.broken = look.lacking(kinds), list(chains.broken(look))
+        sets are everywhere. A DS set counts only if no server of the zone gives CDS any more: until
+        then a parent that reads it may change that set."""
+        self.lacking = look.lacking(kinds) + look.cds_left()
+        self.broken = list(chains.broken(look))
         self.beside = look.wrong({*OF_ZONE, "ds"} - set(kinds))
         there = {kind: look.ttl(kind) for kind in kinds if not self.lacks([kind])}
         if there and self.notes.lines:
             now = math.ceil(self.clock())
             calling.reach(now, self.clock)
             self.notes.everywhere(there, now)
-        if "ds" in there:
-            self.lacking += look.lacking(["cds"])
         self.asked = {"servers": look.servers({*kinds, "cds"} - {"ds"}),
                       "parents": look.servers({"ds"} & set(kinds))}
 

@@ -1,7 +1,7 @@
 """Zones that roll by themselves, in a world of this process (rolling_world.py): courses by each
 kind of policy, rolls that are asked for, and early ends. Beside them what goes wrong
-(rolling_mishaps.py), what policies say (rolling_policies.py), and what needs a person
-(attended.py).
+(rolling_mishaps.py), what policies say (rolling_policies.py), what needs a person (attended.py),
+and a roll by hand (by_hand.py).
 
     pytest tests/command/test_rolling.py    all of it
     pytest tests/command -k rolling.NAME    only this check, as courses or killed
@@ -22,7 +22,7 @@ from html.parser import HTMLParser
 from pathlib import Path
 from unittest import mock
 
-from tests.command import attended, rolling_mishaps, rolling_policies
+from tests.command import attended, by_hand, rolling_mishaps, rolling_policies
 from tests.command.rolling_folder import COUNTS, DAY, SPLIT, lines, living, played, shape, tick
 from tests.command.rolling_world import BEGIN, UNSIGNED, ZONE, Broken, World
 from tests.command.terminal import folder, typed
@@ -296,7 +296,7 @@ def shown() -> Iterator[str]:
 
 CHECKS = {it.__name__: it for it in (
     *rolling_policies.CHECKS, renewals, rest, *rolling_mishaps.CHECKS, demands, early_ends, many,
-    shown, *attended.CHECKS, courses, rolling_mishaps.killed,
+    shown, *attended.CHECKS, *by_hand.CHECKS, courses, rolling_mishaps.killed,
 )}
 
 

@@ -4,9 +4,7 @@ begins, ticks in it, and what they leave."""
 from __future__ import annotations
 
 import contextlib
-import os
 import re
-import shutil
 from collections.abc import Iterator
 from pathlib import Path
 from unittest import mock
@@ -124,9 +122,3 @@ def shape() -> dict:
 
 def lines() -> list[str]:
     return Path(f"{ZONE}.script").read_text().splitlines()
-
-
-def copy_to(folder: str) -> None:
-    """Copies this folder, and goes there."""
-    shutil.copytree(".", folder, dirs_exist_ok=True)
-    os.chdir(folder)

@@ -12,7 +12,7 @@ from unittest import mock
 from vaqsider import keyfiles
 from vaqsider.errors import Failure
 from vaqsider.signers import Key, by_flags
-from vaqsider.signers import daemon, hook, inline, knot, pdns, pdns_api
+from vaqsider.signers import daemon, inline, knot, pdns, pdns_api
 from vaqsider.sources import bind as source_of_bind
 from vaqsider.sources import opendnssec as source_of_ods
 from vaqsider.sources import pdns as source_of_pdns
@@ -366,10 +366,3 @@ class Bind(Fake):
 
 
 SOA = "example.com. 60 IN SOA ns. h. 7 3600 600 86400 60\n"
-
-
-def asked_by(answers: dict):
-    """A hook that answers so."""
-    made = hook.Hook("example.com.", "true")
-    made._answer = lambda verb, sets=None: answers[verb]
-    return made

@@ -34,11 +34,6 @@ def add(number: int, flags: int) -> tuple[int, str]:
     return tag, record.to_text()
 
 
-def record_of(tag: int, records):
-    """The DNSKEY record of this tag among those of a set."""
-    return next((it for it in records if dns.dnssec.key_id(it) == tag), None)
-
-
 def sign(zone: str, records, tag: int, begin: int, end: int, ttl: int = 60):
     """A signature of these records by the key of this tag."""
     name = dns.name.from_text(zone)

@@ -21,9 +21,9 @@ The DNSKEY set has to be the records of the key files, none less and none more, 
 signature by each key that signs it. The SOA record, as one of the zone's sets, has to be signed by
 each key that signs the zone, and by no other, and the signatures have to be valid. The DS set has
 to be records of the keys that are due, with the digests of their key files, and of no other keys.
-CDS and CDNSKEY have to be out once the parent has the DS set, and before that is reported. A report
-is held up only by what it speaks of; what is wrong in other sets is said too, and the status is 1
-or, without a chain of trust, 3.
+Once the parent has the DS set, CDS and CDNSKEY have to be out before that is noted or reported: a
+parent that reads them may change it until then. A report is held up only by what it speaks of; what
+is wrong in other sets is said too, and the status is 1 or, without a chain of trust, 3.
 If a key file is missing, it says so, and calls nothing right. Of another signer's keys it compares
 tag and algorithm, unless their files are there; DS records of keys that the script doesn't know are
 then taken for that signer's.

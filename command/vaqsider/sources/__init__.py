@@ -6,7 +6,7 @@ from __future__ import annotations
 import re
 from dataclasses import dataclass
 from pathlib import Path
-from typing import Callable, Protocol
+from typing import Callable
 
 from ..errors import UNAVAILABLE, Failure
 from ..signers import Key
@@ -48,11 +48,6 @@ class Asked:
     store: str | None
     records: Callable[[], list[Key]]
     stay: bool = False
-
-
-class Source(Protocol):
-    def __call__(self, zone: str, asked: Asked) -> Told:
-        """What the system says now."""
 
 
 def in_private(algorithm: int, fields: dict[str, str]) -> str:

@@ -94,11 +94,6 @@ class Line:
     def is_report(self) -> bool:
         return self.word.startswith("report")
 
-    @property
-    def is_step(self) -> bool:
-        """Whether a report may count from it: a start, or a wait."""
-        return self.word == "start" or self.word.startswith("wait")
-
 
 def at(text: str, clock: float) -> str:
     """The line with the clock's moment instead of `now`. That of a report is rounded up, any other
