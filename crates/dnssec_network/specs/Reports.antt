@@ -2,6 +2,9 @@
 use Rattle.std.specs.Prelude.{◌≡◌, ℕ, ◌≤◌, Bool, max, List, Option, None, Some, Result, Ok, Err}
 use Rattle.std.specs.Prelude.{if◌then◌else◌, false, true, nat_lt, option_and_then, unwrap_or}
 use Rattle.std.specs.Option.{option_map}
+use Rattle.dnssec_key.specs.RollTable.{is_second}
+use Rattle.dnssec_key.specs.declared.roll.Half.{Half}
+use Rattle.dnssec_key.specs.declared.roll.Half.TheVariants.{First, Second}
 use Rattle.dnssec_key.specs.declared.roll.RollState.{RollState}
 use Rattle.dnssec_key.specs.declared.roll.RollState.TheVariants.{Propagation1, Propagation2}
 use Rattle.dnssec_key.specs.declared.roll.RollType.{RollType}
@@ -60,10 +63,10 @@ due before facts roll second from now =
 
 -- ---- which report is due
 
--- which report a roll in this phase waits for, if any: `true` is its second one
-abbrev pub waited_for : Option RollState → Option Bool
-waited_for (Some Propagation1) = Some false
-waited_for (Some Propagation2) = Some true
+-- the half of whose report a roll in this phase waits, if any
+abbrev pub waited_for : Option RollState → Option Half
+waited_for (Some Propagation1) = Some First
+waited_for (Some Propagation2) = Some Second
 waited_for _ = None
 
 -- a TTL, or the kind that its report waits for
@@ -79,11 +82,11 @@ due_from begun now ttl = if nat_lt now begun then Err (WaitsUntil begun) else tt
 abbrev pub due_report : Before → List Fact → List ℕ → Option RollState → Option LastStep → RollType
     → ℕ → Option DueReport
 due_report before facts moments phase step roll now =
-    option_and_then (λ second. option_map (λ (last : LastStep). record {
+    option_and_then (λ half. option_map (λ (last : LastStep). record {
       roll = roll;
-      second = second;
+      half = half;
       ttl = due_from (unwrap_or (moment_of_call moments last.at) 0) now
-          (due before facts roll second (origin_in last.origins) now);
+          (due before facts roll (is_second half) (origin_in last.origins) now);
     }) step) (waited_for phase)
 
 -- ---- reports by notes
