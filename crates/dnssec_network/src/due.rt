@@ -73,7 +73,8 @@ impl Notes {
         now: UnixTime,
     ) -> Result<u32, NotYet>
         ensures { result ≡ due_from (unwrap_or (moment_of_call moments.now last.at) 0) now
-            (due self.now.before self.now.facts roll (is_second half) (origin_in last.origins) now) }
+            (due self.now.before self.now.facts roll (is_second half) (origin_in last.origins)
+            now) }
     {
         match moments.of_call(last.at) {
             Some(begun) if now < begun => Err(NotYet::WaitsUntil(begun)),
