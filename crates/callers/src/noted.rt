@@ -1,6 +1,6 @@
 //! A caller of `dnssec_network`.
 use anyhow::{Result, bail};
-use dnssec_keyset::{RollType, UnixTime};
+use dnssec_keyset::{Half, RollType, UnixTime};
 use dnssec_network::{Before, Moments, News, Notes, Origins, SetKind};
 use std::alloc::Global;
 use std::time::Duration;
@@ -39,7 +39,7 @@ pub fn first_report(alloc: Global) -> Result<String> {
         dnskey: 12,
         zone: 9,
     };
-    match notes.ttl_due(RollType::KskRoll, false, origins, at(150)) {
+    match notes.ttl_due(RollType::KskRoll, Half::First, origins, at(150)) {
         Ok(ttl) => Ok(format!(in alloc; "report at 150 with a TTL of {ttl}")?),
         Err(kind) => bail!("{kind:?} isn't on all servers yet"),
     }

@@ -19,26 +19,20 @@ use Rattle.dnssec_network.specs.TwoSigners.{PublicChain, PublicChainByEach, Sign
 -- ---- nothing is left
 
 -- what was got while it might be asked isn't held any more
-dropped : (leave : Leave) (since time ttl : ℕ) → MayBeAsked leave since
+dropped : (leave : Leave) (since time ttl : ℕ) → leave.over ≤ time → MayBeAsked leave since
     → time < since + (ttl + 1) * 1_000_000_000
-    → leave.out + (leave.ttl + 1 + ttl + 1) * 1_000_000_000 ≤ leave.over → time < leave.over
-dropped leave since time ttl asked lasts wait =
-    omega (arith, asked.1, asked.2, asked.3, lasts, wait)
+    → leave.out + (leave.ttl + 1 + ttl + 1) * 1_000_000_000 ≤ leave.over → ⊥
+dropped leave since time ttl over asked lasts wait =
+    absurd (omega (arith, over, asked.1, asked.2, asked.3, lasts, wait))
 
 pub nothing_is_left : NothingIsLeft
 nothing_is_left stays leaves leave v time order over = (
-  λ kept.
-      let held = kept.0 in
-      let wait = order.keys v held.since held.got kept.1 held.given in
-      let early = dropped leave held.since time (leaves.network.ttl Dnskey v) kept.1 held.lasts
-      wait in
-      omega (arith, over, early),
-  λ kept.
-      let held = kept.0 in
-      let wait = order.zone v held.since held.got kept.1 held.given in
-      let early = dropped leave held.since time (leaves.network.ttl ZoneSigners v) kept.1 held.lasts
-      wait in
-      omega (arith, over, early),
+  λ kept. let held = kept.0 in
+      dropped leave held.since time (leaves.network.ttl Dnskey v) over kept.1 held.lasts
+      (order.keys v held.since held.got kept.1 held.given),
+  λ kept. let held = kept.0 in
+      dropped leave held.since time (leaves.network.ttl ZoneSigners v) over kept.1 held.lasts
+      (order.zone v held.since held.got kept.1 held.given),
 )
 
 -- ---- which DS set

@@ -248,3 +248,5 @@ two_signers_find_each_chain keeper signer algorithm time ds dnskey signers zone 
         signed.has l (subst (λ (set : CachedSet). Contains set.0 l) by.same s.0.2),
       ),
     )
+
+pub ruleset own_sets = (each_publishes_its_own, having_all_suffices)

@@ -61,3 +61,5 @@ watch_suffices network time is kind server t serves by counts =
         is.grows kind older v (is.servers kind server seen.0 t serves seen.1 by),
       ),
     )
+
+pub ruleset renewals = (refresh_suffices, watch_suffices)

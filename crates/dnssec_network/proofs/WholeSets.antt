@@ -1,11 +1,11 @@
 -- The course keeps sets whole, is plain, and is made by the clock. For `premises_can_be_met`.
 use Rattle.std.proofs.Common.{◌≡◌, ℕ, zero, suc, ◌+◌, ◌*◌, ◌<◌, ◌≤◌, ◌⊎◌, inl, inr, Bool}
-use Rattle.std.proofs.Common.{List, [], ◌∷◌, take, drop, Option, None, Some, true}
+use Rattle.std.proofs.Common.{List, [], ◌∷◌, length, take, drop, Option, None, Some, true}
 use Rattle.std.proofs.Common.{false, ◌&&◌, ◌||◌, refl, sym, ap, ◌∙◌, subst, arith, Global}
 use Rattle.std.proofs.Common.{slice_index_or}
 use Rattle.std.proofs.Common.{slice_get, nat_eq, nat_le, true≢false, is_none, cond}
 use Rattle.std.proofs.lemmas.{Option.none-some, Option.same_Some, Bool.cases_Bool}
-use Rattle.std.specs.FinMap.{find, get}
+use Rattle.std.specs.{FinMap.find, FinMap.get, List.Contains}
 use Rattle.std.specs.Option.{option_map_or}
 use Rattle.std.specs.Ordering.{eq_by_cmp}
 use Rattle.dnssec_key.specs.declared.roll.RollState.TheVariants.{Propagation1}
@@ -264,25 +264,27 @@ module _ (heap : Global) (name : List ℕ) (one other : ℕ) where
   only-one x k zero within is = is
   only-one x k (suc n) within is = absurd (omega (arith, within))
 
+  -- a position whose DS set has only this key
+  by-one : (algorithm at : ℕ) (key : Id) → at ≤ length entries
+      → (position_at entries at).ds ≡ key ∷ [] → algorithm_of calls key ≡ algorithm
+      → HasDsBy calls entries algorithm
+  by-one algorithm at key within is same = record {
+    at = at;
+    key = key;
+    within = within;
+    is_in = subst (λ (ds : List Id). Contains ds key) (sym is) (0, omega arith, refl);
+    all = λ k has.
+        let h = subst (λ (ds : List Id). Contains ds k) is has in
+        ap (algorithm_of calls) (sym (only-one key k h.0 h.1 h.2)) ∙ same;
+  }
+
   ds_one : HasDsBy calls entries one
   unfolding position_at
-  ds_one = record {
-    at = 7;
-    key = (100 ∷ [], 1);
-    within = omega arith;
-    is_in = (0, omega arith, refl);
-    all = λ k has. ap (algorithm_of calls) (sym (only-one (100 ∷ [], 1) k has.0 has.1 has.2));
-  }
+  ds_one = by-one one 7 (100 ∷ [], 1) (omega arith) refl refl
 
   ds_other : HasDsBy calls entries other
   unfolding position_at
-  ds_other = record {
-    at = 13;
-    key = (98 ∷ [], 3);
-    within = omega arith;
-    is_in = (0, omega arith, refl);
-    all = λ k has. ap (algorithm_of calls) (sym (only-one (98 ∷ [], 3) k has.0 has.1 has.2));
-  }
+  ds_other = by-one other 13 (98 ∷ [], 3) (omega arith) refl refl
 
 pub whole_sets_can_be_kept : WholeSetsCanBeKept
 whole_sets_can_be_kept heap name one other time = (

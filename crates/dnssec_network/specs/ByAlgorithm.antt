@@ -3,9 +3,7 @@ use Rattle.std.specs.Prelude.{ℕ, List}
 use Rattle.dnssec_run.specs.declared.call.Call.{Call}
 use Rattle.dnssec_run.specs.declared.record.Entry.{Entry}
 use Rattle.dnssec_run.specs.ByAlgorithm.{HasChainByEach, KeepsWhole, algorithm_of}
-use Rattle.dnssec_run.specs.Plain.{IsPlain}
-use Rattle.dnssec_run.specs.Record.{IsRun}
-use Rattle.dnssec_network.specs.Network.{Network, IsNetworkOf, NoneLiesAhead, OfAllHeld}
+use Rattle.dnssec_network.specs.Network.{Network, NoneLiesAhead, OfAllHeld, OfPlainLists}
 use Rattle.dnssec_network.specs.Network.{ReportsAreTrue}
 
 -- Whatever sets caches hold at this time, they have a chain by each algorithm of the DS set. A
@@ -17,12 +15,8 @@ FindChainByEach calls entries network time =
 
 -- so they find at every time, if the list also keeps the sets whole
 abbrev pub ResolversFindEachChain : Type 0
-ResolversFindEachChain =
-    (name : List ℕ) (calls : List Call) (entries : List Entry) (network : Network) (time : ℕ) →
-    IsRun name calls entries →
-    IsPlain name calls entries →
+ResolversFindEachChain = OfPlainLists (λ name calls entries network time.
     KeepsWhole name calls entries →
-    IsNetworkOf entries network time →
     ReportsAreTrue entries network time →
     NoneLiesAhead entries network time →
-    FindChainByEach calls entries network time
+    FindChainByEach calls entries network time)

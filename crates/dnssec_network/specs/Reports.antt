@@ -1,17 +1,17 @@
 -- The TTL with which a report is due, by what is noted; and that the report is then true.
 use Rattle.std.specs.Prelude.{◌≡◌, ℕ, ◌≤◌, Bool, max, List, Option, None, Some, Result, Ok, Err}
-use Rattle.std.specs.Prelude.{if◌then◌else◌, false, true, nat_lt, option_and_then, unwrap_or}
+use Rattle.std.specs.Prelude.{if◌then◌else◌, true, nat_lt, option_and_then, unwrap_or}
 use Rattle.std.specs.Option.{option_map}
+use Rattle.dnssec_key.specs.RollTable.{is_second}
+use Rattle.dnssec_key.specs.declared.roll.Half.{Half}
+use Rattle.dnssec_key.specs.declared.roll.Half.TheVariants.{First, Second}
 use Rattle.dnssec_key.specs.declared.roll.RollState.{RollState}
 use Rattle.dnssec_key.specs.declared.roll.RollState.TheVariants.{Propagation1, Propagation2}
 use Rattle.dnssec_key.specs.declared.roll.RollType.{RollType}
 use Rattle.dnssec_run.specs.Moments.{moment_of_call}
-use Rattle.dnssec_run.specs.declared.call.Call.{Call}
 use Rattle.dnssec_run.specs.declared.record.Entry.{Entry}
 use Rattle.dnssec_run.specs.declared.steps.LastStep.{LastStep}
 use Rattle.dnssec_run.specs.Origins.{origin}
-use Rattle.dnssec_run.specs.Plain.{IsPlain}
-use Rattle.dnssec_run.specs.Record.{IsRun}
 use Rattle.dnssec_run.specs.declared.caches.SetKind.{SetKind as Kind}
 use Rattle.dnssec_run.specs.declared.caches.SetKind.TheVariants.{Ds, Dnskey, ZoneSigners}
 use Rattle.dnssec_run.specs.Safe.{SetKind, kind_of, retires}
@@ -22,8 +22,8 @@ use Rattle.dnssec_network.specs.declared.due.NotYet.TheVariants.{WaitsFor, Waits
 use Rattle.dnssec_network.specs.declared.fact.Before.{Before}
 use Rattle.dnssec_network.specs.declared.fact.Fact.{Fact}
 use Rattle.dnssec_network.specs.Facts.{AreTrue, news_of, ttl_before}
-use Rattle.dnssec_network.specs.Network.{FindChain, IsNetworkOf, IsTrueReport, Network}
-use Rattle.dnssec_network.specs.Network.{NeverGoesBack, NoneLiesAhead, PastReport}
+use Rattle.dnssec_network.specs.Network.{FindChain, IsTrueReport, Network, NeverGoesBack}
+use Rattle.dnssec_network.specs.Network.{NoneLiesAhead, OfPlainLists, PastReport}
 use Rattle.dnssec_network.specs.Spread.{due_for, known}
 
 -- ---- which TTL is due
@@ -60,10 +60,10 @@ due before facts roll second from now =
 
 -- ---- which report is due
 
--- which report a roll in this phase waits for, if any: `true` is its second one
-abbrev pub waited_for : Option RollState → Option Bool
-waited_for (Some Propagation1) = Some false
-waited_for (Some Propagation2) = Some true
+-- the half of whose report a roll in this phase waits, if any
+abbrev pub waited_for : Option RollState → Option Half
+waited_for (Some Propagation1) = Some First
+waited_for (Some Propagation2) = Some Second
 waited_for _ = None
 
 -- a TTL, or the kind that its report waits for
@@ -79,11 +79,11 @@ due_from begun now ttl = if nat_lt now begun then Err (WaitsUntil begun) else tt
 abbrev pub due_report : Before → List Fact → List ℕ → Option RollState → Option LastStep → RollType
     → ℕ → Option DueReport
 due_report before facts moments phase step roll now =
-    option_and_then (λ second. option_map (λ (last : LastStep). record {
+    option_and_then (λ half. option_map (λ (last : LastStep). record {
       roll = roll;
-      second = second;
+      half = half;
       ttl = due_from (unwrap_or (moment_of_call moments last.at) 0) now
-          (due before facts roll second (origin_in last.origins) now);
+          (due before facts roll (is_second half) (origin_in last.origins) now);
     }) step) (waited_for phase)
 
 -- ---- reports by notes
@@ -125,12 +125,8 @@ NotesMakeReportsTrue = (entries : List Entry) (network : Network) (time : ℕ) �
 -- published, and nothing goes back to before the sets that a step left; that the notes are true;
 -- and that no moment lay ahead of the clock.
 abbrev pub NotedReportsReachResolvers : Type 0
-NotedReportsReachResolvers =
-    (name : List ℕ) (calls : List Call) (entries : List Entry) (network : Network) (time : ℕ) →
-    IsRun name calls entries →
-    IsPlain name calls entries →
-    IsNetworkOf entries network time →
+NotedReportsReachResolvers = OfPlainLists (λ name calls entries network time.
     NoneGoesBack entries network time →
     ReportsAreByNotes entries network time →
     NoneLiesAhead entries network time →
-    FindChain entries network time
+    FindChain entries network time)

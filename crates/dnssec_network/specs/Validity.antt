@@ -1,13 +1,9 @@
 -- Lifetimes of signatures: no cache holds a set whose signatures are over (RFC 6781, section
 -- 4.4.2).
-use Rattle.std.specs.Prelude.{◌≡◌, ℕ, ◌+◌, ◌*◌, ◌<◌, ◌≤◌, List}
-use Rattle.dnssec_run.specs.declared.call.Call.{Call}
-use Rattle.dnssec_run.specs.declared.record.Entry.{Entry}
-use Rattle.dnssec_run.specs.Plain.{IsPlain}
-use Rattle.dnssec_run.specs.Record.{IsRun}
+use Rattle.std.specs.Prelude.{◌≡◌, ℕ, ◌+◌, ◌*◌, ◌<◌, ◌≤◌}
 use Rattle.dnssec_run.specs.Safe.{SetKind}
-use Rattle.dnssec_network.specs.Network.{FindChain, IsNetworkOf, MayBeHeld, Network, NoneLiesAhead}
-use Rattle.dnssec_network.specs.Network.{ReportsAreTrue, second_of}
+use Rattle.dnssec_network.specs.Network.{FindChain, MayBeHeld, Network, NoneLiesAhead}
+use Rattle.dnssec_network.specs.Network.{OfPlainLists, ReportsAreTrue, second_of}
 
 -- The signatures of a version are valid at a time. A resolver uses its sets only then. They still
 -- are in the second of the expiration (RFC 4034, section 3.1.5).
@@ -33,15 +29,11 @@ IsRenewed network time = (kind : SetKind) (server t : ℕ) → server < network.
 
 -- Then whatever sets caches hold since the start are valid, and have a chain of trust.
 abbrev pub ResolversFindValidChain : Type 0
-ResolversFindValidChain =
-    (name : List ℕ) (calls : List Call) (entries : List Entry) (network : Network) (time : ℕ) →
-    IsRun name calls entries →
-    IsPlain name calls entries →
-    IsNetworkOf entries network time →
+ResolversFindValidChain = OfPlainLists (λ name calls entries network time.
     ReportsAreTrue entries network time →
     NoneLiesAhead entries network time →
     IsRenewed network time →
-    FindChain entries network time × HeldAreValid network time
+    FindChain entries network time × HeldAreValid network time)
 
 -- Nothing less will do: if a server gives a version whose signatures end before its TTL, there is a
 -- time at which a cache may hold it and it isn't valid.

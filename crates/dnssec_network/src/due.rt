@@ -1,20 +1,21 @@
 //! Reports that are due: what a roll waits for, and with which TTL.
 ghost use Rattle.std.specs.Prelude.{◌≡◌, unwrap_or};
+ghost use Rattle.dnssec_key.specs.RollTable.{is_second};
 ghost use Rattle.dnssec_run.specs.Moments.{moment_of_call};
 ghost use Rattle.dnssec_run.specs.Steps.{origin_in, step_of};
 ghost use Rattle.dnssec_network.specs.Reports.{due, due_from, due_report, ttl_or_kind, waited_for};
 ghost use Rattle.dnssec_zone.specs.Rolls.{phase_of};
 
 use crate::notes::Notes;
-use dnssec_keyset::{KeySet, RollState, RollType, UnixTime};
+use dnssec_keyset::{Half, KeySet, RollState, RollType, UnixTime};
 use dnssec_run::{LastStep, Moments, SetKind, Steps};
 
 /// A report that a roll waits for.
 #[derive(Clone, Copy, Debug)]
 pub struct DueReport {
     pub roll: RollType,
-    /// Whether it is the second report of the roll.
-    pub second: bool,
+    /// The half of the roll that it is of.
+    pub half: Half,
     /// The TTL, in seconds, with which it is due; or why it isn't due yet.
     pub ttl: Result<u32, NotYet>,
 }
@@ -52,12 +53,12 @@ impl Notes {
         ensures { result ≡ due_report self.now.before self.now.facts moments.now
             (phase_of keyset.now.rolls roll) (step_of steps roll) roll now }
     {
-        let second = waited_for(keyset, roll)?;
+        let half = waited_for(keyset, roll)?;
         let last = steps.of(roll)?;
         Some(DueReport {
             roll,
-            second,
-            ttl: self.due_from(moments, roll, second, last, now),
+            half,
+            ttl: self.due_from(moments, roll, half, last, now),
         })
     }
 
@@ -67,16 +68,17 @@ impl Notes {
         &self,
         moments: &Moments,
         roll: RollType,
-        second: bool,
+        half: Half,
         last: LastStep,
         now: UnixTime,
     ) -> Result<u32, NotYet>
         ensures { result ≡ due_from (unwrap_or (moment_of_call moments.now last.at) 0) now
-            (due self.now.before self.now.facts roll second (origin_in last.origins) now) }
+            (due self.now.before self.now.facts roll (is_second half) (origin_in last.origins)
+            now) }
     {
         match moments.of_call(last.at) {
             Some(begun) if now < begun => Err(NotYet::WaitsUntil(begun)),
-            _ => ttl_or_kind(self.ttl_due(roll, second, last.origins, now)),
+            _ => ttl_or_kind(self.ttl_due(roll, half, last.origins, now)),
         }
     }
 }
@@ -90,13 +92,13 @@ fn ttl_or_kind(ttl: Result<u32, SetKind>) -> Result<u32, NotYet>
     }
 }
 
-/// Whether the roll waits for its second report; none if it waits for none.
-fn waited_for(keyset: &KeySet, roll: RollType) -> Option<bool>
+/// The half of whose report the roll waits; none if it waits for none.
+fn waited_for(keyset: &KeySet, roll: RollType) -> Option<Half>
     ensures { result ≡ waited_for (phase_of keyset.now.rolls roll) }
 {
     match keyset.rollstates().get(&roll) {
-        Some(RollState::Propagation1) => Some(false),
-        Some(RollState::Propagation2) => Some(true),
+        Some(RollState::Propagation1) => Some(Half::First),
+        Some(RollState::Propagation2) => Some(Half::Second),
         _ => None,
     }
 }

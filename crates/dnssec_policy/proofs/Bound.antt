@@ -1,6 +1,6 @@
 -- How long a report counts, and that it is said once all servers have its sets.
 use Rattle.std.proofs.Common.{◌≡◌, ℕ, ◌+◌, ◌≤◌, Bool, true, false, List, [], ◌∷◌, Option, None}
-use Rattle.std.proofs.Common.{Some, Result, Ok, Err, max, refl, sym, ap, subst, ◌∙◌, arith, fold}
+use Rattle.std.proofs.Common.{Some, Ok, max, refl, sym, ap, subst, ◌∙◌, arith, fold}
 use Rattle.std.proofs.Common.{if◌then◌else◌}
 use Rattle.std.proofs.lemmas.Bool.{and_parts, le-leb}
 use Rattle.std.specs.Prelude.{◌&&◌, ◌-◌, nat_le, nat_lt, unwrap_or}
@@ -33,7 +33,7 @@ use Rattle.dnssec_policy.specs.Todo.{Make, Todo, rank}
 use Rattle.dnssec_policy.specs.Ttls.{at_most_due, higher_with, highest_of, if_retired, keeps}
 use Rattle.dnssec_policy.specs.Ttls.{lasting, report_takes}
 use Rattle.dnssec_policy.specs.View.{View, reach_in}
-use Rattle.dnssec_policy.proofs.{InTime.by-rank, Said.may, Spreads.Spread}
+use Rattle.dnssec_policy.proofs.{Dues.due-parts, InTime.by-rank, Said.may, Spreads.Spread}
 use Rattle.dnssec_policy.proofs.Order.{rank-le, roll-said}
 
 -- ---- by the notes of a kind
@@ -165,14 +165,6 @@ module _ (v : View) (ahead : NoneLiesAheadOf v)
           (spread (kind_of kind) base) (within (kind_of kind) base) e in
           omega (arith, same, less)
 
-  parts : (a b c : Result ℕ Kind) (n : ℕ) → higher (higher a b) c ≡ Ok n
-      → (x : ℕ) × (y : ℕ) × (z : ℕ) × (a ≡ Ok x) × (b ≡ Ok y) × (c ≡ Ok z)
-      × (max (max x y) z ≡ n)
-  parts (Ok x) (Ok y) (Ok z) n e = (x, y, z, refl, refl, refl, cc)
-  parts (Ok x) (Ok y) (Err k) n e = absurd (cc)
-  parts (Ok x) (Err k) c n e = absurd (cc)
-  parts (Err k) b c n e = absurd (cc)
-
   module _ (roll : RollType) (second : Bool) where
     abbrev speaks : SetKind → Bool
     speaks kind = retires roll second kind
@@ -181,10 +173,7 @@ module _ (v : View) (ahead : NoneLiesAheadOf v)
         → due v.before v.facts roll second from v.now ≡ Ok least
         → least ≤ at_most_due v.highest roll second
     least-due from least is =
-        let p = parts (due_of v.before v.facts code.Ds (speaks Ds) (from Ds) v.now)
-        (due_of v.before v.facts code.Dnskey (speaks Dnskey) (from Dnskey) v.now)
-        (due_of v.before v.facts code.ZoneSigners (speaks ZoneSigners) (from ZoneSigners) v.now)
-        least is in
+        let p = due-parts v.before v.facts roll second from v.now least is in
         let ds = kind-due code.Ds (speaks Ds) (from Ds) p.0 p.3 in
         let dnskey = kind-due code.Dnskey (speaks Dnskey) (from Dnskey) p.1 p.4 in
         let zone = kind-due code.ZoneSigners (speaks ZoneSigners) (from ZoneSigners) p.2 p.5 in

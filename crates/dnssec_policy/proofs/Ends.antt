@@ -19,6 +19,7 @@ use Rattle.dnssec_network.proofs.Reached.{all-give}
 use Rattle.dnssec_policy.specs.Automatic.{is_add}
 use Rattle.dnssec_policy.specs.Keys.{is_rolled}
 use Rattle.dnssec_policy.specs.Laws.{AutomaticDeletionsFollow, AutomaticEndsFollow}
+use Rattle.dnssec_policy.specs.{Next.next_of, Todo.Make, declared.policy.Policy.Policy}
 use Rattle.dnssec_policy.specs.View.{View, reach_in}
 use Rattle.dnssec_policy.proofs.{May.May, Said.may, Said.not-so}
 
@@ -28,6 +29,10 @@ add-ends c h roll e = grind arith
 
 add-deletes : (c : Call) → is_add c ≡ true → (q : List ℕ) → call_of c ≡ keyset.DeleteKey q → ⊥
 add-deletes c h q e = grind arith
+
+may-as : (policy : Policy) (v : View) (c k : keyset.Call) → next_of policy v ≡ Make c → c ≡ k
+    → May policy v k
+may-as policy v c k said is = subst (May policy v) is (may policy v c said)
 
 -- what is noted to be there at the moment is there since the call
 since-call : (v : View) (network : Network) (time made base : ℕ) (kind : SetKind)
@@ -44,8 +49,7 @@ follows name calls entries network time n call roll kind base auto ci is asks la
       | inl a ↦ absurd (add-ends call a roll is)
       | inr s ↦
           let v = s.view in
-          let m : May s.policy v (keyset.RollDone roll) =
-          subst (May s.policy v) is (may s.policy v (call_of call) s.said) in
+          let m = may-as s.policy v (call_of call) (keyset.RollDone roll) s.said is in
           let at : m.1 ≡ base = same_Some m.1 base (sym m.2 ∙ s.at.last roll ∙ last) in
           let there : reach_in v kind base ≡ Everywhere =
           subst (λ b. reach_in v kind b ≡ Everywhere) at (m.3 kind asks) in
@@ -58,8 +62,7 @@ leaves name calls entries network time n call q auto ci is =
       | inl a ↦ absurd (add-deletes call a q is)
       | inr s ↦
           let v = s.view in
-          let m : May s.policy v (keyset.DeleteKey q) =
-          subst (May s.policy v) is (may s.policy v (call_of call) s.said) in
+          let m = may-as s.policy v (call_of call) (keyset.DeleteKey q) s.said is in
           let k = m.0 in
           let out : is_rolled v.set.rolls k.keytype ≡ false =
           not-so (is_rolled v.set.rolls k.keytype)

@@ -1,9 +1,8 @@
 -- Validators that keep algorithms find keys of each in what they hold.
 use Rattle.std.proofs.Common.{◌≡◌, ℕ, ◌+◌, ◌<◌, ◌≤◌, inl, inr, Bool, true, false, List}
-use Rattle.std.proofs.Common.{Some, map, max, refl, sym, ap, ◌∙◌, arith}
+use Rattle.std.proofs.Common.{Some, map, max, refl, ap, ◌∙◌, arith}
 use Rattle.std.specs.Prelude.{if◌then◌else◌}
 use Rattle.dnssec_key.specs.declared.roll.RollType.{RollType}
-use Rattle.dnssec_key.specs.RollTable.{First, Second}
 use Rattle.dnssec_keyset.specs.Step as keyset
 use Rattle.dnssec_run.specs.declared.call.Call.{Call}
 use Rattle.dnssec_run.specs.declared.record.Entry.{Entry}
@@ -12,7 +11,6 @@ use Rattle.dnssec_run.specs.declared.steps.LastStep.{LastStep}
 use Rattle.dnssec_run.specs.{Steps.origin_in}
 use Rattle.dnssec_run.specs.Record.{call_of}
 use Rattle.dnssec_run.specs.Safe.{SetKind, Ds, Dnskey, ZoneSigners, retires}
-use Rattle.dnssec_run.specs.WholeRolls.{is_second}
 use Rattle.dnssec_run.proofs.Chain.Trust.{each-holds, mark, moment}
 use Rattle.dnssec_network.specs.Facts.{AreTrue}
 use Rattle.dnssec_network.specs.Network.{MayBeHeld, Network}
@@ -29,7 +27,7 @@ use Rattle.dnssec_policy.specs.View.{View}
 use Rattle.dnssec_policy.proofs.{PlainCalls.automatic-plain, May.May, Said.may}
 use Rattle.dnssec_policy.proofs.{Whole.automatic-whole}
 use Rattle.dnssec_policy.proofs.Kept.{kept_before, kept_fact, still-due, still-true}
-use Rattle.dnssec_policy.proofs.Notes.{all-by-notes, none-ahead}
+use Rattle.dnssec_policy.proofs.Notes.{all-by-notes, as-said, none-ahead}
 
 -- ---- one call
 
@@ -53,34 +51,21 @@ module _ (s : ℕ) where
       → (at ttl : ℕ) → v.step roll ≡ Some step → mark c ≡ Report roll second ttl
       → moment c ≡ Some at
       → IsByNotes (keeping s network) roll second (origin_in step.origins) at ttl time
-  by-view policy v network time are le (keyset.Report r half t now) m roll second step at ttl there
-      mk mo =
-      let there' = sym m.3 ∙ ap v.step {x = r} {y = roll} (cc) ∙ there in
-      let step-is : m.2 ≡ step = cc in
-      let roll-is : r ≡ roll = cc in
-      let half-is : is_second half ≡ second = cc in
-      let at-is : v.now ≡ at = sym m.0 ∙ cc in
-      let ttl-is : t ≡ ttl = cc in
-      let enough = counts v.highest r (is_second half) m.4 t le m.6 (retires r (is_second half) Ds)
-      refl in
-      let found = still-due s v.before v.facts v.now r (is_second half)
-      (origin_in (m.2).origins) m.4
-      (λ speaks. let less = counts v.highest r (is_second half) m.4 t le m.6 true speaks in
-      let fits = m.7 in omega (arith, less, fits)) m.5 in
+  by-view policy v network time are le c m roll second step at ttl there mk mo =
+      let x = as-said policy v c m roll second step at ttl there mk mo in
+      let enough = counts v.highest roll second x.0 ttl le x.2 (retires roll second Ds) refl in
+      let found = still-due s v.before v.facts at roll second (origin_in step.origins) x.0
+      (λ speaks. let less = counts v.highest roll second x.0 ttl le x.2 true speaks in
+      let fits = x.3 in omega (arith, less, fits)) x.1 in
       let most = found.2 in
       record {
         before = kept_before s v.before;
         facts = map (kept_fact s) v.facts;
         are_true = still-true s network time v.before v.facts are;
         least = found.0;
-        is_due = rw (sym roll-is, sym half-is, sym step-is, sym at-is) found.1;
-        enough = omega (arith, ttl-is, enough, most);
+        is_due = found.1;
+        enough = omega (arith, enough, most);
       }
-  by-view policy v network time are le (keyset.Wait r First now) m roll second step at ttl there mk
-      mo = absurd (cc)
-  by-view policy v network time are le (keyset.Wait r Second now) m roll second step at ttl there mk
-      mo = absurd (cc)
-  by-view policy v network time are le _ m roll second step at ttl there mk mo = absurd (cc)
 
 -- ---- the run
 

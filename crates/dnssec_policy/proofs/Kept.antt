@@ -1,22 +1,23 @@
 -- Reports are by notes also of the network in which caches hold DS sets for so many seconds more as
 -- validators keep their algorithms.
 use Rattle.std.proofs.Common.{◌≡◌, ℕ, suc, ◌+◌, ◌*◌, ◌≤◌, Bool, true, false}
-use Rattle.std.proofs.Common.{List, [], ◌∷◌, Option, None, Some, Result, Ok, Err, map, max}
+use Rattle.std.proofs.Common.{List, [], ◌∷◌, Option, None, Some, Ok, map, max}
 use Rattle.std.proofs.Common.{refl, sym, ap, subst, ◌∙◌, arith, fold, if◌then◌else◌}
 use Rattle.std.proofs.lemmas.Bool.{le-leb}
 use Rattle.std.specs.Prelude.{◌&&◌, nat_le, nat_lt, unwrap_or}
 use Rattle.dnssec_key.specs.declared.roll.RollType.{RollType}
 use Rattle.dnssec_run.specs.declared.caches.SetKind.{SetKind as Kind}
 use Rattle.dnssec_run.specs.declared.caches.SetKind.TheVariants as code
-use Rattle.dnssec_run.specs.Safe.{SetKind, Ds, Dnskey, ZoneSigners, retires}
+use Rattle.dnssec_run.specs.Safe.{SetKind, Ds, Dnskey, ZoneSigners, kind_of, retires}
 use Rattle.dnssec_network.specs.declared.fact.{Before.Before, Fact.Fact, News.News}
 use Rattle.dnssec_network.specs.declared.fact.News.TheVariants.{Published, Everywhere}
-use Rattle.dnssec_network.specs.Facts.{AreTrue, AreTrueFrom, news_of}
+use Rattle.dnssec_network.specs.Facts.{AreTrue, AreTrueFrom, news_of, ttl_before}
 use Rattle.dnssec_network.specs.Network.{Network}
 use Rattle.dnssec_network.specs.Reports.{due, due_of, due_or, higher}
 use Rattle.dnssec_network.specs.Spread.{after, due_for, expired_after, first_spread}
 use Rattle.dnssec_network.specs.Spread.{is_none_older, known, seconds_left, seconds_until}
 use Rattle.dnssec_policy.specs.Kept.{keeping}
+use Rattle.dnssec_policy.proofs.Dues.{due-parts}
 use Rattle.dnssec_policy.proofs.Spreads.{Spread}
 
 -- ---- the same notes, with a higher TTL for each DS set
@@ -52,29 +53,13 @@ module _ (s : ℕ) where
   ds-news [] = refl
   ds-news (fact ∷ facts) = ds-one fact.kind fact.news facts (ds-news facts)
 
-  dnskey-one : (k : Kind) (news : News) (facts : List Fact)
-      → news_of Dnskey (kept facts) ≡ news_of Dnskey facts
-      → news_of Dnskey (kept (record { kind = k; news = news } ∷ facts))
-      ≡ news_of Dnskey (record { kind = k; news = news } ∷ facts)
-  dnskey-one code.Ds news facts e = e
-  dnskey-one code.Dnskey news facts e = ap (λ (ns : List News). news ∷ ns) e
-  dnskey-one code.ZoneSigners news facts e = e
-
   dnskey-news : (facts : List Fact) → news_of Dnskey (kept facts) ≡ news_of Dnskey facts
   dnskey-news [] = refl
-  dnskey-news (fact ∷ facts) = dnskey-one fact.kind fact.news facts (dnskey-news facts)
-
-  zone-one : (k : Kind) (news : News) (facts : List Fact)
-      → news_of ZoneSigners (kept facts) ≡ news_of ZoneSigners facts
-      → news_of ZoneSigners (kept (record { kind = k; news = news } ∷ facts))
-      ≡ news_of ZoneSigners (record { kind = k; news = news } ∷ facts)
-  zone-one code.Ds news facts e = e
-  zone-one code.Dnskey news facts e = e
-  zone-one code.ZoneSigners news facts e = ap (λ (ns : List News). news ∷ ns) e
+  dnskey-news (fact ∷ facts) = grind (arith, dnskey-news facts)
 
   zone-news : (facts : List Fact) → news_of ZoneSigners (kept facts) ≡ news_of ZoneSigners facts
   zone-news [] = refl
-  zone-news (fact ∷ facts) = zone-one fact.kind fact.news facts (zone-news facts)
+  zone-news (fact ∷ facts) = grind (arith, zone-news facts)
 
   -- ---- they are true of that network
 
@@ -87,19 +72,19 @@ module _ (s : ℕ) where
         (are.0, omega (arith, le), are.2, ds-true (suc n) later are.3)
     ds-true n (Everywhere moment ∷ later) are = (are.0, ds-true n later are.1)
 
-    dnskey-true : (n : ℕ) (news : List News) → AreTrueFrom network Dnskey time n news
-        → AreTrueFrom (keeping s network) Dnskey time n news
-    dnskey-true n [] are = are
-    dnskey-true n (Published position ttl moment ∷ later) are =
-        (are.0, are.1, are.2, dnskey-true (suc n) later are.3)
-    dnskey-true n (Everywhere moment ∷ later) are = (are.0, dnskey-true n later are.1)
-
-    zone-true : (n : ℕ) (news : List News) → AreTrueFrom network ZoneSigners time n news
-        → AreTrueFrom (keeping s network) ZoneSigners time n news
-    zone-true n [] are = are
-    zone-true n (Published position ttl moment ∷ later) are =
-        (are.0, are.1, are.2, zone-true (suc n) later are.3)
-    zone-true n (Everywhere moment ∷ later) are = (are.0, zone-true n later are.1)
+    -- of a kind whose TTLs stay
+    others-true : (kind : SetKind) → (keeping s network).ttl kind ≡ network.ttl kind → (n : ℕ)
+        (news : List News) → AreTrueFrom network kind time n news
+        → AreTrueFrom (keeping s network) kind time n news
+    others-true kind same n [] are = are
+    others-true kind same n (Published position ttl moment ∷ later) are = (
+      are.0,
+      subst (λ (t : ℕ → ℕ). t (suc n) ≤ ttl) (sym same) are.1,
+      are.2,
+      others-true kind same (suc n) later are.3,
+    )
+    others-true kind same n (Everywhere moment ∷ later) are =
+        (are.0, others-true kind same n later are.1)
 
     pub still-true : (before : Before) (facts : List Fact) → AreTrue before facts network time
         → AreTrue (kept_before s before) (kept facts) (keeping s network) time
@@ -112,12 +97,12 @@ module _ (s : ℕ) where
     still-true before facts are Dnskey = (
       (are Dnskey).0,
       subst (AreTrueFrom (keeping s network) Dnskey time 0) (sym (dnskey-news facts))
-          (dnskey-true 0 (news_of Dnskey facts) (are Dnskey).1),
+          (others-true Dnskey refl 0 (news_of Dnskey facts) (are Dnskey).1),
     )
     still-true before facts are ZoneSigners = (
       (are ZoneSigners).0,
       subst (AreTrueFrom (keeping s network) ZoneSigners time 0) (sym (zone-news facts))
-          (zone-true 0 (news_of ZoneSigners facts) (are ZoneSigners).1),
+          (others-true ZoneSigners refl 0 (news_of ZoneSigners facts) (are ZoneSigners).1),
     )
 
   -- ---- what is due by them
@@ -212,16 +197,6 @@ module _ (s : ℕ) where
             (nat_le (seconds_left a.expired now) 4_294_967_295) h
         on false h = absurd (cc)
 
-  -- ---- the three kinds together
-
-  parts : (a b c : Result ℕ Kind) (n : ℕ) → higher (higher a b) c ≡ Ok n
-      → (x : ℕ) × (y : ℕ) × (z : ℕ) × (a ≡ Ok x) × (b ≡ Ok y) × (c ≡ Ok z)
-      × (max (max x y) z ≡ n)
-  parts (Ok x) (Ok y) (Ok z) n e = (x, y, z, refl, refl, refl, cc)
-  parts (Ok x) (Ok y) (Err k) n e = absurd (cc)
-  parts (Ok x) (Err k) c n e = absurd (cc)
-  parts (Err k) b c n e = absurd (cc)
-
   some-due : (o : Option ℕ) (x : ℕ) → due_or code.Ds o ≡ Ok x → o ≡ Some x
   some-due None x e = absurd (cc)
   some-due (Some n) x e = let same : n ≡ x = cc in ap Some same
@@ -245,19 +220,15 @@ module _ (s : ℕ) where
           d.2,
         )
 
-    dnskey-due : (t : Bool) (base : ℕ)
-        → due_of (kept_before s before) (kept facts) code.Dnskey t base now
-        ≡ due_of before facts code.Dnskey t base now
-    dnskey-due true base = ap (λ (ns : List News). due_or code.Dnskey
-        (due_for base (known base before.dnskey ns) now)) (dnskey-news facts)
-    dnskey-due false base = refl
-
-    zone-due : (t : Bool) (base : ℕ)
-        → due_of (kept_before s before) (kept facts) code.ZoneSigners t base now
-        ≡ due_of before facts code.ZoneSigners t base now
-    zone-due true base = ap (λ (ns : List News). due_or code.ZoneSigners
-        (due_for base (known base before.zone ns) now)) (zone-news facts)
-    zone-due false base = refl
+    -- of a kind that is noted as before
+    others-due : (kind : Kind)
+        → ttl_before (kept_before s before) (kind_of kind) ≡ ttl_before before (kind_of kind)
+        → news_of (kind_of kind) (kept facts) ≡ news_of (kind_of kind) facts
+        → (t : Bool) (base : ℕ) → due_of (kept_before s before) (kept facts) kind t base now
+        ≡ due_of before facts kind t base now
+    others-due kind first news true base = λ i. due_or kind
+        (due_for base (known base (first i) (news i)) now)
+    others-due kind first news false base = refl
 
     pub still-due : (roll : RollType) (second : Bool) (from : SetKind → ℕ) (least : ℕ)
         → (retires roll second Ds ≡ true → least + s ≤ 4_294_967_295)
@@ -265,15 +236,14 @@ module _ (s : ℕ) where
         → (y : ℕ) × (due (kept_before s before) (kept facts) roll second from now ≡ Ok y)
         × (y ≤ (if retires roll second Ds then least + s else least))
     still-due roll second from least small is =
-        let p = parts (due_of before facts code.Ds (retires roll second Ds) (from Ds) now)
-        (due_of before facts code.Dnskey (retires roll second Dnskey) (from Dnskey) now)
-        (due_of before facts code.ZoneSigners (retires roll second ZoneSigners) (from ZoneSigners)
-        now) least is in
+        let p = due-parts before facts roll second from now least is in
         let most = p.6 in
         let d = ds-due (retires roll second Ds) (from Ds) p.0
         (λ t. let le = small t in omega (arith, le, most)) p.3 in
-        let dnskey = dnskey-due (retires roll second Dnskey) (from Dnskey) ∙ p.4 in
-        let zone = zone-due (retires roll second ZoneSigners) (from ZoneSigners) ∙ p.5 in
+        let dnskey = others-due code.Dnskey refl (dnskey-news facts) (retires roll second Dnskey)
+        (from Dnskey) ∙ p.4 in
+        let zone = others-due code.ZoneSigners refl (zone-news facts)
+        (retires roll second ZoneSigners) (from ZoneSigners) ∙ p.5 in
         let le = d.2 in (
           max (max d.0 p.1) p.2,
           (λ i. higher (higher (d.1 i) (dnskey i)) (zone i)),

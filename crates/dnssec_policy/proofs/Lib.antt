@@ -12,7 +12,8 @@
 -- | `next_is_accepted`               | `clear`                               | Clear      |
 -- | `automatic_ends_follow`          | `follows`                             | Ends       |
 -- | `automatic_deletions_follow`     | `leaves`                              | Ends       |
--- | `next_goes_on`                   | `prompt`, `ahead`                     | Prompt     |
+-- | `next_goes_on`                   | `prompt`                              | Prompt     |
+-- | the same                         | `ahead`                               | Ahead      |
 -- | `rolls_are_in_time`              | `no-longer`, `in-time`                | Bound      |
 -- | `rolls_end`                      | `rolls-end`                           | RollsEnd   |
 -- | `starts_are_in_time`             | `renewals-in-time`, `changes-in-time` | InTime     |
@@ -20,6 +21,7 @@
 -- | `nothing_is_silent`              | `outspoken`                           | Silence    |
 -- | `rest_is_as_wanted`              | `as-wanted`                           | Rests      |
 -- | `automatic_runs_grow`            | `grows`                               | Growing    |
+pub mod Halves
 pub mod May
 pub mod Said
 pub mod Accepted
@@ -32,12 +34,14 @@ pub mod Ends
 pub mod Order
 pub mod Steps
 pub mod Prompt
+pub mod Ahead
 pub mod InTime
 pub mod Rests
 pub mod Growing
 pub mod Highest
 pub mod Silence
 pub mod Spreads
+pub mod Dues
 pub mod Kept
 pub mod Keepers
 pub mod Bound

@@ -86,18 +86,10 @@ abbrev pub onto : List (List ℕ) → Result (List (List ℕ)) KeyRole → Resul
 onto qs (Ok ps) = Ok (qs ++ ps)
 onto qs (Err role) = Err role
 
-pub onto-none : (r : Result (List (List ℕ)) KeyRole) → onto [] r ≡ r
-onto-none (Ok ps) = refl
-onto-none (Err role) = refl
-
 pub onto-one : (qs : List (List ℕ)) (q : List ℕ) (r : Result (List (List ℕ)) KeyRole)
     → onto (qs ++ q ∷ []) r ≡ onto qs (with_key (Ok q) r)
 onto-one qs q (Ok ps) = ap Ok (append_assoc qs (q ∷ []) ps)
 onto-one qs q (Err role) = refl
-
-pub onto-missing : (qs : List (List ℕ)) (role : KeyRole) (r : Result (List (List ℕ)) KeyRole)
-    → onto qs (with_key (Err role) r) ≡ Err role
-onto-missing qs role r = refl
 
 -- the first of the references that were found
 pub first-none : (role : KeyRole) (xs : List (Bor (List ℕ))) → slice_get xs 0 ≡ None

@@ -4,7 +4,7 @@ use Rattle.std.proofs.Common.{None, Some, length, refl, sym, ap, subst, ◌∙�
 use Rattle.std.proofs.lemmas.Bool.{cases_lt}
 use Rattle.std.proofs.lemmas.Option.{none-some, slice_get_past}
 use Rattle.std.specs.Option.{option_map}
-use Rattle.std.specs.Prelude.{◌+◌, ◌≤◌, ◌⊎◌, false, if◌then◌else◌, max, slice_get}
+use Rattle.std.specs.Prelude.{◌+◌, ◌≤◌, ◌⊎◌, Ok, false, if◌then◌else◌, max, slice_get}
 use Rattle.dnssec_key.specs.declared.roll.RollType.{RollType}
 use Rattle.dnssec_key.specs.RollTable.{First, Second}
 use Rattle.dnssec_keyset.specs.Step as keyset
@@ -22,7 +22,7 @@ use Rattle.dnssec_run.proofs.Since.{origin-of}
 use Rattle.dnssec_run.proofs.WholeRolls.Replies.{outcome, position-is}
 use Rattle.dnssec_network.specs.Facts.{AreTrue}
 use Rattle.dnssec_network.specs.Network.{Network, NoneLiesAhead}
-use Rattle.dnssec_network.specs.Reports.{IsByNotes, ReportsAreByNotes}
+use Rattle.dnssec_network.specs.Reports.{IsByNotes, ReportsAreByNotes, due}
 use Rattle.dnssec_policy.specs.declared.policy.Policy.{Policy}
 use Rattle.dnssec_policy.specs.Automatic.{IsAutomatic, is_add}
 use Rattle.dnssec_policy.specs.Ttls.{keeps, lasting}
@@ -41,34 +41,45 @@ longer h roll second least = by (retires roll second Ds)
     by true = omega arith
     by false = omega arith
 
+-- a report is made with the TTL that is due at its moment, and lasts as long as it has to
+pub as-said : (policy : Policy) (v : View) (c : keyset.Call) → May policy v c → (roll : RollType)
+    (second : Bool) (step : LastStep) (at ttl : ℕ) → v.step roll ≡ Some step
+    → mark c ≡ Report roll second ttl → moment c ≡ Some at → (least : ℕ)
+    × (due v.before v.facts roll second (origin_in step.origins) at ≡ Ok least)
+    × (ttl ≡ lasting v.highest roll second least) × (ttl ≤ 4_294_967_295)
+as-said policy v (keyset.Report r half t now) m roll second step at ttl there mk mo =
+    let there' = sym m.3 ∙ ap v.step {x = r} {y = roll} (cc) ∙ there in
+    let step-is : m.2 ≡ step = cc in
+    let roll-is : r ≡ roll = cc in
+    let half-is : is_second half ≡ second = cc in
+    let at-is : v.now ≡ at = sym m.0 ∙ cc in
+    let ttl-is : t ≡ ttl = cc in (
+      m.4,
+      rw (sym roll-is, sym half-is, sym step-is, sym at-is) m.5,
+      rw (sym roll-is, sym half-is, sym ttl-is) m.6,
+      rw (sym ttl-is) m.7,
+    )
+as-said policy v (keyset.Wait r First now) m roll second step at ttl there mk mo = absurd (cc)
+as-said policy v (keyset.Wait r Second now) m roll second step at ttl there mk mo = absurd (cc)
+as-said policy v _ m roll second step at ttl there mk mo = absurd (cc)
+
 -- a report is by the notes by which it was said
 by-view : (policy : Policy) (v : View) (network : Network) (time : ℕ)
     → AreTrue v.before v.facts network time
     → (c : keyset.Call) → May policy v c → (roll : RollType) (second : Bool) (step : LastStep)
     → (at ttl : ℕ) → v.step roll ≡ Some step → mark c ≡ Report roll second ttl
     → moment c ≡ Some at → IsByNotes network roll second (origin_in step.origins) at ttl time
-by-view policy v network time are (keyset.Report r half t now) m roll second step at ttl there mk
-    mo =
-    let there' = sym m.3 ∙ ap v.step {x = r} {y = roll} (cc) ∙ there in
-    let step-is : m.2 ≡ step = cc in
-    let roll-is : r ≡ roll = cc in
-    let half-is : is_second half ≡ second = cc in
-    let at-is : v.now ≡ at = sym m.0 ∙ cc in
-    let ttl-is : t ≡ ttl = cc in
+by-view policy v network time are c m roll second step at ttl there mk mo =
+    let s = as-said policy v c m roll second step at ttl there mk mo in
     record {
       before = v.before;
       facts = v.facts;
       are_true = are;
-      least = m.4;
-      is_due = rw (sym roll-is, sym half-is, sym step-is, sym at-is) m.5;
-      enough = (let long = longer v.highest r (is_second half) m.4 in let is = m.6 in
-          omega (arith, ttl-is, long, is));
+      least = s.0;
+      is_due = s.1;
+      enough = (let long = longer v.highest roll second s.0 in let is = s.2 in
+          omega (arith, long, is));
     }
-by-view policy v network time are (keyset.Wait r First now) m roll second step at ttl there mk mo =
-    absurd (cc)
-by-view policy v network time are (keyset.Wait r Second now) m roll second step at ttl there mk
-    mo = absurd (cc)
-by-view policy v network time are _ m roll second step at ttl there mk mo = absurd (cc)
 
 -- its moment is that at which it was said
 pub at-now : (policy : Policy) (v : View) (c : keyset.Call) → May policy v c → (at : ℕ)

@@ -103,12 +103,18 @@ ok policy v (keyset.Wait roll half now) h m nope =
 ok policy v (keyset.RollDone roll) h m nope = tt
 ok policy v (keyset.AbortRoll roll) h m nope = m
 
+-- what is so of all adds is so of a call that is one
+pub added : (P : keyset.Call → Type 0)
+    → ((reference : List ℕ) (key : KeyParts) → P (keyset.AddKey reference key))
+    → (c : Call) → is_add c ≡ true → P (call_of c)
+added P adds (call.AddKeyKsk a b c d e f) h = adds _ _
+added P adds (call.AddKeyZsk a b c d e f) h = adds _ _
+added P adds (call.AddKeyCsk a b c d e f) h = adds _ _
+added P adds (call.AddPublicKey a b c d e) h = adds _ _
+added P adds _ h = absurd (true≢false (sym h))
+
 added-ok : (c : Call) → is_add c ≡ true → Ok (call_of c)
-added-ok (call.AddKeyKsk a b c d e f) h = tt
-added-ok (call.AddKeyZsk a b c d e f) h = tt
-added-ok (call.AddKeyCsk a b c d e f) h = tt
-added-ok (call.AddPublicKey a b c d e) h = tt
-added-ok _ h = absurd (true≢false (sym h))
+added-ok = added Ok (λ reference key. tt)
 
 -- what it makes of a key
 waited-ds : (roll : RollType) (half : Half) → needs_algorithm_roll roll ≡ false

@@ -9,9 +9,8 @@ use Rattle.dnssec_key.specs.declared.roll.RollState.{RollState}
 use Rattle.dnssec_key.specs.declared.roll.RollState.TheVariants.{Propagation1, CacheExpire1}
 use Rattle.dnssec_key.specs.declared.roll.RollState.TheVariants.{Propagation2, CacheExpire2, Done}
 use Rattle.dnssec_key.specs.declared.roll.RollType.{RollType}
-use Rattle.dnssec_key.specs.RollTable.{Half, First, Second, cache_expire}
-use Rattle.dnssec_zone.specs.Rolls.{phase_of, same_roll}
-use Rattle.dnssec_zone.specs.Start.{together}
+use Rattle.dnssec_key.specs.RollTable.{Half, First, Second, after_expiry, cache_expire}
+use Rattle.dnssec_zone.specs.{Rolls.phase_of, Rolls.same_roll, Start.together}
 use Rattle.dnssec_zone.specs.Wait as waits
 use Rattle.dnssec_keyset.specs.KeySet.{KeySetParts}
 use Rattle.dnssec_keyset.specs.Step as keyset
@@ -26,21 +25,18 @@ use Rattle.dnssec_run.specs.WholeRolls.{IsAccepted, is_second, propagation}
 use Rattle.dnssec_run.specs.WholeRolls as rolls
 use Rattle.dnssec_run.proofs.Chain.Allowed.{spreads, waits_in_phase}
 use Rattle.dnssec_run.proofs.Chain.History.{base_here, base_same}
-use Rattle.dnssec_run.proofs.Chain.Rolls.{same-same}
-use Rattle.dnssec_run.proofs.Chain.Trust.{mark}
-use Rattle.dnssec_run.proofs.Effects.{is_on, phase_put, phases}
-use Rattle.dnssec_run.proofs.Premise.{end_of}
+use Rattle.dnssec_run.proofs.Chain.{Rolls.same-same, Trust.mark}
+use Rattle.dnssec_run.proofs.{Effects.is_on, Effects.phase_put, Effects.phases, Premise.end_of}
 use Rattle.dnssec_run.proofs.WholeRolls.Replies.{outcome, since, start-beside, world_of}
 use Rattle.dnssec_network.specs.Network.{Network}
 use Rattle.dnssec_policy.specs.Automatic.{is_last, last_below}
 use Rattle.dnssec_policy.specs.Delays.{AreMade, Delays, HasTtls, IsAfter, IsDone, RollsEnd}
 use Rattle.dnssec_policy.specs.Delays.{SpreadWithin, Watch, roll_lasts, said}
-use Rattle.dnssec_policy.specs.Todo.{rank}
-use Rattle.dnssec_policy.specs.Ttls.{report_takes}
+use Rattle.dnssec_policy.specs.{Todo.rank, Ttls.report_takes}
 use Rattle.dnssec_policy.proofs.Delays.{NoneReported, and-no, and-yes, counts, end-said, ends-by}
 use Rattle.dnssec_policy.proofs.Delays.{ends-on, never-aborts, none-more, none-yet, report-said}
 use Rattle.dnssec_policy.proofs.Delays.{not-beside-itself, second-off, unreported, wait-said}
-use Rattle.dnssec_policy.proofs.Lags.{costs-grow, more-by, none-by}
+use Rattle.dnssec_policy.proofs.Lags.{all-within, begins_by, costs-grow, lasts_by, more-by, none-by}
 use Rattle.dnssec_policy.proofs.Steps.{last-seen, second_of, unstepped}
 
 module _ {name : List ℕ} {calls : List Call} {entries : List Entry} {network : Network}
@@ -65,28 +61,15 @@ module _ {name : List ℕ} {calls : List Call} {entries : List Entry} {network :
     costs m n later le = costs-grow cost lag (suc s) (λ n from. more n (omega (arith, from))) m n
         (omega (arith, later)) le
 
-    -- the time from the start until a phase at the latest, and that which it takes; without lags
     abbrev begins : RollState → ℕ
-    begins Propagation1 = 0
-    begins (CacheExpire1 t) = delays.start
-    begins Propagation2 = delays.start + wait First * 1_000_000_000
-    begins (CacheExpire2 t) = delays.start + wait First * 1_000_000_000 + delays.first
-    begins Done = delays.start + wait First * 1_000_000_000 + delays.first
-        + wait Second * 1_000_000_000
+    begins = begins_by delays wait
 
     abbrev lasts : RollState → ℕ
-    lasts Propagation1 = delays.start
-    lasts (CacheExpire1 t) = wait First * 1_000_000_000
-    lasts Propagation2 = delays.first
-    lasts (CacheExpire2 t) = wait Second * 1_000_000_000
-    lasts Done = delays.second
+    lasts = lasts_by delays wait
 
-    all-within : (p : RollState) → begins p + lasts p ≤ whole
-    all-within Propagation1 = omega (arith, whole_is)
-    all-within (CacheExpire1 t) = omega (arith, whole_is)
-    all-within Propagation2 = omega (arith, whole_is)
-    all-within (CacheExpire2 t) = omega (arith, whole_is)
-    all-within Done = omega (arith, whole_is)
+    -- a position is reached within its phase, with a lag for each call
+    abbrev InTime : ℕ → RollState → Type 0
+    InTime n p = network.made n ≤ network.made (suc s) + begins p + lasts p + cost n
 
     -- what the roll waits for came at this position
     abbrev Anchor : ℕ → ℕ → RollState → Type 0
@@ -101,8 +84,13 @@ module _ {name : List ℕ} {calls : List Call} {entries : List Entry} {network :
       below : at ≤ n
       later : s < at
       begun : network.made at ≤ network.made (suc s) + begins p + cost at
-      so_far : network.made n ≤ network.made (suc s) + begins p + lasts p + cost n
+      so_far : InTime n p
       anchor : Anchor n at p
+
+    over : (half : Half) (t at now : ℕ) → t ≤ wait half
+        → network.made at + wait half * 1_000_000_000 ≤ now
+        → network.made at + t * 1_000_000_000 ≤ now
+    over half t at now less past = omega (arith, less, past)
 
     -- once its time is over, a call is said
     due : (n now : ℕ) → IsAfter entries network n now → now ≤ time → (p : RollState)
@@ -111,60 +99,45 @@ module _ {name : List ℕ} {calls : List Call} {entries : List Entry} {network :
     due n now after le Propagation1 is st past =
         report-said run all spread ttls n now after le First st.at is st.anchor past
     due n now after le (CacheExpire1 t) is st past =
-        let less = st.anchor.0 in
         wait-said run all spread ttls n now after le First t st.at st.below is st.anchor.1
-        (omega (arith, less, past))
+        (over First t st.at now st.anchor.0 past)
     due n now after le Propagation2 is st past =
         report-said run all spread ttls n now after le Second st.at is st.anchor past
     due n now after le (CacheExpire2 t) is st past =
-        let less = st.anchor.0 in
         wait-said run all spread ttls n now after le Second t st.at st.below is st.anchor.1
-        (omega (arith, less, past))
+        (over Second t st.at now st.anchor.0 past)
     due n now after le Done is st past =
         end-said run all spread ttls n now after le st.at is st.anchor past
 
     -- so the next call comes in time
     soon : (n : ℕ) → s < n → n ≤ length entries → (p : RollState)
-        → phase_of (set_at n).rolls roll ≡ Some p → Stage n p → (n < length entries)
-        × (network.made (suc n) ≤ network.made (suc s) + begins p + lasts p + cost (suc n))
-    soon n from within p is st = elim (cases_lt n (length entries)) [
-      | inl lt ↦ elim (cases_lt (network.made (suc n)) (max (network.made n)
-          (network.made st.at + lasts p))) [
+        → phase_of (set_at n).rolls roll ≡ Some p → Stage n p
+        → (n < length entries) × InTime (suc n) p
+    soon n from within p is st =
+        let begun = st.begun in
+        let so_far : InTime n p = st.so_far in
+        let grown = costs st.at n st.later st.below in
+        let next = more n from in
+        let now = max (network.made n) (network.made st.at + lasts p) in
+        let on : (n < length entries → now ≤ network.made (suc n))
+        → (n < length entries) × InTime (suc n) p = λ high.
+        let after : IsAfter entries network n now = (within, omega arith, high) in
+        let most = costs (suc n) (suc (length entries)) (omega (arith, from))
+        (omega (arith, within)) in
+        let part = all-within delays wait whole whole_is p in
+        let in_time : now + lag ≤ time =
+        omega (arith, begun, so_far, grown, next, most, part, enough) in
+        let x = all.prompt n now after in_time
+        (due n now after (omega (arith, in_time)) p is st (omega arith)) in
+        let by = x.1 in
+        (x.0, omega (arith, by, begun, so_far, grown, next)) in
+        elim (cases_lt n (length entries)) [
+          | inl lt ↦ elim (cases_lt (network.made (suc n)) now) [
             | inl early ↦ (lt, omega (arith, early, begun, so_far, grown, next))
             | inr late ↦ on (λ lt. late)
           ]
-      | inr ge ↦ on (λ lt. absurd (omega (arith, lt, ge)))
-    ]
-      where
-        begun : network.made st.at ≤ network.made (suc s) + begins p + cost st.at
-        begun = st.begun
-
-        so_far : network.made n ≤ network.made (suc s) + begins p + lasts p + cost n
-        so_far = st.so_far
-
-        grown : cost st.at ≤ cost n
-        grown = costs st.at n st.later st.below
-
-        next : cost (suc n) ≡ cost n + lag
-        next = more n from
-
-        on : (n < length entries
-            → max (network.made n) (network.made st.at + lasts p) ≤ network.made (suc n))
-            → (n < length entries)
-            × (network.made (suc n) ≤ network.made (suc s) + begins p + lasts p + cost (suc n))
-        on high =
-            let now = max (network.made n) (network.made st.at + lasts p) in
-            let after : IsAfter entries network n now = (within, omega arith, high) in
-            let most = costs (suc n) (suc (length entries)) (omega (arith, from))
-            (omega (arith, within)) in
-            let part = all-within p in
-            let in_time : now + lag ≤ time =
-            omega (arith, begun, so_far, grown, next, most, part, enough) in
-            let past : now ≤ time = omega (arith, in_time) in
-            let x = all.prompt n now after in_time
-            (due n now after past p is st (omega arith)) in
-            let by = x.1 in
-            (x.0, omega (arith, by, begun, so_far, grown, next))
+          | inr ge ↦ on (λ lt. absurd (omega (arith, lt, ge)))
+        ]
 
     record Running (n : ℕ) : Type 0 where
       phase : RollState
@@ -179,8 +152,7 @@ module _ {name : List ℕ} {calls : List Call} {entries : List Entry} {network :
     module _ (n : ℕ) (c : Call) (e : Entry) (from : s < n) (within : suc n ≤ length entries)
         (ci : slice_get calls n ≡ Some c) (ei : slice_get entries n ≡ Some e) (h : Running n)
       where
-        in_time : network.made (suc n)
-            ≤ network.made (suc s) + begins h.phase + lasts h.phase + cost (suc n)
+        in_time : InTime (suc n) h.phase
         in_time = (soon n from (omega (arith, within)) h.phase h.is h.stage).1
 
         ends-here : DoesAt rolls.end_of calls entries n roll
@@ -196,28 +168,26 @@ module _ {name : List ℕ} {calls : List Call} {entries : List Entry} {network :
               here (subst (λ m. DoesAt rolls.end_of calls entries m roll) same d)
         ]
 
-        -- a call beside the roll leaves its phase
-        anchored : is_step roll (position_at entries (suc n)).mark ≡ false
-            → ((second : Bool) (t : ℕ)
-            → (position_at entries (suc n)).mark ≡ Report roll second t → ⊥)
-            → is_last roll (slice_get calls n) (slice_get entries n) ≡ false
-            → (at : ℕ) (p : RollState) → Anchor n at p → Anchor (suc n) at p
-        unfolding last_below
-        anchored step report last at Propagation1 a = base_same entries roll (suc n) step ∙ a
-        anchored step report last at (CacheExpire1 t) a =
-            (a.0, none-more run all roll at n report a.1)
-        anchored step report last at Propagation2 a = base_same entries roll (suc n) step ∙ a
-        anchored step report last at (CacheExpire2 t) a =
-            (a.0, none-more run all roll at n report a.1)
-        anchored step report last at Done a = rw last a
+        -- a call beside the roll: no step, no report, no last wait of it
+        abbrev IsBeside : Type 0
+        IsBeside = (is_step roll (position_at entries (suc n)).mark ≡ false)
+            × ((second : Bool) (t : ℕ) → (position_at entries (suc n)).mark ≡ Report roll second t
+            → ⊥)
+            × (is_last roll (slice_get calls n) (slice_get entries n) ≡ false)
 
-        stays : is_step roll (position_at entries (suc n)).mark ≡ false
-            → ((second : Bool) (t : ℕ)
-            → (position_at entries (suc n)).mark ≡ Report roll second t → ⊥)
-            → is_last roll (slice_get calls n) (slice_get entries n) ≡ false
+        -- it leaves the roll's phase
+        anchored : IsBeside → (at : ℕ) (p : RollState) → Anchor n at p → Anchor (suc n) at p
+        unfolding last_below
+        anchored beside at Propagation1 a = base_same entries roll (suc n) beside.0 ∙ a
+        anchored beside at (CacheExpire1 t) a = (a.0, none-more run all roll at n beside.1 a.1)
+        anchored beside at Propagation2 a = base_same entries roll (suc n) beside.0 ∙ a
+        anchored beside at (CacheExpire2 t) a = (a.0, none-more run all roll at n beside.1 a.1)
+        anchored beside at Done a = rw beside.2 a
+
+        stays : IsBeside
             → phase_of (set_at (suc n)).rolls roll ≡ phase_of (set_at n).rolls roll
             → (DoesAt rolls.end_of calls entries n roll → ⊥) → Running (suc n)
-        stays step report last same here = record {
+        stays beside same here = record {
           phase = h.phase;
           is = same ∙ h.is;
           stage = record {
@@ -226,7 +196,7 @@ module _ {name : List ℕ} {calls : List Call} {entries : List Entry} {network :
             later = h.stage.later;
             begun = h.stage.begun;
             so_far = in_time;
-            anchor = anchored step report last h.stage.at h.phase h.stage.anchor;
+            anchor = anchored beside h.stage.at h.phase h.stage.anchor;
           };
           none = none-on here;
         }
@@ -236,10 +206,7 @@ module _ {name : List ℕ} {calls : List Call} {entries : List Entry} {network :
             → begins p + lasts p ≡ begins q → Anchor (suc n) (suc n) q
             → (DoesAt rolls.end_of calls entries n roll → ⊥) → Running (suc n)
         comes p q was is sum anchor here =
-            let by : network.made (suc n)
-            ≤ network.made (suc s) + begins p + lasts p + cost (suc n) =
-            subst (λ p. network.made (suc n)
-            ≤ network.made (suc s) + begins p + lasts p + cost (suc n)) was in_time in
+            let by = subst (InTime (suc n)) was in_time in
             record {
               phase = q;
               is = is;
@@ -270,6 +237,22 @@ module _ {name : List ℕ} {calls : List Call} {entries : List Entry} {network :
           not-end k it none d =
               none-some roll (sym (ap end_of it ∙ none) ∙ (ends-here d).0)
 
+          waited : (half : Half) (t : ℕ) (q : RollType) (now : ℕ)
+              → call_of c ≡ keyset.Wait q half now
+              → (position_at entries (suc n)).mark ≡ mark (keyset.Wait q half now)
+              → same_roll roll q ≡ true → h.phase ≡ cache_expire half t
+              → phase_of (set_at (suc n)).rolls roll ≡ Some (after_expiry half)
+              → (DoesAt rolls.end_of calls entries n roll → ⊥) → Running (suc n)
+          unfolding last_below
+          waited First t q now it mk its was is here =
+              comes (CacheExpire1 t) Propagation2 was is refl
+              (base_here entries roll (suc n) (ap (is_step roll) mk ∙ its)) here
+          waited Second t q now it mk its was is here =
+              let last : is_last roll (slice_get calls n) (slice_get entries n) ≡ true =
+              rw (ci, ei) (last-seen c e roll ∙ and-yes (second_of (call_of c) roll)
+              (is_accepted e.reply) (ap (λ k. second_of k roll) it ∙ its) ok) in
+              comes (CacheExpire2 t) Done was is refl (rw last refl) here
+
           -- by the call, if it is one of the roll
           own : (k : keyset.Call) → call_of c ≡ k → is_on k roll ≡ true
               → keyset.clearance (set_at n) k ≡ waits.Clear
@@ -293,35 +276,20 @@ module _ {name : List ℕ} {calls : List Call} {entries : List Entry} {network :
               let less = counts n c ci half t now
               (it ∙ ap (λ q. keyset.Report q half t now) q-is) in
               inr (reported half t was-its is less (not-end (keyset.Report q half t now) it refl))
-          own (keyset.Wait q First now) it on v changes mk =
+          own (keyset.Wait q half now) it on v changes mk =
               let q-is = same-is q roll on in
-              let w = waits_in_phase q First now (world_of (set_at n)) v in
-              let was : h.phase ≡ CacheExpire1 w.0 = same_Some h.phase (CacheExpire1 w.0)
+              let w = waits_in_phase q half now (world_of (set_at n)) v in
+              let was : h.phase ≡ cache_expire half w.0 = same_Some h.phase (cache_expire half w.0)
               (sym h.is ∙ ap (phase_of (set_at n).rolls) (sym q-is) ∙ w.1) in
-              let is : phase_of (set_at (suc n)).rolls roll ≡ Some Propagation2 =
-              phases (set_at n) (set_at (suc n)) (keyset.Wait q First now) changes roll
-              ∙ ap (λ b. if b then Some Propagation2 else phase_of (set_at n).rolls roll) on in
-              inr (comes (CacheExpire1 w.0) Propagation2 was is refl
-              (base_here entries roll (suc n) (ap (is_step roll) mk
-              ∙ ap (same_roll roll) q-is ∙ same-same roll))
-              (not-end (keyset.Wait q First now) it refl))
-          own (keyset.Wait q Second now) it on v changes mk =
-              let q-is = same-is q roll on in
-              let w = waits_in_phase q Second now (world_of (set_at n)) v in
-              let was : h.phase ≡ CacheExpire2 w.0 = same_Some h.phase (CacheExpire2 w.0)
-              (sym h.is ∙ ap (phase_of (set_at n).rolls) (sym q-is) ∙ w.1) in
-              let is : phase_of (set_at (suc n)).rolls roll ≡ Some Done =
-              phases (set_at n) (set_at (suc n)) (keyset.Wait q Second now) changes roll
-              ∙ ap (λ b. if b then Some Done else phase_of (set_at n).rolls roll) on in
-              let last : is_last roll (slice_get calls n) (slice_get entries n) ≡ true =
-              rw (ci, ei) (last-seen c e roll ∙ and-yes (second_of (call_of c) roll)
-              (is_accepted e.reply) (ap (λ k. second_of k roll) it
-              ∙ ap (same_roll roll) q-is ∙ same-same roll) ok) in
-              inr (comes (CacheExpire2 w.0) Done was is refl (rw last refl)
-              (not-end (keyset.Wait q Second now) it refl))
+              let is : phase_of (set_at (suc n)).rolls roll ≡ Some (after_expiry half) =
+              phases (set_at n) (set_at (suc n)) (keyset.Wait q half now) changes roll
+              ∙ ap (λ b. if b then Some (after_expiry half) else phase_of (set_at n).rolls roll)
+              on in
+              inr (waited half w.0 q now it mk (ap (same_roll roll) q-is ∙ same-same roll) was is
+              (not-end (keyset.Wait q half now) it refl))
           own (keyset.RollDone q) it on v changes mk =
               let q-is = same-is q roll on in
-              let part = all-within h.phase in
+              let part = all-within delays wait whole whole_is h.phase in
               let by = in_time in
               inl (
                 n,
@@ -348,18 +316,23 @@ module _ {name : List ℕ} {calls : List Call} {entries : List Entry} {network :
 
         next : Ended (suc n) ⊎ Running (suc n)
         next = elim (outcome run n c e ci ei) [
-          | inl y ↦ inr (stays (ap (is_step roll) y.2) (λ second t mk.
-              let nope : Other ≡ Report roll second t = sym y.2 ∙ mk in absurd (cc))
-              (rw (ci, ei) (last-seen c e roll ∙ and-no (second_of (call_of c) roll)
-              (is_accepted e.reply) (inr y.0)))
+          | inl y ↦ inr (stays (
+            ap (is_step roll) y.2,
+            (λ second t mk. let nope : Other ≡ Report roll second t = sym y.2 ∙ mk in
+                absurd (cc)),
+            rw (ci, ei) (last-seen c e roll ∙ and-no (second_of (call_of c) roll)
+                (is_accepted e.reply) (inr y.0)),
+          )
               (ap (λ (set : KeySetParts). phase_of set.rolls roll) y.1)
               (λ d. true≢false (sym (ends-here d).1 ∙ y.0)))
           | inr d ↦ elim (cases_Bool (is_on (call_of c) roll)) [
             | inl on ↦ own d.0 (call_of c) refl on d.1 d.2 d.5
-            | inr off ↦ inr (stays (ap (is_step roll) d.5 ∙ unstepped (call_of c) roll off)
-                (λ second t mk. unreported (call_of c) roll off second t (sym d.5 ∙ mk))
-                (rw (ci, ei) (last-seen c e roll ∙ and-no (second_of (call_of c) roll)
-                (is_accepted e.reply) (inl (second-off (call_of c) roll off))))
+            | inr off ↦ inr (stays (
+              ap (is_step roll) d.5 ∙ unstepped (call_of c) roll off,
+              (λ second t mk. unreported (call_of c) roll off second t (sym d.5 ∙ mk)),
+              rw (ci, ei) (last-seen c e roll ∙ and-no (second_of (call_of c) roll)
+                  (is_accepted e.reply) (inl (second-off (call_of c) roll off))),
+            )
                 (phases (set_at n) (set_at (suc n)) (call_of c) d.2 roll
                 ∙ ap (λ b. if b then phase_put (call_of c) else phase_of (set_at n).rolls roll) off)
                 (λ x. true≢false (sym (ends-on (call_of c) roll (ends-here x).0) ∙ off)))

@@ -26,11 +26,12 @@ use Rattle.dnssec_run.proofs.Chain.Trust.{adds_blank, plainly}
 use Rattle.dnssec_run.proofs.Effects.{came, deleted-stale, deletes, goes as stays}
 use Rattle.dnssec_run.proofs.Effects.{moved_key}
 use Rattle.dnssec_run.proofs.WholeRolls.Replies.{did, outcome, since}
+use Rattle.dnssec_key.specs.{RollTable.Half, RollTable.half_of, declared.kind.KeyType.KeyType}
 use Rattle.dnssec_network.specs.Network.{Network}
 use Rattle.dnssec_policy.specs.declared.policy.Policy.{Policy}
 use Rattle.dnssec_policy.specs.Automatic.{IsAutomatic, is_add}
 use Rattle.dnssec_policy.specs.View.{View}
-use Rattle.dnssec_policy.proofs.PlainCalls.{said}
+use Rattle.dnssec_policy.proofs.PlainCalls.{added, said}
 use Rattle.dnssec_policy.proofs.May.{May}
 use Rattle.dnssec_policy.proofs.Whole.Keys.{HasOf, is_alike, IsWhole, waited-alike, waited-ksk}
 use Rattle.dnssec_policy.proofs.Whole.Keys.{waited-zsk, stale-zsk, blank-kept}
@@ -44,30 +45,31 @@ IsCalm (keyset.StartRoll roll olds news now) = ⊥
 IsCalm (keyset.AbortRoll roll) = ⊥
 IsCalm _ = Unit {0}
 
+-- so is a key's kind after it, if it stays or moves by a wait
+calm-kind : (P : KeyType → Type 0) (set : KeySetParts) (c : keyset.Call) (q : List ℕ) (k : KeyParts)
+    → IsCalm c → ((roll : RollType) (half : Half) → P ((half_of roll half).moves k.keytype))
+    → P k.keytype → P (moved_key set c q k).keytype
+calm-kind P set (keyset.Set reference setting) q k calm waits stays = absurd calm
+calm-kind P set (keyset.StartRoll roll olds news now) q k calm waits stays = absurd calm
+calm-kind P set (keyset.AbortRoll roll) q k calm waits stays = absurd calm
+calm-kind P set (keyset.Wait roll half now) q k calm waits stays = waits roll half
+calm-kind P set _ q k calm waits stays = stays
+
 calm-alike : (set : KeySetParts) (c : keyset.Call) (q : List ℕ) (k : KeyParts) → IsCalm c
     → is_alike k.keytype ≡ true → is_alike (moved_key set c q k).keytype ≡ true
-calm-alike set (keyset.Set reference setting) q k calm e = absurd calm
-calm-alike set (keyset.StartRoll roll olds news now) q k calm e = absurd calm
-calm-alike set (keyset.AbortRoll roll) q k calm e = absurd calm
-calm-alike set (keyset.Wait roll half now) q k calm e = waited-alike roll half k.keytype e
-calm-alike set _ q k calm e = e
+calm-alike set c q k calm e = calm-kind (λ t. is_alike t ≡ true) set c q k calm
+    (λ roll half. waited-alike roll half k.keytype e) e
 
 calm-ksk : (set : KeySetParts) (c : keyset.Call) (q : List ℕ) (k : KeyParts) → IsCalm c
     → keeps_ksk (moved_key set c q k).keytype ≡ true → keeps_ksk k.keytype ≡ true
-calm-ksk set (keyset.Set reference setting) q k calm e = absurd calm
-calm-ksk set (keyset.StartRoll roll olds news now) q k calm e = absurd calm
-calm-ksk set (keyset.AbortRoll roll) q k calm e = absurd calm
-calm-ksk set (keyset.Wait roll half now) q k calm e = waited-ksk roll half k.keytype e
-calm-ksk set _ q k calm e = e
+calm-ksk set c q k calm = calm-kind (λ t. keeps_ksk t ≡ true → keeps_ksk k.keytype ≡ true) set c q k
+    calm (λ roll half. waited-ksk roll half k.keytype) (λ e. e)
 
 calm-zsk : (set : KeySetParts) (c : keyset.Call) (q : List ℕ) (k : KeyParts) → IsCalm c
     → is_alike k.keytype ≡ true → keeps_zsk k.keytype ≡ true
     → keeps_zsk (moved_key set c q k).keytype ≡ true
-calm-zsk set (keyset.Set reference setting) q k calm a e = absurd calm
-calm-zsk set (keyset.StartRoll roll olds news now) q k calm a e = absurd calm
-calm-zsk set (keyset.AbortRoll roll) q k calm a e = absurd calm
-calm-zsk set (keyset.Wait roll half now) q k calm a e = waited-zsk roll half k.keytype a e
-calm-zsk set _ q k calm a e = e
+calm-zsk set c q k calm a e = calm-kind (λ t. keeps_zsk t ≡ true) set c q k calm
+    (λ roll half. waited-zsk roll half k.keytype a e) e
 
 calm-algorithm : (set : KeySetParts) (c : keyset.Call) (q : List ℕ) (k : KeyParts) → IsCalm c
     → (moved_key set c q k).algorithm ≡ k.algorithm
@@ -136,11 +138,7 @@ add-starts : (c : Call) → is_add c ≡ true → (roll : RollType) → start_of
 add-starts c h roll e = grind arith
 
 add-calm : (c : Call) → is_add c ≡ true → IsCalm (call_of c)
-add-calm (call.AddKeyKsk a b c d e f) h = tt
-add-calm (call.AddKeyZsk a b c d e f) h = tt
-add-calm (call.AddKeyCsk a b c d e f) h = tt
-add-calm (call.AddPublicKey a b c d e) h = tt
-add-calm _ h = absurd (true≢false (sym h))
+add-calm = added IsCalm (λ reference key. tt)
 
 -- ---- the run
 

@@ -8,11 +8,12 @@ use Rattle.dnssec_key.specs.declared.kind.KeyType.{KeyType}
 use Rattle.dnssec_key.specs.declared.roll.RollType.{RollType}
 use Rattle.dnssec_key.specs.declared.roll.RollType.TheVariants.{KskRoll, KskDoubleDsRoll, ZskRoll}
 use Rattle.dnssec_key.specs.declared.roll.RollType.TheVariants.{ZskDoubleSignatureRoll, CskRoll}
-use Rattle.dnssec_key.specs.declared.roll.RollType.TheVariants.{AlgorithmRoll}
 use Rattle.dnssec_key.specs.Key.{KeyParts, all_states, either, ksk, zsk, ksk_role, zsk_role}
 use Rattle.dnssec_key.specs.State.{Flags, is_active_ksk, is_active_zsk, is_any, is_fresh, is_kept}
 use Rattle.dnssec_key.specs.State.{is_leaving, is_stale, is_used}
 use Rattle.dnssec_key.specs.Sides.{side_of}
+use Rattle.dnssec_key.specs.declared.roll.Side.{Side}
+use Rattle.dnssec_key.specs.declared.roll.Side.TheVariants.{KskSide, ZskSide, BothSides}
 use Rattle.dnssec_zone.specs.Keys.{Keys, some_key}
 use Rattle.dnssec_zone.specs.Rolls.{Rolls, all_rolls, phase_of}
 use Rattle.dnssec_zone.specs.Start.{lists_kind}
@@ -119,14 +120,14 @@ abbrev pub rolls_of : Scheme → List RollType
 rolls_of (Split k z) = ksk_roll k ∷ zsk_roll z ∷ []
 rolls_of SingleType = CskRoll ∷ []
 
--- the role of the keys that such a roll renews
+-- the role of the keys that a roll of this side renews
+abbrev pub role_on : Side → KeyRole
+role_on KskSide = Ksk
+role_on ZskSide = Zsk
+role_on BothSides = Csk
+
 abbrev pub role_of : RollType → KeyRole
-role_of KskRoll = Ksk
-role_of KskDoubleDsRoll = Ksk
-role_of ZskRoll = Zsk
-role_of ZskDoubleSignatureRoll = Zsk
-role_of CskRoll = Csk
-role_of AlgorithmRoll = Csk
+role_of roll = role_on (side_of roll)
 
 -- when keys of a role are renewed
 abbrev pub renewal_of : Policy → KeyRole → Term

@@ -9,14 +9,12 @@ ghost use Rattle.dnssec_policy.specs.Code.{end_of, last_of, todo_of, view_of};
 ghost use Rattle.dnssec_policy.specs.InProgress.{awaited, end_next, ends_with, is_wait_for};
 ghost use Rattle.dnssec_policy.specs.InProgress.{later, once_settled, once_there, report_next};
 ghost use Rattle.dnssec_policy.specs.InProgress.{report_or, report_with, wait_next};
-ghost use Rattle.dnssec_run.specs.WholeRolls.{is_second};
 ghost use Rattle.dnssec_policy.specs.Next.{phase_next, rolls_next};
 
 use crate::state::{Ends, State};
 use crate::todo::Next;
 use crate::why::Why;
-use dnssec_key::Half;
-use dnssec_keyset::{Action, RollState, RollType, UnixTime, WaitEnd};
+use dnssec_keyset::{Action, Half, RollState, RollType, UnixTime, WaitEnd};
 use dnssec_network::{Origins, Reach};
 use dnssec_run::SetKind;
 use dnssec_zone::all_rolls;
@@ -69,16 +67,6 @@ fn report_with<'a>(state: &State<'a>, roll: RollType, half: Half, ttl: u64) -> N
     }
 }
 
-/// Whether it is the second half of a roll.
-fn is_second(half: Half) -> bool
-    ensures { result ≡ is_second (which half) }
-{
-    match half {
-        Half::First => false,
-        Half::Second => true,
-    }
-}
-
 /// A report that lasts longer than the TTL that is due, or what it waits for of the sets that came
 /// at these positions.
 fn report_or<'a>(
@@ -93,8 +81,7 @@ fn report_or<'a>(
 {
     match due {
         Ok(due) => {
-            let second = is_second(half);
-            let ttl = state.highest.lasting(roll, second, u64::from(due));
+            let ttl = state.highest.lasting(roll, half, u64::from(due));
             report_with(state, roll, half, ttl)
         }
         Err(kind) => {
@@ -114,10 +101,7 @@ fn report_next<'a>(state: &State<'a>, roll: RollType, half: Half) -> Next<'a>
             why: Why::NoStep { roll },
         },
         Some(step) => {
-            let second = is_second(half);
-            let due = state
-                .notes
-                .ttl_due(roll, second, step.origins, state.moment);
+            let due = state.notes.ttl_due(roll, half, step.origins, state.moment);
             report_or(state, roll, half, step.origins, due)
         }
     }

@@ -94,6 +94,7 @@ pub fn keys_leave()
 {}
 
 /// Whatever the policy wants is done, or what is in its way is said by `stuck`.
+#[tactic(auto, using(crate::proofs::Silence::outspoken))]
 pub fn nothing_is_silent()
     ensures { NothingIsSilent }
 {}

@@ -19,6 +19,7 @@ use crate::keys::{Pick, is_unwanted, references, roles_of, serves};
 use crate::policy::{KeyRole, Policy, Scheme, Term};
 use crate::state::State;
 use crate::todo::Next;
+use dnssec_key::{Side, side_of};
 use dnssec_keyset::{Key, RollType, UnixTime};
 use dnssec_zone::{all_rolls, go_together};
 use std::alloc::{AllocError, Global};
@@ -153,10 +154,10 @@ pub(crate) fn change<'a>(
 fn role_of(roll: RollType) -> KeyRole
     ensures { result ≡ role_of roll }
 {
-    match roll {
-        RollType::KskRoll | RollType::KskDoubleDsRoll => KeyRole::Ksk,
-        RollType::ZskRoll | RollType::ZskDoubleSignatureRoll => KeyRole::Zsk,
-        RollType::CskRoll | RollType::AlgorithmRoll => KeyRole::Csk,
+    match side_of(roll) {
+        Side::KskSide => KeyRole::Ksk,
+        Side::ZskSide => KeyRole::Zsk,
+        Side::BothSides => KeyRole::Csk,
     }
 }
 

@@ -10,8 +10,7 @@ ghost use Rattle.dnssec_policy.specs.Todo.{Make, cds_with, is_sooner, moment_of,
 use crate::by_hand::FirstByHand;
 use crate::policy::KeyRole;
 use crate::why::Why;
-use dnssec_key::Half;
-use dnssec_keyset::{RollType, UnixTime};
+use dnssec_keyset::{Half, RollType, UnixTime};
 use dnssec_run::{Call, SetKind};
 
 /// What is asked of CDS and CDNSKEY.

@@ -1,5 +1,6 @@
 //! The highest TTLs that are noted, and how long a report counts by them.
 ghost use Rattle.std.specs.Prelude.{◌≡◌, ◌≤◌, ◌++◌, ◌∷◌, [], List};
+ghost use Rattle.dnssec_key.specs.RollTable.{is_second};
 ghost use Rattle.dnssec_network.specs.declared.fact.Before.{Before as AnyBefore};
 ghost use Rattle.dnssec_network.specs.declared.fact.Fact.{Fact as AnyFact};
 ghost use Rattle.dnssec_run.specs.Safe.{kind_of};
@@ -95,11 +96,11 @@ impl HighestTtls {
 
     /// The TTL of a report, by the TTL that is due for the sets that it speaks of. One that speaks
     /// of DS sets also counts the algorithms that validators keep with DNSKEY sets, and CDS.
-    pub(crate) fn lasting(&self, roll: RollType, second: bool, due: u64) -> u64
+    pub(crate) fn lasting(&self, roll: RollType, half: Half, due: u64) -> u64
         requires { due ≤ 4_294_967_296 }
-        ensures { result ≡ lasting (ttl_in self.now) roll second due }
+        ensures { result ≡ lasting (ttl_in self.now) roll (is_second half) due }
     {
-        if retires(roll, Half::of_report(second), SetKind::Ds) {
+        if retires(roll, half, SetKind::Ds) {
             let cds = u64::from(self.of(SetKind::ZoneSigners)) + 1;
             (due + self.keeps()).max(cds)
         } else {
@@ -108,10 +109,11 @@ impl HighestTtls {
     }
 
     /// That of a kind that a report speaks of; 0 of another.
-    fn if_retired(&self, roll: RollType, second: bool, kind: SetKind) -> u32
-        ensures { result ≡ if_retired (ttl_in self.now) roll second (kind_of kind) }
+    fn if_retired(&self, roll: RollType, half: Half, kind: SetKind) -> u32
+        ensures { result ≡ if_retired (ttl_in self.now) roll (is_second half)
+            (kind_of kind) }
     {
-        if retires(roll, Half::of_report(second), kind) {
+        if retires(roll, half, kind) {
             self.of(kind)
         } else {
             0
@@ -119,27 +121,27 @@ impl HighestTtls {
     }
 
     /// The highest TTL that may be due, and a second.
-    fn at_most_due(&self, roll: RollType, second: bool) -> u64
-        ensures due { result ≡ at_most_due (ttl_in self.now) roll second }
+    fn at_most_due(&self, roll: RollType, half: Half) -> u64
+        ensures due { result ≡ at_most_due (ttl_in self.now) roll (is_second half) }
         ensures at_most { result ≤ 4_294_967_296 }
     {
-        let ds = self.if_retired(roll, second, SetKind::Ds);
-        let dnskey = self.if_retired(roll, second, SetKind::Dnskey);
-        let zone = self.if_retired(roll, second, SetKind::ZoneSigners);
+        let ds = self.if_retired(roll, half, SetKind::Ds);
+        let dnskey = self.if_retired(roll, half, SetKind::Dnskey);
+        let zone = self.if_retired(roll, half, SetKind::ZoneSigners);
         u64::from(ds.max(dnskey).max(zone)) + 1
     }
 
     /// How many seconds the wait after a report counts.
-    fn report_takes(&self, roll: RollType, second: bool) -> u64
-        ensures { result ≡ report_takes (ttl_in self.now) roll second }
+    fn report_takes(&self, roll: RollType, half: Half) -> u64
+        ensures { result ≡ report_takes (ttl_in self.now) roll (is_second half) }
     {
-        self.lasting(roll, second, self.at_most_due(roll, second))
+        self.lasting(roll, half, self.at_most_due(roll, half))
     }
 
     /// How many seconds the two waits of a roll count together.
     pub fn roll_takes(&self, roll: RollType) -> u64
         ensures { result ≡ roll_takes (ttl_in self.now) roll }
     {
-        self.report_takes(roll, false) + self.report_takes(roll, true)
+        self.report_takes(roll, Half::First) + self.report_takes(roll, Half::Second)
     }
 }

@@ -68,11 +68,13 @@ fn barred_if(wanted: bool, state: &State<'_>, roll: RollType) -> Option<Why>
     ensures { (end : AnyRoll → Option AnyEnd) → result
         ≡ barred_if wanted (view_of state.now end) roll }
 {
-    if wanted && !may_begin(state, roll) {
-        Some(Why::Barred { roll })
-    } else {
-        None
+    if !wanted {
+        return None;
     }
+    if may_begin(state, roll) {
+        return None;
+    }
+    Some(Why::Barred { roll })
 }
 
 /// Whether a key's time is over that the roll renews.

@@ -1,5 +1,5 @@
 -- Notes, line by line: what is noted after one more line.
-use Rattle.std.proofs.Common.{Err, List, None, Ok, Option, Result, Some, [], ap, refl, sym, ℕ, ◌++◌}
+use Rattle.std.proofs.Common.{List, None, Option, Some, [], ap, refl, sym, ℕ, ◌++◌}
 use Rattle.std.proofs.Common.{◌∙◌, ◌∷◌, ◌≡◌, ◌+◌, ◌-◌, ◌≤◌, ◌==◌, Bool, true, false, arith, length}
 use Rattle.std.proofs.Common.{if◌then◌else◌, take}
 use Rattle.std.proofs.lemmas.List.{length-take-le, Splits.length-slice_split}
@@ -7,12 +7,10 @@ use Rattle.std.proofs.lemmas.List.Sums.{count_by-le-length}
 use Rattle.std.specs.Io.BufRead.{ends_with_byte}
 use Rattle.dnssec_script.specs.Script.{lines_of, without_end}
 use Rattle.std.proofs.lemmas.{List.append-nil, List.append_assoc, List.map-append, Option.none-some}
-use Rattle.std.{proofs.lemmas.Option.same_Some, specs.Option.option_map, specs.Prelude.IfOk}
+use Rattle.std.{proofs.lemmas.Option.same_Some, specs.Option.option_map}
 use Rattle.dnssec_network.specs.Notes.{NotesParts, refusal}
-use Rattle.dnssec_network.specs.declared.fact.{Before.Before, Fact.Fact}
-use Rattle.dnssec_network.specs.Text.Lines.{as_before, before_says}
+use Rattle.dnssec_network.specs.declared.fact.{Fact.Fact}
 use Rattle.dnssec_network.specs.Text.Reading.{AreFacts, AreNotes, AreTaken, HasLine, HasTaken}
-use Rattle.dnssec_network.specs.declared.text.fault.NotesFault.{NotesFault}
 
 -- one fact more is taken
 taken-more : (moments : List ℕ) (old facts : List Fact) (fact : Fact) → AreTaken moments old facts
@@ -31,18 +29,6 @@ facts-more moments lines line old new has are = rw has.notes (record {
   said = simp (map-append, has.said, are.said);
   taken = taken-more moments [] old.facts has.fact are.taken has.taken;
 })
-
--- ---- all lines
-
--- the first line, and the others
-pub notes-all : (moments : List ℕ) (lines rest : List (List ℕ)) (first : List ℕ) (before : Before)
-    (r : Result NotesParts NotesFault)
-    → lines ≡ first ∷ rest → as_before first ≡ Some (before_says before)
-    → IfOk r (λ (n : NotesParts). n.before ≡ before)
-    → IfOk r (λ (n : NotesParts). AreFacts moments rest n.facts)
-    → IfOk r (λ (n : NotesParts). AreNotes moments lines n.before n.facts)
-notes-all moments lines rest first before (Ok n) split said same are = rw (split, same) (said, are)
-notes-all moments lines rest first before (Err e) split said same are = tt
 
 -- a text has at most one line more than bytes
 shorter : (is_cut : Bool) (text : List ℕ)

@@ -3,7 +3,7 @@ use Rattle.std.specs.Prelude.{◌≡◌, ℕ, ◌+◌, ◌*◌, ◌/◌, ◌++�
 use Rattle.std.specs.Prelude.{length, codes, decimal, Option, None, Some, Result, Ok, Err}
 use Rattle.std.specs.List.{flat_map}
 use Rattle.dnssec_key.specs.declared.roll.RollType.{RollType}
-use Rattle.dnssec_key.specs.Texts.{roll_name}
+use Rattle.dnssec_key.specs.{RollTable.is_second, Texts.roll_name}
 use Rattle.dnssec_zone.specs.Rolls.{Rolls, all_rolls, phase_of}
 use Rattle.dnssec_run.specs.declared.call.Call.{Call}
 use Rattle.dnssec_run.specs.declared.record.Entry.{Entry}
@@ -52,7 +52,8 @@ ttl_line second roll (Err why) seconds =
 -- no line for a roll that waits for no report
 abbrev pub due_line : Option DueReport → ℕ → List ℕ
 due_line None seconds = []
-due_line (Some report) seconds = ttl_line report.second report.roll report.ttl seconds
+due_line (Some report) seconds =
+    ttl_line (is_second report.half) report.roll report.ttl seconds
 
 -- the line of a roll in its phase, with its last step
 abbrev pub line_for : Rolls → (RollType → Option LastStep) → List ℕ → Before → List Fact → ℕ

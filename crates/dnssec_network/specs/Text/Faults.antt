@@ -1,6 +1,6 @@
 -- The texts of faults.
 use Rattle.std.specs.Prelude.{ℕ, ◌++◌, List, codes, decimal}
-use Rattle.dnssec_network.specs.Texts.{fault_text}
+use Rattle.dnssec_network.specs.Texts.{fault_text, memory_text}
 use Rattle.dnssec_record.specs.Fault.{script_fault_text}
 use Rattle.dnssec_network.specs.declared.text.fault.DueFault.{DueFault}
 use Rattle.dnssec_network.specs.declared.text.fault.DueFault.TheVariants.{Script, Notes}
@@ -14,13 +14,13 @@ use Rattle.dnssec_network.specs.declared.text.fault.NotesFault.TheVariants.{OutO
 abbrev pub line_fault_text : LineFault → List ℕ
 line_fault_text line.Malformed = codes "malformed"
 line_fault_text (line.Refused fault) = fault_text fault
-line_fault_text line.OutOfMemory = codes "out of memory"
+line_fault_text line.OutOfMemory = memory_text
 
 -- of notes
 abbrev pub notes_fault_text : NotesFault → List ℕ
 notes_fault_text (Malformed n) = codes "line " ++ decimal n ++ codes ": malformed"
 notes_fault_text (Refused n fault) = codes "line " ++ decimal n ++ codes ": " ++ fault_text fault
-notes_fault_text OutOfMemory = codes "out of memory"
+notes_fault_text OutOfMemory = memory_text
 
 -- and of a script with its notes
 abbrev pub due_fault_text : DueFault → List ℕ

@@ -24,12 +24,15 @@ use Rattle.dnssec_network.specs.declared.text.fault.NotesFault.TheVariants as no
 abbrev pub question_forms : List Form
 question_forms = as_number 18446744073709551615 ∷ []
 
--- what a question says: `due`, and the second that it asks about
-unfoldable pub as_question : List ℕ → Option (List Value)
-as_question line =
-    option_and_then
-    (λ x. if bytes_eq x.0 (codes "due") then values_of question_forms x.1 else None)
+-- what a question of this word says: the word, and the second that it asks about
+unfoldable pub asked_by : List ℕ → List ℕ → Option (List Value)
+asked_by word line =
+    option_and_then (λ x. if bytes_eq x.0 word then values_of question_forms x.1 else None)
     (first_field (fields_of line))
+
+-- what a question among notes says
+abbrev pub as_question : List ℕ → Option (List Value)
+as_question = asked_by (codes "due")
 
 -- the lines that are no questions
 abbrev pub notes_among : List (List ℕ) → List (List ℕ)

@@ -48,7 +48,7 @@ fn kind_named(name: &[u8]) -> Option<SetKind>
 }
 
 /// The name of a kind, as notes have it.
-pub(crate) fn kind_name(kind: SetKind) -> &'static str
+pub fn kind_name(kind: SetKind) -> &'static str
     ensures { result.now ≡ kind_name kind }
 {
     match kind {

@@ -10,7 +10,8 @@ ghost use Rattle.dnssec_run.specs.declared.record.Entry.{Entry};
 ghost use Rattle.dnssec_network.specs.Text.Due.{AnswersDue};
 ghost use Rattle.dnssec_network.specs.Text.Questions.{AnswersAll, ComesOf, HasAnswered};
 ghost use Rattle.dnssec_network.specs.Text.Questions.{IsAnswerFault, IsAnswersFault};
-ghost use Rattle.dnssec_network.specs.Text.Questions.{IsQuestionFault, as_question, question_forms};
+ghost use Rattle.dnssec_network.specs.Text.Questions.{IsQuestionFault, as_question, asked_by};
+ghost use Rattle.dnssec_network.specs.Text.Questions.{question_forms};
 ghost use Rattle.dnssec_network.specs.Text.Reading.{HasTaken};
 
 use super::fault::{LineFault, NotesFault};
@@ -109,7 +110,7 @@ impl SessionNotes {
             IsAnswerFault (moments_of entries) self.old (as_question line.now) line.now fault) }
         ensures kept { IfErr result (λ _. self.new ≡ self.old) }
     {
-        match read_question(line) {
+        match read_question(b"due", line) {
             Some(seconds) => Ok(Some(self.answer(alloc, session, seconds)?)),
             None => {
                 self.take_line(alloc, session, line)?;
@@ -133,20 +134,16 @@ impl SessionNotes {
     }
 }
 
-/// The second that a line asks about, if it is a question.
-#[tactic(auto, unfolding(crate::specs::Text::Questions::as_question))]
-fn read_question(line: &[u8]) -> Option<u64>
-    ensures { option_map (λ second. Number second ∷ []) result ≡ as_question line.now }
+/// The second that a line asks about, if it is a question of this word.
+#[tactic(auto, unfolding(crate::specs::Text::Questions::asked_by))]
+pub fn read_question(word: &[u8], line: &[u8]) -> Option<u64>
+    ensures { option_map (λ second. Number second ∷ []) result ≡ asked_by word.now line.now }
 {
-    let (word, fields) = Fields::of(line).next()?;
-    if word == b"due".as_slice() {
-        second(fields)
-    } else {
-        None
-    }
+    let (first, fields) = Fields::of(line).next()?;
+    if first == word { second(fields) } else { None }
 }
 
-/// The fields after `due`.
+/// The field after the word.
 fn second(fields: Fields<'_>) -> Option<u64>
     ensures { option_map (λ second. Number second ∷ []) result
         ≡ values_of question_forms fields.entry }

@@ -1,6 +1,7 @@
 //! The reports that are due, as lines.
 ghost use Rattle.std.specs.Prelude.{◌≡◌, ◌++◌, ◌*◌, ℕ, IfOk, OnOk, codes, decimal, string_bytes};
 ghost use Rattle.std.specs.List.{flat_map};
+ghost use Rattle.dnssec_key.specs.RollTable.{is_second};
 ghost use Rattle.dnssec_run.specs.Steps.{step_of};
 ghost use Rattle.dnssec_network.specs.Text.Due.{due_line, due_text, line_for, report_of};
 ghost use Rattle.dnssec_network.specs.Text.Due.{report_word, first_second, ttl_line, why_text};
@@ -9,7 +10,7 @@ use super::line::kind_name;
 use crate::due::{DueReport, NotYet};
 use crate::notes::Notes;
 use dnssec_key::roll_name;
-use dnssec_keyset::{KeySet, RollType, UnixTime};
+use dnssec_keyset::{Half, KeySet, RollType, UnixTime};
 use dnssec_run::{Moments, Steps};
 use dnssec_zone::all_rolls;
 use std::alloc::{AllocError, Global};
@@ -90,11 +91,11 @@ fn push_line(text: &mut String, report: &Option<DueReport>, seconds: u64) -> Res
 /// Writes a report that is due, or what it still waits for.
 fn push_report(text: &mut String, report: &DueReport, seconds: u64) -> Result<(), AllocError>
     ensures { OnOk result (string_bytes text.new ≡ string_bytes text.old
-        ++ ttl_line report.now.second report.now.roll report.now.ttl seconds) }
+        ++ ttl_line (is_second report.now.half) report.now.roll report.now.ttl seconds) }
 {
     match report.ttl {
         Ok(ttl) => {
-            push_call(text, report.second, report.roll)?;
+            push_call(text, report.half, report.roll)?;
             text.push_str(" ")?;
             push_number(text, u64::from(ttl))?;
             text.push_str(" ")?;
@@ -103,7 +104,7 @@ fn push_report(text: &mut String, report: &DueReport, seconds: u64) -> Result<()
         }
         Err(why) => {
             text.push_str("not yet: ")?;
-            push_call(text, report.second, report.roll)?;
+            push_call(text, report.half, report.roll)?;
             push_why(text, why)?;
             text.push_str("\n")
         }
@@ -135,10 +136,11 @@ fn first_second(moment: UnixTime) -> u128
 }
 
 /// Writes the word of a report and its roll.
-fn push_call(text: &mut String, second: bool, roll: RollType) -> Result<(), AllocError>
-    ensures { OnOk result (string_bytes text.new ≡ string_bytes text.old ++ report_of second roll) }
+fn push_call(text: &mut String, half: Half, roll: RollType) -> Result<(), AllocError>
+    ensures { OnOk result (string_bytes text.new
+        ≡ string_bytes text.old ++ report_of (is_second half) roll) }
 {
-    text.push_str(report_word(second))?;
+    text.push_str(report_word(half))?;
     text.push_str(" ")?;
     text.push_str(roll_name(roll))
 }
@@ -151,8 +153,11 @@ fn push_number(text: &mut String, number: u64) -> Result<(), AllocError>
 }
 
 /// The word of a report.
-fn report_word(second: bool) -> &'static str
-    ensures { result.now ≡ report_word second }
+fn report_word(half: Half) -> &'static str
+    ensures { result.now ≡ report_word (is_second half) }
 {
-    if second { "report2" } else { "report1" }
+    match half {
+        Half::First => "report1",
+        Half::Second => "report2",
+    }
 }

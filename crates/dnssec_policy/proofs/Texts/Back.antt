@@ -1,5 +1,5 @@
 -- The text of a policy is read as that policy.
-use Rattle.std.proofs.Common.{◌≡◌, ℕ, suc, ◌<◌, ◌≤◌, ◌/◌, ◌∙◌, ◌++◌, ◌∷◌, ◌==◌, ◌&&◌, List, []}
+use Rattle.std.proofs.Common.{◌≡◌, ℕ, suc, ◌≤◌, ◌/◌, ◌∙◌, ◌++◌, ◌∷◌, ◌==◌, ◌&&◌, List, []}
 use Rattle.std.proofs.Common.{Option, None, Some, IfSome, Ok, ap, append_assoc, arith, codes, not}
 use Rattle.std.proofs.Common.{Bool, decimal, refl, sym, true}
 use Rattle.std.proofs.lemmas.List.Folds.{list_all-append}

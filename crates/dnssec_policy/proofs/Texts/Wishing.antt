@@ -1,5 +1,5 @@
 -- A line that says a wish is read as that wish; and the first line as what it says.
-use Rattle.std.proofs.Common.{◌≡◌, ℕ, ◌≤◌, ◌*◌, ◌/◌, ◌∙◌, ◌++◌, ◌∷◌, List, [], Some, ap, arith}
+use Rattle.std.proofs.Common.{◌≡◌, ℕ, ◌≤◌, ◌/◌, ◌∙◌, ◌++◌, ◌∷◌, List, [], Some, ap, arith}
 use Rattle.std.proofs.Common.{Option, None, bytes_eq, codes, decimal, if◌then◌else◌, refl}
 use Rattle.std.proofs.Common.{option_and_then}
 use Rattle.dnssec_script.specs.Script.{fields_of, first_field}
@@ -9,7 +9,7 @@ use Rattle.dnssec_policy.specs.declared.policy.KskMethod.TheVariants as ksks
 use Rattle.dnssec_policy.specs.declared.policy.Scheme.TheVariants.{Split, SingleType}
 use Rattle.dnssec_policy.specs.declared.policy.ZskMethod.TheVariants as zsks
 use Rattle.dnssec_policy.specs.declared.text.wish.Wish.TheVariants as wish
-use Rattle.dnssec_policy.specs.declared.text.wish.{Wish.Wish, WishWord.WishWord}
+use Rattle.dnssec_policy.specs.declared.text.wish.{WishWord.WishWord}
 use Rattle.dnssec_policy.specs.declared.text.wish.WishWord.TheVariants as word
 use Rattle.dnssec_policy.specs.Text.Wishes.{as_first, as_wish, base_of, ksk_named}
 use Rattle.dnssec_policy.specs.Text.Wishes.{scheme_of, wish_after, word_named, zsk_named}

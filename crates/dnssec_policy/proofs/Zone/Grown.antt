@@ -1,8 +1,8 @@
 -- A zone whose calls are automatic goes on by a call that is said, or by an add; and with one fact
 -- more.
-use Rattle.std.proofs.Common.{◌≡◌, ◌⊎◌, ℕ, suc, ◌+◌, ◌<◌, ◌≤◌, ◌∙◌, ◌++◌, ◌∷◌, List, [], ap, arith}
-use Rattle.std.proofs.Common.{filter, get_or, inl, inr, length, length-append, map, refl, subst}
-use Rattle.std.proofs.Common.{sym, Bool, if◌then◌else◌, true}
+use Rattle.std.proofs.Common.{◌≡◌, ◌⊎◌, ℕ, suc, ◌+◌, ◌≤◌, ◌∙◌, ◌++◌, ◌∷◌, List, [], ap, arith}
+use Rattle.std.proofs.Common.{filter, inl, inr, length, length-append, map, subst}
+use Rattle.std.proofs.Common.{sym, Bool, true}
 use Rattle.std.proofs.Math.Seq.{get_or-append_seam}
 use Rattle.std.proofs.lemmas.{List.get_or_append_left, List.map-append}
 use Rattle.std.proofs.lemmas.List.Elements.{filter-append}
@@ -15,13 +15,13 @@ use Rattle.dnssec_network.specs.Network.{Network}
 use Rattle.dnssec_network.specs.declared.fact.{Before.Before, Fact.Fact, News.News}
 use Rattle.dnssec_network.specs.declared.fact.News.TheVariants.{Published, Everywhere}
 use Rattle.dnssec_policy.specs.declared.policy.Policy.{Policy}
-use Rattle.dnssec_policy.specs.Automatic.{IsAutomatic, IsSaid, is_add}
+use Rattle.dnssec_policy.specs.Automatic.{IsSaid, is_add}
 use Rattle.dnssec_policy.specs.ByHand.{first_by_hand}
 use Rattle.dnssec_policy.specs.Todo.{Make}
 use Rattle.dnssec_policy.proofs.ByHand.{answered}
 use Rattle.dnssec_policy.proofs.Growing.{grows}
 use Rattle.dnssec_network.specs.Notes.{NotesParts}
-use Rattle.dnssec_policy.specs.Automatic.Calls.{GoesOn, IsAfter}
+use Rattle.dnssec_policy.specs.Automatic.Calls.{GoesOn}
 use Rattle.dnssec_policy.specs.Automatic.ZoneNotes.{HasHighest}
 use Rattle.dnssec_policy.specs.declared.automatic.zone_notes.ZoneNotes.{ZoneNotes}
 use Rattle.dnssec_policy.specs.Automatic.Zone.{IsAutomaticAfter, IsInTime, IsMade, Says}

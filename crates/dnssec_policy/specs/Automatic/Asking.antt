@@ -1,25 +1,16 @@
 -- What to do next, by one text: a policy, a script, and notes whose last line asks.
 use Rattle.std.specs.Prelude.{◌≡◌, ◌==◌, ◌||◌, ℕ, ◌++◌, ◌∷◌, Bool, false, not, List, [], length}
-use Rattle.std.specs.Prelude.{codes, if◌then◌else◌, Option, None, Some, option_and_then}
+use Rattle.std.specs.Prelude.{codes, Option, Some}
 use Rattle.std.specs.List.{slice_split}
-use Rattle.std.specs.Str.{bytes_eq}
-use Rattle.dnssec_script.specs.Script.{Form, Value, Number, as_number, fields_of, first_field}
-use Rattle.dnssec_script.specs.Script.{lines_of, values_of}
-use Rattle.dnssec_network.specs.Text.Scripts.{parts_of}
+use Rattle.dnssec_script.specs.Script.{Value, Number, lines_of}
+use Rattle.dnssec_network.specs.Text.{Questions.asked_by, Scripts.parts_of}
 use Rattle.dnssec_policy.specs.Automatic.Answer.{AnswersNext}
 
 -- ---- the question
 
--- a second since 1970
-abbrev pub question_forms : List Form
-question_forms = as_number 18446744073709551615 ∷ []
-
 -- what a question says: `next`, and the second that it asks about
-unfoldable pub as_next : List ℕ → Option (List Value)
-as_next line =
-    option_and_then
-    (λ x. if bytes_eq x.0 (codes "next") then values_of question_forms x.1 else None)
-    (first_field (fields_of line))
+abbrev pub as_next : List ℕ → Option (List Value)
+as_next = asked_by (codes "next")
 
 -- a text that no line feed ends has these lines, and this one last
 abbrev pub IsLastLine : List ℕ → List ℕ → List ℕ → Type 0

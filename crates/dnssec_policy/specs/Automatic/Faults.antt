@@ -1,6 +1,6 @@
 -- The texts of faults, and which of them are lack of memory.
 use Rattle.std.specs.Prelude.{ℕ, ◌++◌, Bool, true, false, List, codes}
-use Rattle.dnssec_network.specs.Text.Faults.{due_fault_text}
+use Rattle.dnssec_network.specs.{Text.Faults.due_fault_text, Texts.memory_text}
 use Rattle.dnssec_network.specs.declared.text.fault.DueFault.TheVariants.{Script, Notes}
 use Rattle.dnssec_network.specs.declared.text.fault.NotesFault.TheVariants as notes
 use Rattle.dnssec_record.specs.declared.fault.ScriptFault.TheVariants as script
@@ -14,7 +14,7 @@ abbrev pub next_fault_text : NextFault → List ℕ
 next_fault_text (Policy fault) = codes "policy: " ++ fault_text fault
 next_fault_text (Zone fault) = due_fault_text fault
 next_fault_text (TooShort fault) = codes "policy: " ++ too_short_text fault
-next_fault_text OutOfMemory = codes "out of memory"
+next_fault_text OutOfMemory = memory_text
 
 abbrev pub lacks_memory : NextFault → Bool
 lacks_memory OutOfMemory = true

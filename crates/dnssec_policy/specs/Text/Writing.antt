@@ -1,33 +1,24 @@
 -- The text of a policy.
 use Rattle.std.specs.Prelude.{◌≡◌, ℕ, ◌≤◌, ◌*◌, ◌/◌, ◌++◌, List, [], codes, decimal}
 use Rattle.std.specs.Prelude.{Option, None, Some, IfSome}
+use Rattle.dnssec_key.specs.Texts.{roll_name}
+use Rattle.dnssec_key.specs.declared.roll.RollType.TheVariants.{CskRoll}
+use Rattle.dnssec_policy.specs.Keys.{ksk_roll, zsk_roll}
 use Rattle.dnssec_policy.specs.declared.policy.KeyRole.{KeyRole}
 use Rattle.dnssec_policy.specs.declared.policy.KeyRole.TheVariants.{Ksk, Zsk, Csk}
-use Rattle.dnssec_policy.specs.declared.policy.KskMethod.{KskMethod}
-use Rattle.dnssec_policy.specs.declared.policy.KskMethod.TheVariants as ksks
 use Rattle.dnssec_policy.specs.declared.policy.Policy.{Policy}
 use Rattle.dnssec_policy.specs.declared.policy.Term.{Term}
 use Rattle.dnssec_policy.specs.declared.policy.Scheme.{Scheme}
 use Rattle.dnssec_policy.specs.declared.policy.Scheme.TheVariants.{Split, SingleType}
-use Rattle.dnssec_policy.specs.declared.policy.ZskMethod.{ZskMethod}
-use Rattle.dnssec_policy.specs.declared.policy.ZskMethod.TheVariants as zsks
 use Rattle.dnssec_policy.specs.declared.text.wish.WishWord.{WishWord}
 use Rattle.dnssec_policy.specs.declared.text.wish.WishWord.TheVariants as word
 
 -- ---- names
 
-abbrev pub ksk_name : KskMethod → List ℕ
-ksk_name ksks.DoubleSignature = codes "ksk-roll"
-ksk_name ksks.DoubleDs = codes "ksk-double-ds-roll"
-
-abbrev pub zsk_name : ZskMethod → List ℕ
-zsk_name zsks.PrePublish = codes "zsk-roll"
-zsk_name zsks.DoubleSignature = codes "zsk-double-signature-roll"
-
 -- the rolls by which keys are renewed
 abbrev pub rolls_text : Scheme → List ℕ
-rolls_text (Split k z) = ksk_name k ++ codes " " ++ zsk_name z
-rolls_text SingleType = codes "csk-roll"
+rolls_text (Split k z) = roll_name (ksk_roll k) ++ codes " " ++ roll_name (zsk_roll z)
+rolls_text SingleType = roll_name CskRoll
 
 abbrev pub word_name : WishWord → List ℕ
 word_name (word.Lifetime Ksk) = codes "ksk-lifetime"

@@ -5,7 +5,6 @@ ghost use Rattle.std.specs.List.{flat_map};
 ghost use Rattle.std.specs.Prelude.{codes};
 ghost use Rattle.dnssec_key.specs.RollTable.{which};
 ghost use Rattle.dnssec_network.specs.Text.Due.{first_second};
-ghost use Rattle.dnssec_network.specs.Text.Lines.{kind_name};
 ghost use Rattle.dnssec_policy.specs.Code.{todo_of};
 ghost use Rattle.dnssec_policy.specs.Automatic.Lines.{list_text, report_name, role_name};
 ghost use Rattle.dnssec_policy.specs.Automatic.Lines.{start_text, stuck_text, todo_line, wait_name};
@@ -14,9 +13,9 @@ ghost use Rattle.dnssec_policy.specs.Automatic.Lines.{wanted_text};
 use crate::policy::KeyRole;
 use crate::todo::Next;
 use crate::why::Why;
-use dnssec_key::{Half, roll_name};
-use dnssec_keyset::{RollType, SecurityAlgorithm};
-use dnssec_network::SetKind;
+use dnssec_key::roll_name;
+use dnssec_keyset::{Half, RollType, SecurityAlgorithm};
+use dnssec_network::kind_name;
 use std::alloc::{AllocError, Global};
 
 /// What to do next as a line without its line feed, which owns what it names:
@@ -228,16 +227,5 @@ fn role_name(role: KeyRole) -> &'static str
         KeyRole::Ksk => "ksk",
         KeyRole::Zsk => "zsk",
         KeyRole::Csk => "csk",
-    }
-}
-
-/// The name of a kind, as notes have it.
-fn kind_name(kind: SetKind) -> &'static str
-    ensures { result.now ≡ kind_name kind }
-{
-    match kind {
-        SetKind::Ds => "ds",
-        SetKind::Dnskey => "dnskey",
-        SetKind::ZoneSigners => "zone",
     }
 }

@@ -1,17 +1,15 @@
 //! What to do next, by one text.
-ghost use Rattle.std.specs.Prelude.{◌≡◌, ◌∷◌, [], IfOk, IfSome, map, string_bytes};
-ghost use Rattle.std.specs.Option.{option_map};
+ghost use Rattle.std.specs.Prelude.{◌≡◌, IfOk, IfSome, map, string_bytes};
 ghost use denote.Bor.{now};
-ghost use Rattle.dnssec_script.specs.Script.{Number, values_of};
 ghost use Rattle.dnssec_policy.specs.Automatic.Asking.{AnswersParts, AnswersText, Asks, IsLastLine};
-ghost use Rattle.dnssec_policy.specs.Automatic.Asking.{as_next, has_more, question_forms};
+ghost use Rattle.dnssec_policy.specs.Automatic.Asking.{has_more};
 
 use super::answer::answer_next;
 use super::fault::NextFault;
 use super::zone::AutomaticZone;
 use crate::text::read_policy;
-use dnssec_network::{DueFault, NotesFault, cut, without_end};
-use dnssec_record::{Fields, all_lines};
+use dnssec_network::{DueFault, NotesFault, cut, read_question, without_end};
+use dnssec_record::all_lines;
 use std::alloc::Global;
 
 /// What to do next, as `answer_next` says it. The text has the lines of a policy, an empty line, a
@@ -93,7 +91,7 @@ fn asked(noted: &[u8]) -> Option<(&[u8], u64)>
     ensures { IfSome result (λ asked. Asks noted.now asked.0.now asked.1) }
 {
     let (notes, last) = last_line(without_end(noted))?;
-    let seconds = read_question(last)?;
+    let seconds = read_question(b"next", last)?;
     Some((notes, seconds))
 }
 
@@ -110,27 +108,4 @@ fn last_line(text: &[u8]) -> Option<(&[u8], &[u8])>
         at -= 1;
     }
     None
-}
-
-/// The second that a line asks about, if it asks.
-#[tactic(auto, unfolding(crate::specs::Automatic::Asking::as_next))]
-fn read_question(line: &[u8]) -> Option<u64>
-    ensures { option_map (λ second. Number second ∷ []) result ≡ as_next line.now }
-{
-    let (word, fields) = Fields::of(line).next()?;
-    if word == b"next".as_slice() {
-        second(fields)
-    } else {
-        None
-    }
-}
-
-/// The field after `next`.
-fn second(fields: Fields<'_>) -> Option<u64>
-    ensures { option_map (λ second. Number second ∷ []) result
-        ≡ values_of question_forms fields.entry }
-{
-    let (second, fields) = fields.number(u64::MAX)?;
-    fields.end()?;
-    Some(second)
 }

@@ -2,14 +2,15 @@
 ghost use Rattle.std.specs.Prelude.{◌≡◌, ◌++◌, ◌/◌, IfOk, Ok, OnOk, decimal, string_bytes};
 ghost use Rattle.dnssec_script.specs.Script.{lines_of};
 ghost use Rattle.dnssec_policy.specs.Text.Reading.{policy_of};
-ghost use Rattle.dnssec_policy.specs.Text.Writing.{IsSayable, first_line, ksk_name, lifetime_text};
+ghost use Rattle.dnssec_policy.specs.Text.Writing.{IsSayable, first_line, lifetime_text};
 ghost use Rattle.dnssec_policy.specs.Text.Writing.{number_line, once_text, policy_text};
 ghost use Rattle.dnssec_policy.specs.Text.Writing.{renewal_text, renewals_text, rolls_text};
-ghost use Rattle.dnssec_policy.specs.Text.Writing.{word_name, zsk_name};
+ghost use Rattle.dnssec_policy.specs.Text.Writing.{word_name};
 
 use super::wish::WishWord;
-use crate::policy::{KeyRole, KskMethod, Policy, Scheme, Term, ZskMethod};
-use dnssec_keyset::UnixTime;
+use crate::policy::{KeyRole, Policy, Scheme, Term};
+use dnssec_key::roll_name;
+use dnssec_keyset::{RollType, UnixTime};
 use std::alloc::{AllocError, Global};
 use std::time::Duration;
 
@@ -60,11 +61,11 @@ fn push_rolls(text: &mut String, scheme: Scheme) -> Result<(), AllocError>
 {
     match scheme {
         Scheme::Split(ksk, zsk) => {
-            text.push_str(ksk_name(ksk))?;
+            text.push_str(roll_name(ksk.roll()))?;
             text.push_str(" ")?;
-            text.push_str(zsk_name(zsk))
+            text.push_str(roll_name(zsk.roll()))
         }
-        Scheme::SingleType => text.push_str("csk-roll"),
+        Scheme::SingleType => text.push_str(roll_name(RollType::CskRoll)),
     }
 }
 
@@ -135,26 +136,6 @@ fn push_number(text: &mut String, number: u128) -> Result<(), AllocError>
     ensures { OnOk result (string_bytes text.new ≡ string_bytes text.old ++ decimal number) }
 {
     write!(text, "{number}")
-}
-
-/// The name of the roll by which KSKs are rolled so.
-fn ksk_name(method: KskMethod) -> &'static str
-    ensures { result.now ≡ ksk_name method }
-{
-    match method {
-        KskMethod::DoubleSignature => "ksk-roll",
-        KskMethod::DoubleDs => "ksk-double-ds-roll",
-    }
-}
-
-/// The name of the roll by which ZSKs are rolled so.
-fn zsk_name(method: ZskMethod) -> &'static str
-    ensures { result.now ≡ zsk_name method }
-{
-    match method {
-        ZskMethod::PrePublish => "zsk-roll",
-        ZskMethod::DoubleSignature => "zsk-double-signature-roll",
-    }
 }
 
 /// The name of a word.

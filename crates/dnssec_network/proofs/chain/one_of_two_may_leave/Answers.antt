@@ -1,6 +1,6 @@
 -- One of two signers leaves.
-use Rattle.dnssec_network.proofs.Leaving.{leaving_can_be_met, leaving_keeps_chain}
-use Rattle.dnssec_network.proofs.Leaving.{leaving_keeps_each_chain, nothing_is_left}
+use Rattle.dnssec_network.proofs.Leaving.{leaving_keeps_chain, leaving_keeps_each_chain}
+use Rattle.dnssec_network.proofs.Leaving.{nothing_is_left}
 use Rattle.dnssec_network.proofs.chain.one_of_two_may_leave.Goals as goal
 
 pub returns-clause-chain : goal.returns-clause-chain
@@ -11,6 +11,3 @@ returns-clause-each_chain c = leaving_keeps_each_chain
 
 pub returns-clause-gone : goal.returns-clause-gone
 returns-clause-gone c = nothing_is_left
-
-pub returns-clause-met : goal.returns-clause-met
-returns-clause-met c = leaving_can_be_met

@@ -5,7 +5,7 @@ use Rattle.dnssec_network.proofs.Held.{held-cached, held-each}
 use Rattle.dnssec_network.proofs.chain.resolvers_find_each_chain.Goals as goal
 
 pub returns : goal.returns
-returns c name calls entries network time run plain keeps is reports ahead p q z ds keys zone =
+returns c name calls entries network time run plain is keeps reports ahead p q z ds keys zone =
     let h = held-cached entries network time is reports ahead p q z ds keys zone in
     held-each entries h.0 (network.position Ds p) (network.position Dnskey q)
     (network.position ZoneSigners z) h.2 h.3 h.4 calls

@@ -1,5 +1,5 @@
 -- Each roll in progress has its say, and the most urgent is said.
-use Rattle.dnssec_policy.proofs.Prompt.{ahead, prompt}
+use Rattle.dnssec_policy.proofs.{Ahead.ahead, Prompt.prompt}
 use Rattle.dnssec_policy.proofs.laws.next_goes_on.Goals as goal
 
 pub returns : goal.returns

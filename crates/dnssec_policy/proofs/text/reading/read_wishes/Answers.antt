@@ -1,5 +1,5 @@
 -- Each turn reads one line.
-use Rattle.std.proofs.Common.{[], ◌+◌, ◌∙◌, ◌∷◌, ◌≡◌, Bor, List, ap, arith, drop, length, map, refl}
+use Rattle.std.proofs.Common.{[], ◌+◌, ◌∙◌, ◌∷◌, ◌≡◌, Bor, List, ap, arith, drop, length, map}
 use Rattle.std.proofs.Common.{sym, Err, drop_of_length-le, suc, ◌<◌, ℕ}
 use Rattle.std.proofs.lemmas.List.{length-map}
 use Rattle.std.proofs.Math.Seq.{drop-cons}
