@@ -4,8 +4,12 @@ use Rattle.std.proofs.lemmas.List.{length-append}
 use Rattle.std.proofs.Math.Seq.{drop-append_seam, take-append_seam}
 use Rattle.dnssec_judge.proofs.sets.numbers.parts.Goals as goal
 
-pub returns : goal.returns
-returns g c front middle back is front_len back_len =
+pub returns-clause-whole : goal.returns-clause-whole
+returns-clause-whole g c =
+    c.split_at.ensures.by_index.0 ∙ ap (λ rest. c.split_at.result.0.now ++ rest) c.split_at-2.ensures.by_index.0
+
+pub returns-clause-framed : goal.returns-clause-framed
+returns-clause-framed g c front middle back is front_len back_len =
     let list = c.args.list.now in
     let whole : length list ≡ length (front ++ (middle ++ back)) = ap length is in
     let cut : c.min.result ≡ length front =
