@@ -1,5 +1,5 @@
 -- A list that keeps a frame, and the numbers of the list of before.
-use Rattle.std.proofs.Common.{◌≡◌, ◌∙◌, ◌++◌, ◌∷◌, [], ap, arith, map, refl, sym, subst, suc, zero, ℕ}
+use Rattle.std.proofs.Common.{◌≡◌, ◌∙◌, ◌++◌, ◌∷◌, [], ap, arith, map, refl, sym, subst, suc, ℕ}
 use Rattle.std.proofs.Common.{List, Option, Some, append-nil, drop, length, take}
 use Rattle.std.proofs.Math.Seq.{drop-append_seam, take-append_seam}
 use Rattle.std.proofs.lemmas.List.{append_cancel_left, append_cancel_right, length-append}

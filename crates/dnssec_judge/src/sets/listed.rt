@@ -84,8 +84,20 @@ impl Listed {
         ensures { self.new.numbers.items ≡ remove self.old.numbers.items place }
     {
         let number = self.numbers.remove(place);
-        if !self.numbers.contains(&number) {
+        if !stands_in(number, &self.numbers) {
             self.bits.take_out(number);
         }
     }
+}
+
+/// Whether a number stands in a list.
+fn stands_in(number: usize, list: &[usize]) -> bool
+    ensures { result ≡ list_any (λ n. nat_eq n number) list.now }
+{
+    let mut is_there = false;
+    // It goes on to the end, so that several numbers are compared at once.
+    for other in list {
+        is_there |= *other == number;
+    }
+    is_there
 }

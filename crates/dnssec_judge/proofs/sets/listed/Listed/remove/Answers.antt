@@ -30,15 +30,15 @@ any-removed (x ∷ xs) (suc i) m n lt is =
     ap (λ b. nat_eq x n || b) (any-removed xs i m n (omega arith) is)
     ∙ swap (nat_eq x n) (nat_eq m n) (list_any (λ k. nat_eq k n) (remove xs i))
 
-pub invariant_of-self-else-not-contains : goal.invariant_of-self-else-not-contains
-invariant_of-self-else-not-contains c = record {
+pub invariant_of-self-else-not-stands_in : goal.invariant_of-self-else-not-stands_in
+invariant_of-self-else-not-stands_in c = record {
   same = λ n.
       (let old = c.args.self.now in let number = c.remove-number.result in
       let within : c.args.place < length old.numbers.items =
       omega (arith, c.requires, old.numbers.ok.0) in
       let there : list_any (λ k. nat_eq k number) c.remove-number.new.self.items ≡ true =
       ap (λ (ns : List ℕ). list_any (λ k. nat_eq k number) ns) (sym c.deref.ensures.value)
-      ∙ sym c.contains.ensures.value ∙ c.if-not-contains.false in
+      ∙ sym c.stands_in.ensures ∙ c.if-not-stands_in.false in
       old.same n
       ∙ any-removed old.numbers.items c.args.place number n within c.remove-number.ensures.value
       ∙ still (nat_eq number n) (list_any (λ k. nat_eq k n) (remove old.numbers.items c.args.place))
@@ -57,7 +57,7 @@ invariant_of-self c = record {
       omega (arith, c.requires, old.numbers.ok.0) in
       let there : list_any (λ k. nat_eq k number) c.remove-number.new.self.items ≡ false =
       ap (λ (ns : List ℕ). list_any (λ k. nat_eq k number) ns) (sym c.deref.ensures.value)
-      ∙ sym c.contains.ensures.value ∙ c.if-not-contains.true in
+      ∙ sym c.stands_in.ensures ∙ c.if-not-stands_in.true in
       c.take_out.ensures n
       ∙ ap (λ b. if nat_eq number n then false else b) (old.same n
       ∙ any-removed old.numbers.items c.args.place number n within
