@@ -21,7 +21,8 @@ clear-bit old new number is n =
     let low : number % 64 < 64 = omega arith in
     let any : n % 64 < 64 = omega arith in
     let same = bit_at_clear_same w64 (word_at old (number / 64)) (number % 64) low in
-    let others = bit_at_clear_other w64 (word_at old (number / 64)) (number % 64) low (n % 64) any in
+    let others = bit_at_clear_other w64 (word_at old (number / 64)) (number % 64) low (n % 64)
+    any in
     let here = is (n / 64) in
     grind (arith, nat_tests, same, others, here)
 
@@ -34,7 +35,8 @@ not-first : (index i word other : ℕ) → index ≡ 0
 not-first index i word other is = grind (arith, nat_tests)
 
 first-written : (first word : ℕ) (rest : List ℕ) (index : ℕ) → index ≡ 0
-    → (i : ℕ) → word_at (word ∷ rest) i ≡ (if nat_eq index i then word else word_at (first ∷ rest) i)
+    → (i : ℕ) → word_at (word ∷ rest) i
+    ≡ (if nat_eq index i then word else word_at (first ∷ rest) i)
 first-written first word rest index is zero = is-first index word first is
 first-written first word rest index is (suc i) =
     not-first index i word (word_at rest i) is
@@ -82,7 +84,8 @@ returns-then-before-len c =
     clear-bit (words_of old) (words_of new) c.args.number
     (λ i. ap (λ first. word_at (first ∷ new.rest.items) i) c.trim.ensures.first
     ∙ same-first old.first (set old.rest.items before word) new.rest.items c.trim.ensures.rest i
-    ∙ written-words old.first old.rest.items old.rest.items index before word is within (λ j. refl) i
+    ∙ written-words old.first old.rest.items old.rest.items index before word is within
+    (λ j. refl) i
     ∙ ap (λ w. if nat_eq index i then bit_and w mask else word_at (words_of old) i) c.word.ensures)
 
 pub returns-else-before-len : goal.returns-else-before-len

@@ -1,6 +1,6 @@
 -- A last word that is 0 may go.
-use Rattle.std.proofs.Common.{◌≡◌, ◌∙◌, ◌++◌, ◌∷◌, [], List, ap, arith, length, refl, suc, sym, take}
-use Rattle.std.proofs.Common.{zero, ℕ}
+use Rattle.std.proofs.Common.{◌≡◌, ◌∙◌, ◌++◌, ◌∷◌, [], List, ap, arith, length, refl, suc, sym}
+use Rattle.std.proofs.Common.{take, zero, ℕ}
 use Rattle.std.proofs.lemmas.List.{take_all, take_more}
 use Rattle.std.proofs.lemmas.Option.{get_or_from_slice_get, slice_get_within}
 use Rattle.std.specs.Option.{option_copied}

@@ -1,6 +1,6 @@
 -- The set has one number more.
-use Rattle.std.proofs.Common.{◌≡◌, ◌∙◌, ◌∷◌, [], Bool, List, ap, false, refl, suc, sym, true, zero, ℕ}
-use Rattle.std.proofs.Common.{rules}
+use Rattle.std.proofs.Common.{◌≡◌, ◌∙◌, ◌∷◌, [], Bool, List, ap, false, refl, rules, suc, sym}
+use Rattle.std.proofs.Common.{true, zero, ℕ}
 use Rattle.dnssec_judge.specs.Bits.{has_bit}
 use Rattle.std.specs.List.{insert, list_any}
 use Rattle.std.specs.Prelude.{◌||◌, if◌then◌else◌, nat_eq}
