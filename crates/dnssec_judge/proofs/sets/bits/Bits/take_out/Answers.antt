@@ -7,7 +7,7 @@ use Rattle.std.proofs.lemmas.Nat.Bits.{bit_at_clear_other, bit_at_clear_same}
 use Rattle.std.specs.{Int.bit_not, Int.w64, Int.Bits.bit_and}
 use Rattle.std.specs.Prelude.{◌^◌, ◌*◌, if◌then◌else◌, nat_eq, set}
 use Rattle.dnssec_judge.specs.Bits.{has_bit, word_at, words_of}
-use Rattle.dnssec_judge.proofs.Words.{IsWritten, written-words}
+use Rattle.dnssec_judge.proofs.Words.{written-words}
 use Rattle.dnssec_judge.proofs.sets.bits.Bits.take_out.Goals as goal
 
 -- the word of a number without its bit
@@ -15,7 +15,8 @@ abbrev without_bit : List ℕ → ℕ → ℕ
 without_bit words number =
     bit_and (word_at words (number / 64)) (bit_not w64 (1 * 2 ^ (number % 64) % 2 ^ 64))
 
-clear-bit : (old new : List ℕ) (number : ℕ) → IsWritten old new number (without_bit old number)
+clear-bit : (old new : List ℕ) (number : ℕ) → ((i : ℕ) → word_at new i
+    ≡ (if nat_eq (number / 64) i then without_bit old number else word_at old i))
     → (n : ℕ) → has_bit new n ≡ (if nat_eq number n then false else has_bit old n)
 clear-bit old new number is n =
     let low : number % 64 < 64 = omega arith in
