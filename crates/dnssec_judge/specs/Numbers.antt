@@ -1,8 +1,9 @@
 -- The keys of a record as small numbers: what numbers, and sets of them, stand for.
-use Rattle.std.specs.Prelude.{◌≡◌, ℕ, true, false, List, map, nat_eq, slice_get}
+use Rattle.std.specs.Prelude.{◌≡◌, ℕ, Bool, true, not, List, map, nat_eq, slice_get}
 use Rattle.std.specs.Prelude.{Option, None, Some, IsSome}
 use Rattle.std.specs.{HashMap.get, List.Contains, Option.option_map}
-use Rattle.dnssec_run.specs.declared.record.PublishedKey.{PublishedKey}
+use Rattle.dnssec_run.specs.declared.{frames.Frame.Frame, record.PublishedKey.PublishedKey}
+use Rattle.dnssec_run.specs.Frames.{KeepsFrame}
 use Rattle.dnssec_run.specs.Origins.{CachedSet, same_ids}
 use Rattle.dnssec_run.specs.Published.{Id, id_of}
 use Rattle.dnssec_judge.specs.Bits.{has_bit}
@@ -31,10 +32,11 @@ Grows old new = (n : ℕ) (k : Id) → key_at old n ≡ Some k → key_at new n 
 abbrev pub StandFor : Numbers → List ℕ → List Id → Type 0
 StandFor t numbers keys = map (key_at t) numbers ≡ map Some keys
 
--- a list was read after another: it has these numbers; or it is that one
-abbrev pub IsRead : Numbers → List Id → List Id → Option (List ℕ) → Type 0
-IsRead t was keys None = was ≡ keys
-IsRead t was keys (Some numbers) = StandFor t numbers keys × (same_ids was keys ≡ false)
+-- a list was read over another: its numbers stand in place of those of that one, and it is another
+abbrev pub IsRead : Numbers → Numbers → List ℕ → List ℕ → Frame → List Id → Bool → Type 0
+IsRead old new before after frame list is_other = (was : List Id) → IsTable old →
+    StandFor old before was → KeepsFrame frame was list →
+    StandFor new after list × (same_ids was list ≡ not is_other)
 
 -- the bits are those of the keys of a list
 pub record Means (t : Numbers) (words : List ℕ) (keys : List Id) : Type 0 where

@@ -3,8 +3,10 @@
 
 mod bits;
 mod held;
+mod listed;
 mod numbers;
 
 pub(crate) use bits::Bits;
 pub(crate) use held::OpenSet;
+pub(crate) use listed::Listed;
 pub(crate) use numbers::Numbers;

@@ -120,10 +120,10 @@ module _ (es : List Entry) (kind : SetKind) (n : ℕ) (t u : Numbers) (w : Windo
         came_at = h.came_at;
         last = (
           stand-back t u table (h.numbered n).0 (set_at kind (position_at es n)).0 newest.0
-              (same-keys n first (omega arith)) w.last.keys.items
+              (same-keys n first (omega arith)) w.last.keys.numbers.items
               (set_at kind (position_at es n)).0 (λ k c. c) h.last.0,
           stand-back t u table (h.numbered n).1 (set_at kind (position_at es n)).1 newest.1
-              (same-signers n first (omega arith)) w.last.signers.items
+              (same-signers n first (omega arith)) w.last.signers.numbers.items
               (set_at kind (position_at es n)).1 (λ k c. c) h.last.1,
         );
       }

@@ -112,6 +112,34 @@ impl Bits {
         Ok(())
     }
 
+    /// Takes a number out.
+    pub(crate) fn take_out(&mut self, number: usize)
+        ensures { (n : ℕ) → has self.new n
+            ≡ (if nat_eq number n then false else has self.old n) }
+    {
+        let index = number / WORD;
+        let word = self.word(index) & !(1u64 << (number % WORD));
+        let Some(before) = index.checked_sub(1) else {
+            self.first = word;
+            return;
+        };
+        if before < self.rest.len() {
+            self.rest[before] = word;
+            self.trim();
+        }
+    }
+
+    /// Drops the last words, if they are 0.
+    fn trim(&mut self)
+        ensures first { self.new.first ≡ self.old.first }
+        ensures rest { (i : ℕ) → get_or self.new.rest.items i 0
+            ≡ get_or self.old.rest.items i 0 }
+    {
+        while let Some(0) = self.rest.last() {
+            self.rest.pop();
+        }
+    }
+
     /// Keeps only the numbers that are in another set too.
     pub(crate) fn keep(&mut self, other: &Bits)
         ensures { (n : ℕ) → has self.new n ≡ (has self.old n && has other.now n) }

@@ -4,10 +4,10 @@ ghost use Rattle.std.specs.Prelude.{nat_eq, ◌++◌, IfOk, IfErr, IfSome, IsSom
 ghost use Rattle.std.specs.Prelude.{slice_get, vec_len};
 ghost use Rattle.std.specs.{HashMap.get, Option.option_copied, Option.option_map};
 ghost use Rattle.dnssec_base.specs.declared.error.Error.TheVariants.{OutOfMemory};
-ghost use Rattle.dnssec_run.specs.Frames.{KeepsFrame};
 ghost use Rattle.dnssec_run.specs.Published.{Id, id_of};
 ghost use Rattle.dnssec_judge.specs.Numbers.{Grows, IsRead, IsTable, StandFor, key_at, key_in};
 
+use super::listed::Listed;
 use dnssec_keyset::Error;
 use dnssec_run::{Frame, PublishedKey};
 use std::alloc::Global;
@@ -65,58 +65,87 @@ impl Numbers {
         })
     }
 
-    /// The numbers of the keys of a list, or `None` if it is the list of before. It reads only what
-    /// may have changed, and there most keys stand where they stood before.
+    /// Reads a list over the one of before, and answers whether it is another. It reads only what
+    /// may have changed.
+    // Inline, so that a list that stays makes no call.
+    #[inline(always)]
     pub(crate) fn read(
         &mut self,
         alloc: Global,
         list: &[PublishedKey],
-        before: &[usize],
+        known: &mut Listed,
         frame: Frame,
-    ) -> Result<Option<Vec<usize>>, Error>
-        ensures ok { IfOk result (λ numbers. (was : List Id) → IsTable self.old →
-            StandFor self.old before.now was → KeepsFrame frame was (map id_of list.now) →
-            IsRead self.new was (map id_of list.now) (option_map (λ ns. ns.items) numbers)) }
+    ) -> Result<bool, Error>
+        ensures ok { IfOk result (IsRead self.old self.new known.old.numbers.items
+            known.new.numbers.items frame (map id_of list.now)) }
         ensures table { OnOk result (IsTable self.old → IsTable self.new) }
         ensures grows { OnOk result (IsTable self.old → Grows self.old self.new) }
         ensures err { IfErr result (λ e. e ≡ OutOfMemory) }
     {
-        let (front, middle, back) = parts(before, frame);
-        let (_, changed, _) = parts(list, frame);
-        if self.are(middle, changed) {
-            return Ok(None);
+        if frame.front == list.len() && known.as_slice().len() == list.len() {
+            return Ok(false);
         }
-        let mut numbers = Vec::with_capacity(alloc, list.len())?;
-        numbers.extend_from_slice(front)?;
-        let mut rest = middle;
-        for key in changed {
-            let (number, others) = self.next_number(rest, key)?;
-            numbers.push(number)?;
-            rest = others;
-        }
-        numbers.extend_from_slice(back)?;
-        Ok(Some(numbers))
+        self.read_changes(alloc, list, known, frame)
     }
 
-    /// The number of the next key of a list, and those after it in the list of before.
-    fn next_number<'a>(
+    /// The same, also if the list may have changed.
+    fn read_changes(
         &mut self,
-        rest: &'a [usize],
-        key: &PublishedKey,
-    ) -> Result<(usize, &'a [usize]), Error>
-        ensures ok { IfOk result (λ p. key_at self.new p.0 ≡ Some (id_of key.now)) }
+        alloc: Global,
+        list: &[PublishedKey],
+        known: &mut Listed,
+        frame: Frame,
+    ) -> Result<bool, Error>
+        ensures ok { IfOk result (IsRead self.old self.new known.old.numbers.items
+            known.new.numbers.items frame (map id_of list.now)) }
         ensures table { OnOk result (IsTable self.old → IsTable self.new) }
         ensures grows { OnOk result (IsTable self.old → Grows self.old self.new) }
         ensures err { IfErr result (λ e. e ≡ OutOfMemory) }
     {
-        let rest = self.skip(rest, key);
-        if let Some((number, others)) = rest.split_first() {
-            if self.is(*number, key) {
-                return Ok((*number, others));
-            }
+        let (front, middle, back) = parts(known.as_slice(), frame);
+        let (_, changed, _) = parts(list, frame);
+        if self.are(middle, changed) {
+            return Ok(false);
         }
-        let number = self.number_of(key)?;
-        Ok((number, rest))
+        let place = front.len();
+        let left = middle.len();
+        let came = changed.len();
+        if left == 1 && came == 0 {
+            known.remove(place);
+            return Ok(true);
+        }
+        if left == 0 && came == 1 {
+            let number = self.number_of(&changed[0])?;
+            known.insert(place, number)?;
+            return Ok(true);
+        }
+        let numbers = self.read_anew(alloc, front, changed, back)?;
+        *known = Listed::of(alloc, numbers)?;
+        Ok(true)
+    }
+
+    /// The numbers of a list that has changed between a front and a back, which stay.
+    fn read_anew(
+        &mut self,
+        alloc: Global,
+        front: &[usize],
+        changed: &[PublishedKey],
+        back: &[usize],
+    ) -> Result<Vec<usize>, Error>
+        ensures ok { IfOk result (λ numbers. (ahead behind : List Id) → IsTable self.old →
+            StandFor self.old front.now ahead → StandFor self.old back.now behind →
+            StandFor self.new numbers.items (ahead ++ (map id_of changed.now ++ behind))) }
+        ensures table { OnOk result (IsTable self.old → IsTable self.new) }
+        ensures grows { OnOk result (IsTable self.old → Grows self.old self.new) }
+        ensures err { IfErr result (λ e. e ≡ OutOfMemory) }
+    {
+        let mut numbers = Vec::from_slice(alloc, front)?;
+        for key in changed {
+            let number = self.number_of(key)?;
+            numbers.push(number)?;
+        }
+        numbers.extend_from_slice(back)?;
+        Ok(numbers)
     }
 
     /// Whether the numbers are those of the keys of a list.
@@ -135,17 +164,6 @@ impl Numbers {
             rest = others;
         }
         rest.is_empty()
-    }
-
-    /// The numbers from the second one on, if that is the key's: the key of the first has left.
-    fn skip<'a>(&self, numbers: &'a [usize], key: &PublishedKey) -> &'a [usize] {
-        let Some((first, others)) = numbers.split_first() else {
-            return numbers;
-        };
-        match others.first() {
-            Some(second) if !self.is(*first, key) && self.is(*second, key) => others,
-            _ => numbers,
-        }
     }
 
     /// Whether the number is the key's.
@@ -310,7 +328,8 @@ impl Numbers {
 /// A list in three parts: what stands in front of a change, what may have changed, and what stands
 /// behind it.
 fn parts<T>(list: &[T], frame: Frame) -> (&[T], &[T], &[T])
-    ensures { (front middle back : List T) → list.now ≡ front ++ (middle ++ back) →
+    ensures whole { list.now ≡ result.0.now ++ (result.1.now ++ result.2.now) }
+    ensures framed { (front middle back : List T) → list.now ≡ front ++ (middle ++ back) →
         length front ≡ frame.front → length back ≡ frame.back →
         (result.0.now ≡ front) × (result.1.now ≡ middle) × (result.2.now ≡ back) }
 {

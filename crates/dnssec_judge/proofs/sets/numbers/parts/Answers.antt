@@ -4,8 +4,13 @@ use Rattle.std.proofs.lemmas.List.{length-append}
 use Rattle.std.proofs.Math.Seq.{drop-append_seam, take-append_seam}
 use Rattle.dnssec_judge.proofs.sets.numbers.parts.Goals as goal
 
-pub returns : goal.returns
-returns g c front middle back is front_len back_len =
+pub returns-clause-whole : goal.returns-clause-whole
+returns-clause-whole g c =
+    c.split_at.ensures.by_index.0
+    ∙ ap (λ rest. c.split_at.result.0.now ++ rest) c.split_at-2.ensures.by_index.0
+
+pub returns-clause-framed : goal.returns-clause-framed
+returns-clause-framed g c front middle back is front_len back_len =
     let list = c.args.list.now in
     let whole : length list ≡ length (front ++ (middle ++ back)) = ap length is in
     let cut : c.min.result ≡ length front =
@@ -17,7 +22,13 @@ returns g c front middle back is front_len back_len =
     c.split_at.ensures.back ∙ (λ i. drop (cut i) (is i))
     ∙ drop-append_seam front (middle ++ back) in
     let left : c.saturating_sub.result ≡ length middle =
-    omega (arith, c.saturating_sub.ensures, ap length rest, length-append middle back, back_len) in (
+    omega (
+      arith,
+      c.saturating_sub.ensures,
+      ap length rest,
+      length-append middle back,
+      back_len,
+    ) in (
       first,
       c.split_at-2.ensures.front ∙ (λ i. take (left i) (rest i)) ∙ take-append_seam middle back,
       c.split_at-2.ensures.back ∙ (λ i. drop (left i) (rest i)) ∙ drop-append_seam middle back,

@@ -1,0 +1,39 @@
+-- The set has one number more.
+use Rattle.std.proofs.Common.{◌≡◌, ◌∙◌, ◌∷◌, [], Bool, List, ap, false, refl, rules, suc, sym}
+use Rattle.std.proofs.Common.{true, zero, ℕ}
+use Rattle.dnssec_judge.specs.Bits.{has_bit}
+use Rattle.std.specs.List.{insert, list_any}
+use Rattle.std.specs.Prelude.{◌||◌, if◌then◌else◌, nat_eq}
+use Rattle.dnssec_judge.proofs.sets.listed.Listed.insert.Goals as goal
+
+any-first : (b c : Bool) → (b || c) ≡ (if b then true else c)
+any-first true c = refl
+any-first false c = refl
+
+swap : (a b c : Bool) → (a || (if b then true else c)) ≡ (if b then true else (a || c))
+swap true true c = refl
+swap true false c = refl
+swap false b c = refl
+
+-- a number of a list with one more is that one, or was there
+any-inserted : (xs : List ℕ) (i m n : ℕ) → list_any (λ k. nat_eq k n) (insert xs i m)
+    ≡ (if nat_eq m n then true else list_any (λ k. nat_eq k n) xs)
+any-inserted [] zero m n = any-first (nat_eq m n) false
+any-inserted [] (suc i) m n = any-first (nat_eq m n) false
+any-inserted (x ∷ xs) zero m n = any-first (nat_eq m n) (list_any (λ k. nat_eq k n) (x ∷ xs))
+any-inserted (x ∷ xs) (suc i) m n =
+    ap (λ b. nat_eq x n || b) (any-inserted xs i m n)
+    ∙ swap (nat_eq x n) (nat_eq m n) (list_any (λ k. nat_eq k n) xs)
+
+pub invariant_of-self-2 : goal.invariant_of-self-2
+invariant_of-self-2 c = record {
+  same = λ n.
+      (let old = c.args.self.now in
+      let items : c.insert.new.self.items ≡ insert old.numbers.items c.args.place c.args.number =
+      search rules in
+      c.in_ok-put.ensures.ok n
+      ∙ ap (λ b. if nat_eq c.args.number n then true else b)
+      (ap (λ (ws : List ℕ). has_bit ws n) c.in_ok-bits.ensures.ok ∙ old.same n)
+      ∙ sym (any-inserted old.numbers.items c.args.place c.args.number n)
+      ∙ ap (λ (ns : List ℕ). list_any (λ k. nat_eq k n) ns) (sym items));
+}

@@ -1,0 +1,8 @@
+-- Whether it stands among those so far.
+use Rattle.std.proofs.Common.{◌≡◌, take}
+use Rattle.std.specs.{List.list_any, Prelude.nat_eq}
+use Rattle.dnssec_judge.proofs.sets.listed.stands_in.Given as goal
+
+abbrev pub invariant-loop-other : goal.invariant-loop-other
+invariant-loop-other l =
+    l.is_there ≡ list_any (λ n. nat_eq n l.number) (take l.other-index l.list)
