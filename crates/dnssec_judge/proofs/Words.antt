@@ -5,10 +5,9 @@ use Rattle.std.proofs.lemmas.Bool.Decides.{Decides-and, Decides-below_or, Decide
 use Rattle.std.proofs.lemmas.Bool.Decides.{nat_tests, same_from_decides}
 use Rattle.std.proofs.lemmas.List.{get_or-set_other, get_or-set_same, get_or_past, take_all}
 use Rattle.std.proofs.lemmas.List.{get_or-append_right, get_or_append_left, get_or-replicate}
-use Rattle.std.proofs.lemmas.List.{length-replicate}
+use Rattle.std.{proofs.lemmas.List.length-replicate, specs.Bool.Decides}
 use Rattle.std.proofs.lemmas.Nat.Bits.{bit_at-lt, bit_at-zero, bit_at_and, bit_at-trailing_zeros}
 use Rattle.std.proofs.lemmas.Nat.Bits.{bit_at_set_same, bit_at_set_other}
-use Rattle.std.specs.Bool.{Decides}
 use Rattle.std.specs.Prelude.{◌&&◌, ◌^◌, ◌*◌, ◌+◌, if◌then◌else◌, get_or, nat_eq, nat_lt, set}
 use Rattle.std.specs.Int.{bit_at, w64, trailing_zeros, Bits.bit_and, Bits.bit_or}
 use Rattle.std.proofs.{Math.ListN.replicate, lemmas.Bool.true_from_ne_false, lemmas.Bool.true≢false}
@@ -24,7 +23,8 @@ is-set words n = (λ e. e, λ e. e)
 bit-within : (words : List ℕ) (n : ℕ) → has_bit words n ≡ true → n < end_of words
 bit-within words n e = grind (arith, nat_tests, bit_at-zero, get_or_past)
 
-some-below : (words : List ℕ) (test : ℕ → Bool) (P : ℕ → Type 0) → ((n : ℕ) → Decides (test n) (P n))
+some-below : (words : List ℕ) (test : ℕ → Bool) (P : ℕ → Type 0)
+    → ((n : ℕ) → Decides (test n) (P n))
     → ((n : ℕ) → P n → has_bit words n ≡ true)
     → Decides (any_below test (end_of words)) ((n : ℕ) × P n)
 unfolding any_below
@@ -88,7 +88,8 @@ pub all-shared : (words ones others : List ℕ) (i : ℕ) → HasSome (all_at wo
     → ShareAll words ones others
 all-shared words ones others i some =
     let k = lowest _ some in
-    let last = both-set (common_at words ones i) _ k.0 k.2 in let first = both-set _ _ k.0 last.0 in (
+    let last = both-set (common_at words ones i) _ k.0 k.2 in
+    let first = both-set _ _ k.0 last.0 in (
       64 * i + k.0,
       bit-of words i k.0 k.1 first.0,
       bit-of ones i k.0 k.1 first.1,
@@ -99,7 +100,8 @@ all-shared words ones others i some =
 pub kept-bits : (old other new : List ℕ)
     → ((i : ℕ) → word_at new i ≡ common_at old other i)
     → (n : ℕ) → has_bit new n ≡ (has_bit old n && has_bit other n)
-kept-bits old other new is n = let e = is (n / 64) in grind (arith, nat_tests, e, bit_at_and, bit_at-lt)
+kept-bits old other new is n =
+    let e = is (n / 64) in grind (arith, nat_tests, e, bit_at_and, bit_at-lt)
 
 -- words that have none in common share no number
 pub apart : (words others : List ℕ) → ((i : ℕ) → common_at words others i ≡ 0)
