@@ -3,13 +3,12 @@ use Rattle.std.proofs.Common.{◌≡◌, ℕ, sym, ◌∙◌, ap, arith, List, l
 use Rattle.dnssec_run.specs.Safe.{SetKind, Ds, Dnskey, ZoneSigners}
 use Rattle.dnssec_run.specs.declared.record.Entry.{Entry}
 use Rattle.dnssec_judge.specs.Inner.Window.{AreByAge, floor_with, StillRests, came, stretches_of}
-use Rattle.dnssec_judge.specs.Inner.Window.{IsSame, Keeps, Watches, begin_of}
-use Rattle.dnssec_judge.specs.{Inner.Window.stretches, Judge.Knows}
+use Rattle.dnssec_judge.specs.Inner.Window.{IsSame, Keeps, Watches, begin_of, stretches}
 use Rattle.dnssec_judge.proofs.OneByOne.Ages.{image-there, same-image, spans-on}
 use Rattle.dnssec_judge.proofs.OneByOne.Sets.{carried, from-before, helped-same}
-use Rattle.dnssec_judge.specs.declared.sets.{numbers.Numbers.Numbers}
 use Rattle.dnssec_judge.proofs.OneByOne.{Followed.watches-grow, Pairs.tested-on}
-use Rattle.dnssec_judge.specs.declared.{window.Window.Window, judging.Judge.Judge}
+use Rattle.dnssec_judge.specs.declared.{sets.numbers.Numbers.Numbers, window.Window.Window}
+use Rattle.dnssec_judge.specs.{Judge.Knows, declared.judging.Judge.Judge}
 use Rattle.dnssec_judge.specs.{Numbers.Grows, Numbers.IsTable, Numbers.key_at, Sets.parts_of}
 
 module _ (a b : Window) (s : IsSame a b) where
