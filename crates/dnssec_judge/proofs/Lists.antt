@@ -1,10 +1,10 @@
--- Lists of keys: what a test finds.
-use Rattle.std.proofs.Common.{◌≡◌, Bool, List, subst, refl}
+-- Lists: what a test finds among keys, and what all items of a list have that a loop has passed.
+use Rattle.std.proofs.Common.{◌≡◌, ◌+◌, ◌<◌, ◌≤◌, ℕ, Bool, List, get_or, length, subst, refl, take}
 use Rattle.std.proofs.lemmas.Bool.Decides.{Decides-like}
 use Rattle.std.proofs.lemmas.List.Folds.{Any-from_list_any, list_any-from_Any}
-use Rattle.std.specs.{Bool.Decides, List.Contains, List.list_any}
-use Rattle.dnssec_run.proofs.Since.{same-id}
-use Rattle.dnssec_run.specs.{Origins.same_id, Published.Id}
+use Rattle.std.proofs.lemmas.List.{take_all, Elements.All-contains, Elements.All-more}
+use Rattle.std.specs.{Bool.Decides, List.All, List.Contains, List.list_any}
+use Rattle.dnssec_run.{proofs.Since.same-id, specs.Origins.same_id, specs.Published.Id}
 use Rattle.dnssec_judge.specs.Chained.{is_in}
 
 -- a test finds a key that passes, if there is one
@@ -19,3 +19,14 @@ pub in-list : (ids : List Id) (k : Id) → Decides (is_in ids k) (Contains ids k
 in-list ids k =
     Decides-like _ (λ t. subst (Contains ids) t.2 t.1) (λ c. (k, c, refl))
     (any-key (λ other. same_id other k) (λ other. other ≡ k) (λ other. same-id other k) ids)
+
+-- one item more
+pub passed-more : {X : Type 0} (P : X → Type 0) (xs : List X) (i : ℕ) (x : X) → i < length xs
+    → x ≡ get_or xs i x → All P (take i xs) → P x → All P (take (i + 1) xs)
+passed-more P xs i x lt is all p = All-more P xs i x lt all (subst P is p)
+
+-- and all of them
+pub all-passed : {X : Type 0} (P : X → Type 0) (xs : List X) (i : ℕ) → length xs ≤ i
+    → All P (take i xs) → (x : X) → Contains xs x → P x
+all-passed P xs i le all x c =
+    All-contains P xs x (subst (λ ys. All P ys) (take_all i xs le) all) c

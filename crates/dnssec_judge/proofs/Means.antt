@@ -1,34 +1,24 @@
 -- What tests of numbers say of the keys that they stand for.
-use Rattle.std.proofs.Common.{◌≡◌, ℕ, zero, suc, ◌<◌, Bool, true, false, refl, sym, ◌∙◌, ap, subst}
-use Rattle.std.proofs.Common.{List, [], ◌∷◌, Option, None, Some, arith, get_or, length}
+use Rattle.std.proofs.Common.{◌≡◌, ℕ, ◌<◌, true, refl, sym, ◌∙◌, ap, subst, List, [], ◌∷◌, Option}
+use Rattle.std.proofs.Common.{None, Some, arith, get_or, length}
 use Rattle.std.proofs.lemmas.Bool.Decides.{Decides-and, Decides-like, same_from_decides}
-use Rattle.std.proofs.lemmas.Bool.{eq-eqb, eqb-true, false≢true, or_right, true≢false}
-use Rattle.std.specs.{Bool.Decides, List.Contains, List.list_any, Prelude.IsSome}
-use Rattle.std.specs.Prelude.{◌&&◌, ◌||◌, nat_eq}
-use Rattle.dnssec_run.specs.Origins.{CachedSet}
-use Rattle.dnssec_run.specs.Published.{Id}
+use Rattle.std.proofs.lemmas.List.Folds.{Any-from_list_any, list_any-from_Any}
+use Rattle.std.specs.Prelude.{IsSome, ◌&&◌, ◌||◌, nat_eq}
+use Rattle.std.proofs.lemmas.Bool.{eq-eqb, eqb-true, false_from_ne_true, false≢true, true≢false}
+use Rattle.std.proofs.lemmas.List.{get_or-map, get_or_default, length-map, Elements.Contains-get_or}
+use Rattle.std.{proofs.lemmas.Option.same_Some, specs.List.Contains, specs.List.list_any}
+use Rattle.dnssec_run.{specs.Origins.CachedSet, specs.Published.Id, proofs.Since.same-id}
 use Rattle.dnssec_judge.specs.Bits.{Share, ShareAll, has_bit, has_none, meet, meet_three}
 use Rattle.dnssec_judge.specs.Chained.{is_in, is_none, trusts_keys, trusts_zone}
 use Rattle.dnssec_judge.specs.Numbers.{Grows, IsTable, Means, MeansSet, StandFor, key_at}
-use Rattle.dnssec_judge.specs.Sets.{Numbered, sets_have_chain}
-use Rattle.dnssec_judge.specs.declared.sets.numbers.Numbers.{Numbers}
-use Rattle.dnssec_judge.proofs.Lists.{any-key, in-list}
+use Rattle.dnssec_judge.{specs.Sets.Numbered, specs.Sets.sets_have_chain, proofs.Lists.any-key}
+use Rattle.dnssec_judge.{specs.declared.sets.numbers.Numbers.Numbers, proofs.Lists.in-list}
 use Rattle.dnssec_judge.proofs.Words.{meet-decides, meet-three-decides, none-decides}
-use Rattle.dnssec_run.proofs.Since.{same-id}
-
--- a test that decides what isn't so answers no
-not_from_decides : {P : Type 0} (r : Bool) → Decides r P → (P → ⊥) → r ≡ false
-not_from_decides true d lacks = absurd (lacks (d.0 refl))
-not_from_decides false d lacks = refl
 
 -- the key of a number
 some-key : (o : Option Id) → IsSome o → (k : Id) × (o ≡ Some k)
 some-key None h = absurd (false≢true h)
 some-key (Some k) h = (k, refl)
-
--- one key has one number's place
-one-key : (k l : Id) → Some k ≡ Some l → k ≡ l
-one-key k l e = cc
 
 -- what bits stand for stays, if the keys keep their numbers
 pub means-on : (t u : Numbers) (words : List ℕ) (keys : List Id)
@@ -37,7 +27,7 @@ pub means-on : (t u : Numbers) (words : List ℕ) (keys : List Id)
 means-on t u words keys on h = record {
   members = λ n k b e.
       (let l = some-key (key_at t n) (h.keyed n b) in
-      subst (Contains keys) (one-key l.0 k (sym (on n l.0 b l.1) ∙ e)) (h.members n l.0 b l.1));
+      subst (Contains keys) (same_Some l.0 k (sym (on n l.0 b l.1) ∙ e)) (h.members n l.0 b l.1));
   all = λ k c. (let n = h.all k c in (n.0, n.1, on n.0 k n.1 n.2));
   keyed = λ n b.
       (let l = some-key (key_at t n) (h.keyed n b) in subst IsSome (sym (on n l.0 b l.1)) refl);
@@ -53,39 +43,44 @@ means-grow t u p set grows h = (
 
 -- ---- bits of the numbers of a list
 
+same-length : (t : Numbers) (ns : List ℕ) (ks : List Id) → StandFor t ns ks
+    → length ns ≡ length ks
+same-length t ns ks h =
+    omega (arith, ap length h, length-map ns (key_at t), length-map {B = Option Id} ks Some)
+
+-- the key of the number at a place
+at-place : (t : Numbers) (ns : List ℕ) (ks : List Id) → StandFor t ns ks → (i n : ℕ) (k : Id)
+    → i < length ks → key_at t (get_or ns i n) ≡ Some (get_or ks i k)
+at-place t ns ks h i n k lt =
+    sym (get_or-map (key_at t) ns i n (Some k) (omega (arith, lt, same-length t ns ks h)))
+    ∙ ap (λ (os : List (Option Id)). get_or os i (Some k)) h
+    ∙ get_or-map {Y = Option Id} Some ks i k (Some k) lt
+
 -- a number of the list is that of one of its keys
 number-stands : (t : Numbers) (ns : List ℕ) (ks : List Id) (n : ℕ) → StandFor t ns ks
     → list_any (λ m. nat_eq m n) ns ≡ true → (k : Id) × Contains ks k × (key_at t n ≡ Some k)
-number-stands t [] ks n h e = absurd (true≢false (sym e))
-number-stands t (m ∷ ns) [] n h e = absurd (cc)
-number-stands t (m ∷ ns) (k ∷ ks) n h e =
-    let one : key_at t m ≡ Some k = cc in
-    let rest : StandFor t ns ks = cc in
-    by one (number-stands t ns ks n rest) (nat_eq m n) refl e
-  where
-    by : key_at t m ≡ Some k
-        → (list_any (λ m. nat_eq m n) ns ≡ true
-        → (l : Id) × Contains ks l × (key_at t n ≡ Some l))
-        → (b : Bool) → nat_eq m n ≡ b → (b || list_any (λ m. nat_eq m n) ns) ≡ true
-        → (l : Id) × Contains (k ∷ ks) l × (key_at t n ≡ Some l)
-    by one rest true is e =
-        (k, (zero, omega arith, refl), ap (key_at t) (sym (eqb-true m n is)) ∙ one)
-    by one rest false is e =
-        let r = rest e in (r.0, (suc r.1.0, omega (arith, r.1.1), r.1.2), r.2)
+number-stands t ns [] n h e =
+    let a = Any-from_list_any (λ m. nat_eq m n) ns e in
+    absurd (omega (arith, a.2, same-length t ns [] h))
+number-stands t ns (k ∷ ks) n h e =
+    let a = Any-from_list_any (λ m. nat_eq m n) ns e in
+    let lt : a.0 < length (k ∷ ks) = omega (arith, a.2, same-length t ns (k ∷ ks) h) in (
+      get_or (k ∷ ks) a.0 k,
+      Contains-get_or (k ∷ ks) a.0 k lt,
+      ap (key_at t) (sym (a.3 ∙ eqb-true a.1 n a.4)) ∙ at-place t ns (k ∷ ks) h a.0 a.1 k lt,
+    )
 
 -- and a key of the list has its number there
-key-stands : (t : Numbers) (ns : List ℕ) (ks : List Id) (k : Id) (i : ℕ) → StandFor t ns ks
-    → i < length ks → get_or ks i k ≡ k
-    → (n : ℕ) × (list_any (λ m. nat_eq m n) ns ≡ true) × (key_at t n ≡ Some k)
-key-stands t ns [] k i h lt is = absurd (omega (arith, lt))
-key-stands t [] (l ∷ ks) k i h lt is = absurd (cc)
-key-stands t (n ∷ ns) (l ∷ ks) k zero h lt is =
-    let one : key_at t n ≡ Some l = cc in
-    (n, ap (λ b. b || list_any (λ m. nat_eq m n) ns) (eq-eqb n n refl), one ∙ ap (λ x. Some x) is)
-key-stands t (n ∷ ns) (l ∷ ks) k (suc i) h lt is =
-    let rest : StandFor t ns ks = cc in
-    let r = key-stands t ns ks k i rest (omega arith) is in
-    (r.0, or_right (nat_eq n r.0) (list_any (λ m. nat_eq m r.0) ns) r.1, r.2)
+key-stands : (t : Numbers) (ns : List ℕ) (ks : List Id) (k : Id) → StandFor t ns ks
+    → Contains ks k → (n : ℕ) × (list_any (λ m. nat_eq m n) ns ≡ true) × (key_at t n ≡ Some k)
+key-stands t ns ks k h c =
+    let n = get_or ns c.0 0 in
+    let lt : c.0 < length ns = omega (arith, c.1, same-length t ns ks h) in (
+      n,
+      list_any-from_Any (λ m. nat_eq m n) ns
+          (c.0, n, lt, get_or_default ns c.0 n 0 lt, eq-eqb n n refl),
+      at-place t ns ks h c.0 0 k c.1 ∙ ap (λ x. Some x) c.2,
+    )
 
 -- so bits of its numbers stand for its keys
 pub bits-mean : (t : Numbers) (words ns : List ℕ) (ks : List Id) → StandFor t ns ks
@@ -93,9 +88,9 @@ pub bits-mean : (t : Numbers) (words ns : List ℕ) (ks : List Id) → StandFor 
 bits-mean t words ns ks h has = record {
   members = λ n k b e.
       (let l = number-stands t ns ks n h (sym (has n) ∙ b) in
-      subst (Contains ks) (one-key l.0 k (sym l.2 ∙ e)) l.1);
+      subst (Contains ks) (same_Some l.0 k (sym l.2 ∙ e)) l.1);
   all = λ k c.
-      (let n = key-stands t ns ks k c.0 h c.1 c.2 in (n.0, has n.0 ∙ n.1, n.2));
+      (let n = key-stands t ns ks k h c in (n.0, has n.0 ∙ n.1, n.2));
   keyed = λ n b.
       (let l = number-stands t ns ks n h (sym (has n) ∙ b) in subst IsSome (sym l.2) refl);
 }
@@ -162,7 +157,7 @@ module _ (t : Numbers) (table : IsTable t) where
       let here = (in-list (k ∷ ks) k).0
       (ap (λ b. b || is_in ks k) ((same-id k k).1 refl)) in
       let n = h.all k here in
-      not_from_decides (has_none p) (none-decides p) (λ all. all n.0 n.1)
+      false_from_ne_true (has_none p) (λ e. (none-decides p).0 e n.0 n.1)
 
   pub chain-means : (p q z : Numbered) (ds dnskey zone : CachedSet) → MeansSet t p ds
       → MeansSet t q dnskey → MeansSet t z zone

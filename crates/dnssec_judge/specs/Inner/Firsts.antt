@@ -1,32 +1,33 @@
 -- What a search for the first sets without a chain has: each set of a window once.
-use Rattle.std.specs.Prelude.{◌≡◌, ℕ, Bool, List, [], ◌∷◌, Option, None, Some, max}
-use Rattle.std.specs.Prelude.{if◌then◌else◌}
-use Rattle.std.specs.Option.{option_map}
+use Rattle.std.specs.Prelude.{◌≡◌, ℕ, Bool, List, map, Option, max, not}
+use Rattle.std.specs.{List.All, List.find, Option.option_map}
 use Rattle.dnssec_judge.specs.Sets.{Numbered, set_of, zone_holds}
 use Rattle.dnssec_judge.specs.declared.window.search.{First.First, Signed.Signed}
 use Rattle.dnssec_judge.specs.Inner.Window.{Stretch, first_failing}
 
 -- a set from its first position on
+abbrev pub first_of_set : First → Stretch
+first_of_set f = record { from = f.at; set = set_of f.set.now }
+
 abbrev pub firsts_of : List First → List Stretch
-firsts_of [] = []
-firsts_of (f ∷ fs) = record { from = f.at; set = set_of f.set.now } ∷ firsts_of fs
+firsts_of fs = map first_of_set fs
+
+abbrev pub signed_as : Signed → Stretch
+signed_as k = record { from = k.at; set = set_of k.set.now }
 
 abbrev pub signed_of : List Signed → List Stretch
-signed_of [] = []
-signed_of (k ∷ ks) = record { from = k.at; set = set_of k.set.now } ∷ signed_of ks
+signed_of ks = map signed_as ks
 
 -- the first of these zone signers that a DNSKEY set doesn't hold with are known
 abbrev pub IsSigned : List Stretch → Signed → Type 0
 IsSigned zone k = k.failing ≡ first_failing (zone_holds (set_of k.set.now)) 0 zone
 
 abbrev pub AreSigned : List Stretch → List Signed → Type 0
-AreSigned zone [] = Unit {0}
-AreSigned zone (k ∷ ks) = IsSigned zone k × AreSigned zone ks
+AreSigned zone ks = All (IsSigned zone) ks
 
 -- the first span whose set fails a test
 abbrev pub first_stretch : (Numbered → Bool) → List Stretch → Option Stretch
-first_stretch test [] = None
-first_stretch test (s ∷ ss) = if test s.set then first_stretch test ss else Some s
+first_stretch test ss = find (λ s. not (test s.set)) ss
 
 -- a span from the floor on
 abbrev pub lifted : ℕ → Stretch → Stretch

@@ -1,6 +1,5 @@
 -- They are all.
-use Rattle.std.proofs.Common.{◌∙◌, ap, List, map}
-use Rattle.std.proofs.lemmas.List.{take_all}
+use Rattle.std.proofs.{Common.◌∙◌, Common.ap, Common.List, Common.map, lemmas.List.take_all}
 use Rattle.dnssec_judge.specs.{Sets.parts_of, declared.sets.held.OpenSet.OpenSet}
 use Rattle.dnssec_judge.proofs.window.copy_sets.Goals as goal
 

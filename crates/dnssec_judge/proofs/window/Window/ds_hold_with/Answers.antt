@@ -1,17 +1,16 @@
 -- What holds with the common set holds with each.
 use Rattle.std.proofs.Common.{ap, List, rules, sym, tests, ◌∙◌}
-use Rattle.std.proofs.lemmas.Iterator.{YieldsList-from_slice, Search.all_from_yields_List}
 use Rattle.std.specs.List.{list_all}
-use Rattle.dnssec_judge.specs.declared.sets.held.OpenSet.{OpenSet}
-use Rattle.dnssec_judge.specs.Sets.{keys_hold, set_of}
+use Rattle.std.proofs.lemmas.Iterator.{YieldsList-from_slice, Search.all_from_yields_List}
 use Rattle.dnssec_judge.proofs.OneByOne.Pairs.{all-from, ds-by-common}
+use Rattle.dnssec_judge.specs.{declared.sets.held.OpenSet.OpenSet, Sets.keys_hold, Sets.set_of}
 use Rattle.dnssec_judge.proofs.window.Window.ds_hold_with.Goals as goal
 
 pub returns-then-names_key_of : goal.returns-then-names_key_of
 returns-then-names_key_of c n k =
     let other = set_of c.args.keys.now in
     sym (all-from (λ h. keys_hold (set_of h) other) c.args.self.now.sets.items
-    (λ place h e. ds-by-common other c.in-Some.common.now h (c.in-Some.ensures n k h (place, e))
+    (λ h held. ds-by-common other c.in-Some.common.now h (c.in-Some.ensures n k h held)
     (sym c.names_key_of.ensures ∙ c.if-names_key_of.true)))
 
 pub returns : goal.returns

@@ -2,10 +2,11 @@
 use Rattle.std.proofs.Common.{◌≡◌, ◌∙◌, ◌++◌, ◌∷◌, [], ap, arith, inl, inr, length, List, refl}
 use Rattle.std.proofs.Common.{rules, Some, subst, sym, ℕ}
 use Rattle.std.proofs.lemmas.Option.{none-some, same_Some, slice_get_read, slice_get_within}
+use Rattle.dnssec_judge.proofs.OneByOne.Ages.{found-since, left-kept}
 use Rattle.std.specs.{Prelude.slice_get, VecDeque.Iter.deque_iter_rest}
 use Rattle.dnssec_judge.specs.{Sets.set_of, declared.sets.held.OpenSet.OpenSet}
 use Rattle.dnssec_judge.specs.declared.window.{Span.Span, search.First.First}
-use Rattle.dnssec_judge.specs.Inner.Window.{AreKept, Keeps, set_of_any, set_since}
+use Rattle.dnssec_judge.specs.Inner.Window.{Keeps, came_since, set_of_any, set_since}
 use Rattle.dnssec_judge.proofs.OneByOne.Firsts.{HasSet, first-all, first-left, first-taken}
 use Rattle.dnssec_judge.proofs.OneByOne.Firsts.{first-then, has-last, has-pushed}
 use Rattle.dnssec_judge.proofs.window.Window.firsts.Goals as goal
@@ -14,15 +15,15 @@ pub loop-span-preserved-in_default : goal.loop-span-preserved-in_default
 loop-span-preserved-in_default c =
     let sets = c.args.self.now.sets.items in
     let so = c.loop-span.invariant in
-    let left = deque_iter_rest c.next.new.self in
-    let rest : deque_iter_rest c.loop-span.span-iterator ≡ c.in-Some.span.now ∷ left =
-    c.in-Some.ensures.steps in
-    let kept = λ (n : ℕ) (k : Keeps n c.args.self.now). subst
-    (λ (ss : List Span). AreKept sets ss) rest (so.kept n k) in
+    let kept = λ (n : ℕ) (k : Keeps n c.args.self.now).
+    left-kept sets c.in-Some.span.now _ _ c.in-Some.ensures.steps (so.kept n k) in
     record {
-      kept = λ n k. (kept n k).2;
-      found = λ n k test. absurd (none-some (kept n k).0.held
-          (sym (c.place_since.ensures.none c.in_default.is k.by_age) ∙ (kept n k).0.there));
+      kept = λ n k. (kept n k).1;
+      found = λ n k test.
+          (let i = (kept n k).0 in
+          absurd (none-some i.held
+          (sym (c.place_since.ensures.none c.in_default.is k.by_age)
+          ∙ ap (came_since sets) (sym i.since) ∙ found-since sets i.held k.by_age i.there)));
       met = so.met;
     }
 
@@ -30,14 +31,11 @@ pub loop-span-preserved-in_default-get : goal.loop-span-preserved-in_default-get
 loop-span-preserved-in_default-get c =
     let sets = c.args.self.now.sets.items in
     let so = c.loop-span.invariant in
-    let left = deque_iter_rest c.next.new.self in
-    let rest : deque_iter_rest c.loop-span.span-iterator ≡ c.in-Some.span.now ∷ left =
-    c.in-Some.ensures.steps in
-    let kept = λ (n : ℕ) (k : Keeps n c.args.self.now). subst
-    (λ (ss : List Span). AreKept sets ss) rest (so.kept n k) in
+    let kept = λ (n : ℕ) (k : Keeps n c.args.self.now).
+    left-kept sets c.in-Some.span.now _ _ c.in-Some.ensures.steps (so.kept n k) in
     let past = rw c.in_default-get.is at c.get.ensures.lookup.3 in
     record {
-      kept = λ n k. (kept n k).2;
+      kept = λ n k. (kept n k).1;
       found = λ n k test.
           (let f = c.in-Some-place_since.ensures.some k.by_age in
           let within = slice_get_within sets c.in-Some-place_since.place f.0 f.1 in
@@ -59,11 +57,10 @@ loop-span-preserved-then-meet c =
     let s = c.in-Some.span.now in
     let left = deque_iter_rest c.next.new.self in
     let rest : deque_iter_rest c.loop-span.span-iterator ≡ s ∷ left = c.in-Some.ensures.steps in
-    let kept = λ (n : ℕ) (k : Keeps n c.args.self.now). subst
-    (λ (ss : List Span). AreKept sets ss) rest (so.kept n k) in
+    let kept = λ (n : ℕ) (k : Keeps n w). left-kept sets s _ left rest (so.kept n k) in
     let was = c.meet.ensures.was c.if-meet.true in
     record {
-      kept = λ n k. (kept n k).2;
+      kept = λ n k. (kept n k).1;
       found = λ n k test.
           (let f = c.in-Some-place_since.ensures.some k.by_age in
           let same : set_of f.0 ≡ set_since sets s.set = ap set_of_any (sym f.2) in
@@ -88,8 +85,7 @@ loop-span-preserved c =
     let s = c.in-Some.span.now in
     let left = deque_iter_rest c.next.new.self in
     let rest : deque_iter_rest c.loop-span.span-iterator ≡ s ∷ left = c.in-Some.ensures.steps in
-    let kept = λ (n : ℕ) (k : Keeps n c.args.self.now). subst
-    (λ (ss : List Span). AreKept sets ss) rest (so.kept n k) in
+    let kept = λ (n : ℕ) (k : Keeps n w). left-kept sets s _ left rest (so.kept n k) in
     let place = c.in-Some-place_since.place in
     let f : First = record { at = c.max-at.result; set = c.in-Some-get.set } in
     let items : c.push.new.self.items ≡ fs ++ f ∷ [] = search rules in
@@ -99,7 +95,7 @@ loop-span-preserved c =
     ∙ slice_get_read c.deref.result.now (length c.deref.result.now) place f.set.now refl item.0
     (item.1 f.set.now) in
     record {
-      kept = λ n k. (kept n k).2;
+      kept = λ n k. (kept n k).1;
       found = λ n k test.
           (let g = c.in-Some-place_since.ensures.some k.by_age in
           let it = same_Some f.set.now g.0 (sym there ∙ g.1) in

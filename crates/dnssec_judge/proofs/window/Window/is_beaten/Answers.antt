@@ -1,8 +1,7 @@
 -- The report before the place beats it.
 use Rattle.std.proofs.Common.{◌≤◌, List, subst}
-use Rattle.dnssec_judge.specs.declared.window.reports.Due.{Due}
 use Rattle.dnssec_judge.specs.Inner.Window.{floor_with, over}
-use Rattle.dnssec_judge.proofs.OneByOne.Windows.{beaten}
+use Rattle.dnssec_judge.{specs.declared.window.reports.Due.Due, proofs.OneByOne.Windows.beaten}
 use Rattle.dnssec_judge.proofs.window.Window.is_beaten.Goals as goal
 
 pub returns-in-Some-get : goal.returns-in-Some-get

@@ -1,11 +1,9 @@
 -- If the first isn't over, none is.
 use Rattle.std.proofs.Common.{◌≡◌, ◌∙◌, ap, List, None, Some, [], ◌∷◌, refl, sym}
-use Rattle.std.proofs.lemmas.Bool.{ltb-true, not-false}
-use Rattle.std.proofs.lemmas.Option.{none-some}
+use Rattle.std.proofs.lemmas.{Bool.ltb-true, Bool.not-false, Option.none-some}
 use Rattle.std.specs.{Option.option_copied, Prelude.slice_get}
-use Rattle.dnssec_judge.specs.declared.window.reports.Due.{Due}
-use Rattle.dnssec_judge.specs.Inner.Window.{floor_with}
 use Rattle.dnssec_judge.proofs.OneByOne.Windows.{first-late}
+use Rattle.dnssec_judge.specs.{declared.window.reports.Due.Due, Inner.Window.floor_with}
 use Rattle.dnssec_judge.proofs.window.Window.is_due.Goals as goal
 
 pub returns-in-Some : goal.returns-in-Some

@@ -1,12 +1,10 @@
 -- A report that another beats lifts no floor; else it is put in where it is over in its turn.
 use Rattle.std.proofs.Common.{◌≡◌, ◌∙◌, ap, arith, leb, leb-true, List, rules, subst, sym}
-use Rattle.std.proofs.lemmas.Bool.{leb-false}
-use Rattle.std.proofs.lemmas.List.Sorted.{IsNonDecreasingBy-insert, IsPartitionedBy-leb}
-use Rattle.std.proofs.lemmas.List.Sorted.{IsPartitionPoint-from_clause}
 use Rattle.std.specs.List.{insert}
-use Rattle.dnssec_judge.specs.declared.window.reports.Due.{Due}
-use Rattle.dnssec_judge.specs.Inner.Window.{AreInOrder, floor_with}
-use Rattle.dnssec_judge.proofs.OneByOne.Windows.{floor-insert}
+use Rattle.std.proofs.lemmas.{Bool.leb-false, List.Sorted.IsPartitionPoint-from_clause}
+use Rattle.std.proofs.lemmas.List.Sorted.{IsNonDecreasingBy-insert, IsPartitionedBy-leb}
+use Rattle.dnssec_judge.specs.{declared.window.reports.Due.Due, Inner.Window.AreInOrder}
+use Rattle.dnssec_judge.{proofs.OneByOne.Windows.floor-insert, specs.Inner.Window.floor_with}
 use Rattle.dnssec_judge.proofs.window.Window.note.Goals as goal
 
 pub returns-then-is_beaten-clause-dues : goal.returns-then-is_beaten-clause-dues

@@ -1,8 +1,6 @@
 -- The first set that came at a position or later came then, or none did.
 use Rattle.std.proofs.Common.{◌≡◌, ◌∙◌, ◌≤◌, ap, arith, get_or, length, List, ltb, rules, subst}
-use Rattle.std.proofs.Common.{None, Some, refl, sym}
-use Rattle.std.specs.Prelude.{slice_get}
-use Rattle.std.proofs.lemmas.Bool.{ltb-true, ltb-false}
+use Rattle.std.{proofs.Common.Some, proofs.Common.refl, proofs.Common.sym, specs.Prelude.slice_get}
 use Rattle.std.proofs.lemmas.List.Sorted.{IsPartitionPoint-from_clause, IsPartitionedBy-ltb}
 use Rattle.std.proofs.lemmas.Option.{get_or_from_slice_get, slice_get_read, slice_get_within}
 use Rattle.dnssec_judge.specs.declared.sets.held.OpenSet.{OpenSet}
@@ -20,50 +18,39 @@ returns-in-Some-clause-some c order =
     slice_get_read c.deref-2.result.now (length c.deref-2.result.now) place h refl item.0
     (item.1 h) in
     let there : slice_get hs place ≡ Some h =
-    ap (λ (xs : List OpenSet). slice_get xs place) (sym c.deref-2.ensures.value) ∙ read in
-    (h, there, ap (came_since hs) (sym c.if-set-since.true) ∙ found-since hs place h order there)
+    ap (λ (xs : List OpenSet). slice_get xs place) (sym c.deref-2.ensures.value) ∙ read in (
+      h,
+      there,
+      ap (came_since hs) (sym c.if-set-since.true) ∙ found-since hs h order
+          (place, slice_get_within hs place h there, get_or_from_slice_get hs place h h there),
+    )
 
 pub returns-in_default-clause-none : goal.returns-in_default-clause-none
 returns-in_default-clause-none c is order =
-    let hs = c.args.self.now.sets.items in
-    let h = c.in-Some.set.now in
     let place = c.partition_point-place.result in
-    let item = c.in-Some.ensures.lookup.3 in
     let value = c.deref.ensures.value in
-    let point = IsPartitionPoint-from_clause (λ (g : OpenSet). ltb g.since c.args.since) _ _
+    none-since _ c.args.self.now.sets.items place c.args.since value order
+    (IsPartitionPoint-from_clause (λ (g : OpenSet). ltb g.since c.args.since) _ _
     c.partition_point-place.ensures.partitioned
     (IsPartitionedBy-ltb (λ (g : OpenSet). g.since) c.deref.result.now c.args.since
-    (non-decreasing c.deref.result.now
-    (subst (λ (xs : List OpenSet). AreByAge xs) (sym value) order)))
-    (λ a r q k. search rules) in
-    subst (λ (xs : List OpenSet). came_since xs c.args.since ≡ None) value
-    (none-since c.deref.result.now place c.args.since
-    (subst (λ (xs : List OpenSet). AreByAge xs) (sym value) order)
-    (λ k d lt. ltb-true _ _ (point.0 k d (omega arith) lt))
-    (λ k d ge lt. ltb-false _ _ (point.1 k d ge lt))
-    (λ g e at. c.if-set-since.false
-    (ap (λ (x : OpenSet). x.since)
-    (item.1 h ∙ ap (λ (xs : List OpenSet). get_or xs place h)
-    (c.deref-2.ensures.value ∙ sym value) ∙ get_or_from_slice_get c.deref.result.now place g h e)
-    ∙ at)))
+    (non-decreasing _ (subst (λ (xs : List OpenSet). AreByAge xs) (sym value) order)))
+    (λ a r q k. search rules)) (λ d lt at. c.if-set-since.false (ap (λ (x : OpenSet). x.since)
+    (c.in-Some.ensures.lookup.3.1 d ∙ ap (λ (xs : List OpenSet). get_or xs place d)
+    c.deref-2.ensures.value) ∙ at))
 
 pub returns-in_default-2-clause-none : goal.returns-in_default-2-clause-none
 returns-in_default-2-clause-none c is order =
     let place = c.partition_point-place.result in
     let past : length c.deref-2.result.now ≤ place = rw c.in_default.is at c.get.ensures.lookup.3 in
     let value = c.deref.ensures.value in
-    let same = c.deref-2.ensures.value ∙ sym value in
-    let point = IsPartitionPoint-from_clause (λ (g : OpenSet). ltb g.since c.args.since) _ _
+    none-since _ c.args.self.now.sets.items place c.args.since value order
+    (IsPartitionPoint-from_clause (λ (g : OpenSet). ltb g.since c.args.since) _ _
     c.partition_point-place.ensures.partitioned
     (IsPartitionedBy-ltb (λ (g : OpenSet). g.since) c.deref.result.now c.args.since
-    (non-decreasing c.deref.result.now
-    (subst (λ (xs : List OpenSet). AreByAge xs) (sym value) order)))
-    (λ a r q k. search rules) in
-    subst (λ (xs : List OpenSet). came_since xs c.args.since ≡ None) value
-    (none-since c.deref.result.now place c.args.since
-    (subst (λ (xs : List OpenSet). AreByAge xs) (sym value) order)
-    (λ k d lt. ltb-true _ _ (point.0 k d (omega arith) lt))
-    (λ k d ge lt. ltb-false _ _ (point.1 k d ge lt))
-    (λ g e at.
-    (let within = slice_get_within c.deref.result.now place g e in
-    absurd (omega (arith, within, past, ap (λ (xs : List OpenSet). length xs) same)))))
+    (non-decreasing _ (subst (λ (xs : List OpenSet). AreByAge xs) (sym value) order)))
+    (λ a r q k. search rules)) (λ d lt at. absurd (omega (
+      arith,
+      lt,
+      past,
+      ap (λ (xs : List OpenSet). length xs) c.deref-2.ensures.value,
+    )))

@@ -1,17 +1,16 @@
 -- What holds with the common set holds with each.
 use Rattle.std.proofs.Common.{ap, List, rules, sym, tests, ◌∙◌}
-use Rattle.std.proofs.lemmas.Iterator.{YieldsList-from_slice, Search.all_from_yields_List}
 use Rattle.std.specs.List.{list_all}
-use Rattle.dnssec_judge.specs.declared.sets.held.OpenSet.{OpenSet}
-use Rattle.dnssec_judge.specs.Sets.{set_of, zone_holds}
+use Rattle.std.proofs.lemmas.Iterator.{YieldsList-from_slice, Search.all_from_yields_List}
 use Rattle.dnssec_judge.proofs.OneByOne.Pairs.{all-from, zone-by-common}
+use Rattle.dnssec_judge.specs.{declared.sets.held.OpenSet.OpenSet, Sets.set_of, Sets.zone_holds}
 use Rattle.dnssec_judge.proofs.window.Window.signers_hold_with.Goals as goal
 
 pub returns-then-holds_with_signers : goal.returns-then-holds_with_signers
 returns-then-holds_with_signers c n k =
     let other = set_of c.args.keys.now in
     sym (all-from (λ h. zone_holds other (set_of h)) c.args.self.now.sets.items
-    (λ place h e. zone-by-common other c.in-Some.common.now h (c.in-Some.ensures n k h (place, e))
+    (λ h held. zone-by-common other c.in-Some.common.now h (c.in-Some.ensures n k h held)
     (sym c.holds_with_signers.ensures ∙ c.if-holds_with_signers.true)))
 
 pub returns : goal.returns

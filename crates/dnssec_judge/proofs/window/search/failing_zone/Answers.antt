@@ -1,8 +1,7 @@
 -- If the two hold, the DNSKEY set may not hold with the signers; else it is the first of them.
 use Rattle.std.proofs.Common.{◌∙◌, sym}
-use Rattle.dnssec_judge.specs.Sets.{set_of}
-use Rattle.dnssec_judge.specs.Inner.Firsts.{firsts_of}
 use Rattle.dnssec_judge.proofs.OneByOne.Firsts.{signed-fails}
+use Rattle.dnssec_judge.specs.{Sets.set_of, Inner.Firsts.firsts_of}
 use Rattle.dnssec_judge.proofs.window.search.failing_zone.Goals as goal
 
 pub returns-then-holds_with_keys : goal.returns-then-holds_with_keys

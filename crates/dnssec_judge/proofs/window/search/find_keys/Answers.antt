@@ -1,13 +1,11 @@
 -- No DNSKEY set fails an empty DS set; else the first of the rest fails, or is left out.
-use Rattle.std.proofs.Common.{◌≡◌, ◌∙◌, ◌+◌, ◌∷◌, ℕ, ap, arith, drop, List, Option, Some}
-use Rattle.std.proofs.Common.{sym, subst}
-use Rattle.std.proofs.lemmas.List.{at_drop_all, drop_more}
-use Rattle.std.specs.{Option.option_map, Option.option_or, Prelude.max}
-use Rattle.dnssec_judge.specs.Sets.{set_of}
-use Rattle.dnssec_judge.specs.declared.window.search.Signed.{Signed}
-use Rattle.dnssec_judge.specs.Inner.Firsts.{AreSigned, firsts_of, signed_of}
-use Rattle.dnssec_judge.specs.Inner.Window.{broken, first_keys}
-use Rattle.dnssec_judge.proofs.OneByOne.Pairs.{no-keys}
+use Rattle.std.proofs.Common.{◌∙◌, ◌+◌, ◌∷◌, ap, arith, drop, subst, sym, List}
+use Rattle.std.specs.Option.{option_map}
+use Rattle.std.proofs.lemmas.List.{drop_more, Elements.All-tail}
+use Rattle.dnssec_judge.specs.Inner.Firsts.{AreSigned, IsSigned, firsts_of, signed_as, signed_of}
+use Rattle.dnssec_judge.specs.Inner.Window.{broken, with_keys}
+use Rattle.dnssec_judge.proofs.OneByOne.{Firsts.done, Firsts.hit, Firsts.miss, Pairs.no-keys}
+use Rattle.dnssec_judge.specs.{Sets.set_of, declared.window.search.Signed.Signed}
 use Rattle.dnssec_judge.proofs.window.search.find_keys.Goals as goal
 
 pub returns-then-is_empty : goal.returns-then-is_empty
@@ -18,51 +16,35 @@ returns-then-is_empty c signed =
 
 pub returns-in-Some : goal.returns-in-Some
 returns-in-Some c signed =
-    let zone = firsts_of c.args.zone.now in
-    let p = set_of c.args.ds.now.set.now in
-    let search = λ (ks : List Signed). first_keys c.args.at c.args.ds.now.at p 0
-    (signed_of ks) 0 zone in
+    let zone = firsts_of c.args.zone.now in let d = c.args.ds.now in
     let ks = c.args.dnskey.now in let i = c.loop-keys.keys-index in
-    let k = c.keys-item.result in
-    let so = c.loop-keys.invariant signed in
+    let k = c.keys-item.result in let so = c.loop-keys.invariant signed in
     let same = drop_more ks i k c.loop-keys-test.true
     ∙ ap (λ (g : Signed). g ∷ drop (i + 1) ks) (sym c.keys-item.is) in
     let are = subst (λ (xs : List Signed). AreSigned zone xs) same so.0 in
-    let fails = sym (c.failing_zone.ensures (sym c.is_empty.ensures ∙ c.if-is_empty.false) are.0)
-    ∙ c.in-Some.is in
-    let at : max 0 k.at ≡ k.at = omega arith in
-    sym (sym so.1 ∙ ap search same
-    ∙ ap (λ (o : Option ℕ). option_or (option_map (broken c.args.at c.args.ds.now.at (max 0 k.at))
-    o)
-    (search (drop (i + 1) ks))) fails
-    ∙ ap (λ (q : ℕ). Some (broken c.args.at c.args.ds.now.at q c.in-Some.zone)) at)
+    hit (with_keys c.args.at d.at (set_of d.set.now) 0 zone) signed_as ks i _ so.1 k
+    c.loop-keys-test.true c.keys-item.is _ (ap (option_map (broken c.args.at d.at k.at))
+    (sym (c.failing_zone.ensures (sym c.is_empty.ensures ∙ c.if-is_empty.false)
+    (are 0 k (omega arith))) ∙ c.in-Some.is))
 
 pub loop-keys-preserved : goal.loop-keys-preserved
 loop-keys-preserved c signed =
-    let zone = firsts_of c.args.zone.now in
-    let p = set_of c.args.ds.now.set.now in
-    let search = λ (ks : List Signed). first_keys c.args.at c.args.ds.now.at p 0
-    (signed_of ks) 0 zone in
+    let zone = firsts_of c.args.zone.now in let d = c.args.ds.now in
     let ks = c.args.dnskey.now in let i = c.loop-keys.keys-index in
-    let k = c.keys-item.result in
-    let so = c.loop-keys.invariant signed in
+    let k = c.keys-item.result in let so = c.loop-keys.invariant signed in
     let same = drop_more ks i k c.loop-keys-test.true
     ∙ ap (λ (g : Signed). g ∷ drop (i + 1) ks) (sym c.keys-item.is) in
-    let are = subst (λ (xs : List Signed). AreSigned zone xs) same so.0 in
-    let fails = sym (c.failing_zone.ensures (sym c.is_empty.ensures ∙ c.if-is_empty.false) are.0)
-    ∙ c.in_default.is in (
-      are.1,
-      sym (ap search same
-          ∙ ap (λ (o : Option ℕ). option_or
-          (option_map (broken c.args.at c.args.ds.now.at (max 0 k.at)) o)
-          (search (drop (i + 1) ks))) fails) ∙ so.1,
+    let are = subst (λ (xs : List Signed). AreSigned zone xs) same so.0 in (
+      All-tail (IsSigned zone) k (drop (i + 1) ks) are,
+      miss (with_keys c.args.at d.at (set_of d.set.now) 0 zone) signed_as ks i _ so.1 k
+          c.loop-keys-test.true c.keys-item.is (ap (option_map (broken c.args.at d.at k.at))
+          (sym (c.failing_zone.ensures (sym c.is_empty.ensures ∙ c.if-is_empty.false)
+          (are 0 k (omega arith))) ∙ c.in_default.is)),
     )
 
 pub returns : goal.returns
 returns c signed =
-    let zone = firsts_of c.args.zone.now in
-    let p = set_of c.args.ds.now.set.now in
-    let search = λ (ks : List Signed). first_keys c.args.at c.args.ds.now.at p 0
-    (signed_of ks) 0 zone in
-    sym (at_drop_all search c.args.dnskey.now c.loop-keys.keys-index c.loop-keys-test.false)
-    ∙ (c.loop-keys.invariant signed).1
+    let d = c.args.ds.now in
+    done (with_keys c.args.at d.at (set_of d.set.now) 0 (firsts_of c.args.zone.now)) signed_as
+    c.args.dnskey.now c.loop-keys.keys-index _ (c.loop-keys.invariant signed).1
+    c.loop-keys-test.false

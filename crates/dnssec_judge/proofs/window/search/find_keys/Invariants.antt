@@ -1,8 +1,7 @@
 -- The rest has the answer.
 use Rattle.std.proofs.Common.{◌≡◌, drop}
-use Rattle.dnssec_judge.specs.Sets.{set_of}
 use Rattle.dnssec_judge.specs.Inner.Firsts.{AreSigned, firsts_of, signed_of}
-use Rattle.dnssec_judge.specs.Inner.Window.{first_keys}
+use Rattle.dnssec_judge.specs.{Sets.set_of, Inner.Window.first_keys}
 use Rattle.dnssec_judge.proofs.window.search.find_keys.Given as goal
 
 abbrev pub invariant-loop-keys : goal.invariant-loop-keys

@@ -1,9 +1,8 @@
 -- One more.
-use Rattle.std.proofs.Common.{◌≡◌, ◌∙◌, ◌++◌, ◌∷◌, [], ap, List, refl, rules, subst, sym, take}
-use Rattle.std.proofs.lemmas.List.{take_all, take_more}
+use Rattle.std.proofs.Common.{◌≡◌, ◌∙◌, ◌++◌, ◌∷◌, [], ap, List, rules, subst, sym, take}
+use Rattle.std.proofs.lemmas.List.{map-append, take_all, take_more, Elements.All-push}
 use Rattle.dnssec_judge.specs.declared.window.search.{First.First, Signed.Signed}
-use Rattle.dnssec_judge.specs.Inner.Firsts.{AreSigned, firsts_of, signed_of}
-use Rattle.dnssec_judge.proofs.OneByOne.Firsts.{are-signed-pushed, signed-pushed}
+use Rattle.dnssec_judge.specs.Inner.Firsts.{AreSigned, IsSigned, first_of_set, firsts_of, signed_of}
 use Rattle.dnssec_judge.proofs.window.search.sign_all.Goals as goal
 
 pub loop-keys-preserved : goal.loop-keys-preserved
@@ -17,11 +16,12 @@ loop-keys-preserved c =
     let items : c.push.new.self.items ≡ all ++ k ∷ [] = search rules in
     let more = take_more ks i f c.loop-keys-test.true
     ∙ ap (λ (g : First). take i ks ++ g ∷ []) (sym c.keys-item.is) in (
-      ap (λ (xs : List Signed). signed_of xs) items
-          ∙ signed-pushed all (take i ks) k f so.0 refl refl
+      ap (λ (xs : List Signed). signed_of xs) items ∙ map-append _ all (k ∷ [])
+          ∙ ap (λ xs. xs ++ first_of_set f ∷ []) so.0
+          ∙ sym (map-append first_of_set (take i ks) (f ∷ []))
           ∙ ap (λ (xs : List First). firsts_of xs) (sym more),
       subst (λ (xs : List Signed). AreSigned zone xs) (sym items)
-          (are-signed-pushed zone all k so.1 c.find_zone.ensures),
+          (All-push (IsSigned zone) all k so.1 c.find_zone.ensures),
     )
 
 pub returns-clause-ok : goal.returns-clause-ok

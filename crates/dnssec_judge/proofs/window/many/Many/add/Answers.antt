@@ -1,6 +1,5 @@
 -- What is common with one set more is in that, and was common before.
-use Rattle.std.proofs.Common.{sym, ◌∙◌}
-use Rattle.std.proofs.lemmas.Bool.{and_parts}
+use Rattle.std.proofs.{Common.sym, Common.◌∙◌, lemmas.Bool.and_parts}
 use Rattle.dnssec_judge.proofs.window.many.Many.add.Goals as goal
 
 pub returns-clause-new : goal.returns-clause-new

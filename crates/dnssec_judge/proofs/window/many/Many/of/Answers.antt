@@ -1,24 +1,22 @@
 -- One set more.
-use Rattle.std.proofs.Common.{◌≡◌, ◌∙◌, arith, get_or, inl, inr, subst}
-use Rattle.std.proofs.lemmas.Bool.{cases_lt}
 use Rattle.std.proofs.lemmas.Option.{get_or_from_slice_get, slice_get_within}
-use Rattle.dnssec_judge.specs.Inner.Window.{IsIn}
+use Rattle.std.proofs.{Common.take, lemmas.List.Elements.All-weaker}
+use Rattle.dnssec_judge.{specs.Inner.Window.IsIn, proofs.Lists.all-passed, proofs.Lists.passed-more}
 use Rattle.dnssec_judge.proofs.window.many.Many.of.Goals as goal
 
 pub loop-set-preserved : goal.loop-set-preserved
-loop-set-preserved c place h lt e = elim (cases_lt place c.loop-set.set-index) [
-  | inl less ↦ c.in_ok-add.ensures.others h (c.loop-set.invariant place h less e)
-  | inr ge ↦
-      let at : c.loop-set.set-index ≡ place = omega (arith, lt, ge) in
-      let it : c.set-item.result ≡ h =
-      c.set-item.is
-      ∙ (λ i. get_or c.args.sets.now (at i) c.set-item.result)
-      ∙ get_or_from_slice_get c.args.sets.now place h c.set-item.result e in
-      subst (IsIn c.add.new.self.common) it c.in_ok-add.ensures.new
-]
+loop-set-preserved c =
+    let i = c.loop-set.set-index in
+    passed-more (IsIn c.add.new.self.common) c.args.sets.now i c.set-item.result
+    c.loop-set-test.true c.set-item.is (All-weaker (IsIn c.loop-set.many.common)
+    (IsIn c.add.new.self.common) c.in_ok-add.ensures.others (take i c.args.sets.now)
+    c.loop-set.invariant) c.in_ok-add.ensures.new
 
 pub returns-clause-ok : goal.returns-clause-ok
 returns-clause-ok c place h e =
-    c.loop-set.invariant place h
-    (let within = slice_get_within c.args.sets.now place h e in
-    omega (arith, within, c.loop-set-test.false)) e
+    all-passed (IsIn c.loop-set.many.common) c.args.sets.now c.loop-set.set-index
+    c.loop-set-test.false c.loop-set.invariant h (
+      place,
+      slice_get_within c.args.sets.now place h e,
+      get_or_from_slice_get c.args.sets.now place h h e,
+    )
