@@ -1,19 +1,32 @@
 -- Each turn of the loop makes the call of one line.
-use Rattle.std.proofs.Common.{◌≡◌, ◌≢◌, ◌++◌, ◌∷◌, [], List, subst, sym}
+use Rattle.std.proofs.Common.{◌≡◌, ◌≢◌, [], ℕ, List, Option, Some, subst, sym}
 use Rattle.std.proofs.lemmas.List.Elements.{All-nil, All-push}
 use Rattle.dnssec_base.specs.declared.error.Error.TheVariants.{OutOfMemory}
-use Rattle.dnssec_run.specs.declared.record.Reply.TheVariants.{Refused}
-use Rattle.dnssec_record.proofs.Made.{all_made, one_made}
-use Rattle.dnssec_record.specs.Session.{HadMemory}
+use Rattle.dnssec_run.specs.declared.call.Call.{Call}
 use Rattle.dnssec_run.specs.declared.record.{Entry.Entry, Reply.Reply}
+use Rattle.dnssec_run.specs.declared.record.Reply.TheVariants.{Refused}
+use Rattle.dnssec_script.specs.declared.{lines.Lines.Lines, statement.Statement.Statement}
+use Rattle.dnssec_record.proofs.Made.{Finds, HasMade, all_made, one_made}
+use Rattle.dnssec_record.specs.Session.{HadMemory}
+use Rattle.dnssec_policy.specs.Automatic.Calls.{IsAfter, Takes}
+use Rattle.dnssec_policy.specs.declared.automatic.calls.Calls.{Calls}
 use Rattle.dnssec_policy.proofs.automatic.calls.Calls.resume.Goals as goal
 
--- no call was refused for lack of memory, nor is one more
-had_more : (entries : List Entry) (entry : Entry) (reply : Reply) → HadMemory entries
-    → entry.reply ≡ reply → reply ≢ Refused OutOfMemory → HadMemory (entries ++ entry ∷ [])
-had_more entries entry reply so is other =
-    All-push (λ entry. entry.reply ≢ Refused OutOfMemory) entries entry so
-    (subst (λ reply. reply ≢ Refused OutOfMemory) (sym is) other)
+abbrev Stand : Calls → List ℕ → List Call → List Entry → Type 0
+Stand kept name calls entries = IsAfter name calls entries kept × HadMemory entries
+
+-- one more line, whose call isn't refused for lack of memory
+made_more : {script : List ℕ} {before : Lines} {after : Lines} {found : Option Statement}
+    {s : Statement} {old new : Calls} {reply : Reply} (h : HasMade script before (Stand old))
+    → Finds before after found → found ≡ Some s → Takes s old new reply
+    → reply ≢ Refused OutOfMemory → HasMade script after (Stand new)
+made_more h next some made other =
+    let more = made.goes_on h.name h.calls h.entries h.so.0 in
+    one_made _ _ h made.call _ next some made.is_call (
+      more.after,
+      All-push (λ entry. entry.reply ≢ Refused OutOfMemory) h.entries more.entry h.so.1
+          (subst (λ reply. reply ≢ Refused OutOfMemory) (sym more.is_reply) other),
+    )
 
 pub loop-calls-init : goal.loop-calls-init
 loop-calls-init c = record {
@@ -26,21 +39,13 @@ loop-calls-init c = record {
 
 pub loop-calls-preserved-in_ok-check_memory : goal.loop-calls-preserved-in_ok-check_memory
 loop-calls-preserved-in_ok-check_memory c =
-    let h = c.loop-calls.invariant in let made = c.in_ok-reply.ensures in
-    let next = made.goes_on h.name h.calls h.entries h.so.0 in
-    one_made _ _ h made.call _ c.in_ok-statement.ensures.ok c.in-Some.is made.is_call (
-      next.after,
-      had_more h.entries next.entry _ h.so.1 next.is_reply c.in_ok-check_memory.ensures.ok,
-    )
+    made_more c.loop-calls.invariant c.in_ok-statement.ensures.ok c.in-Some.is
+    c.in_ok-reply.ensures c.in_ok-check_memory.ensures.ok
 
 pub loop-calls-preserved : goal.loop-calls-preserved
 loop-calls-preserved c =
-    let h = c.loop-calls.invariant in let made = c.in_ok-reply.ensures in
-    let next = made.goes_on h.name h.calls h.entries h.so.0 in
-    one_made _ _ h made.call _ c.in_ok-statement.ensures.ok c.in-Some.is made.is_call (
-      next.after,
-      had_more h.entries next.entry _ h.so.1 next.is_reply c.in_ok-check_memory.ensures.ok,
-    )
+    made_more c.loop-calls.invariant c.in_ok-statement.ensures.ok c.in-Some.is
+    c.in_ok-reply.ensures c.in_ok-check_memory.ensures.ok
 
 pub returns : goal.returns
 returns c =
