@@ -3,10 +3,10 @@
 
 mod bits;
 mod held;
-mod listed;
+mod number_list;
 mod numbers;
 
 pub(crate) use bits::Bits;
 pub(crate) use held::OpenSet;
-pub(crate) use listed::Listed;
+pub(crate) use number_list::NumberList;
 pub(crate) use numbers::Numbers;

@@ -7,7 +7,7 @@ ghost use Rattle.dnssec_base.specs.declared.error.Error.TheVariants.{OutOfMemory
 ghost use Rattle.dnssec_run.specs.Published.{Id, id_of};
 ghost use Rattle.dnssec_judge.specs.Numbers.{Grows, IsRead, IsTable, StandFor, key_at, key_in};
 
-use super::listed::Listed;
+use super::number_list::NumberList;
 use dnssec_keyset::Error;
 use dnssec_run::{Frame, PublishedKey};
 use std::alloc::Global;
@@ -73,7 +73,7 @@ impl Numbers {
         &mut self,
         alloc: Global,
         list: &[PublishedKey],
-        known: &mut Listed,
+        known: &mut NumberList,
         frame: Frame,
     ) -> Result<bool, Error>
         ensures ok { IfOk result (IsRead self.old self.new known.old.numbers.items
@@ -93,7 +93,7 @@ impl Numbers {
         &mut self,
         alloc: Global,
         list: &[PublishedKey],
-        known: &mut Listed,
+        known: &mut NumberList,
         frame: Frame,
     ) -> Result<bool, Error>
         ensures ok { IfOk result (IsRead self.old self.new known.old.numbers.items
@@ -120,7 +120,7 @@ impl Numbers {
             return Ok(true);
         }
         let numbers = self.read_anew(alloc, front, changed, back)?;
-        *known = Listed::of(alloc, numbers)?;
+        *known = NumberList::of(alloc, numbers)?;
         Ok(true)
     }
 
@@ -326,7 +326,7 @@ impl Numbers {
 }
 
 /// A list in three parts: what stands in front of a change, what may have changed, and what stands
-/// behind it.
+/// after it.
 fn parts<T>(list: &[T], frame: Frame) -> (&[T], &[T], &[T])
     ensures whole { list.now ≡ result.0.now ++ (result.1.now ++ result.2.now) }
     ensures framed { (front middle back : List T) → list.now ≡ front ++ (middle ++ back) →

@@ -7,7 +7,7 @@ ghost use Rattle.dnssec_run.specs.Published.{id_of};
 ghost use Rattle.dnssec_judge.specs.Numbers.{Grows, IsTable};
 ghost use Rattle.dnssec_judge.specs.Inner.Window.{IsOther, IsSameLast, StandForSet};
 
-use crate::sets::{Listed, Numbers, OpenSet};
+use crate::sets::{NumberList, Numbers, OpenSet};
 use dnssec_keyset::Error;
 use dnssec_run::{Frame, PublishedKey};
 use std::alloc::Global;
@@ -15,8 +15,8 @@ use std::alloc::Global;
 /// A set by the numbers of its keys and of its signers, each in their order.
 #[derive(Debug, Drop)]
 pub(crate) struct Last {
-    keys: Listed,
-    signers: Listed,
+    keys: NumberList,
+    signers: NumberList,
 }
 
 impl Last {
@@ -25,8 +25,8 @@ impl Last {
         ensures { (t : Numbers) → StandForSet t result ([], []) }
     {
         Last {
-            keys: Listed::none(alloc),
-            signers: Listed::none(alloc),
+            keys: NumberList::none(alloc),
+            signers: NumberList::none(alloc),
         }
     }
 

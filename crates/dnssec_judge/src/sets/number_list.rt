@@ -10,18 +10,18 @@ use std::alloc::Global;
 
 /// A list of numbers, and the set of them: with one more, or one less, only that is written.
 #[derive(Debug, Drop)]
-pub(crate) struct Listed {
+pub(crate) struct NumberList {
     numbers: Vec<usize>,
     bits: Bits,
     ghost same: { (n : ℕ) → has bits n ≡ list_any (λ number. nat_eq number n) numbers.items },
 }
 
-impl Listed {
+impl NumberList {
     /// No numbers.
     pub(crate) fn none(alloc: Global) -> Self
         ensures { result.numbers.items ≡ [] }
     {
-        Listed {
+        NumberList {
             numbers: Vec::new(alloc),
             bits: Bits::new(alloc),
         }
@@ -33,7 +33,7 @@ impl Listed {
         ensures err { IfErr result (λ e. e ≡ OutOfMemory) }
     {
         let bits = Bits::of(alloc, &numbers)?;
-        Ok(Listed { numbers, bits })
+        Ok(NumberList { numbers, bits })
     }
 
     /// The same.
@@ -41,7 +41,7 @@ impl Listed {
         ensures ok { IfOk result (λ list. list.numbers.items ≡ self.now.numbers.items) }
         ensures err { IfErr result (λ e. e ≡ OutOfMemory) }
     {
-        Ok(Listed {
+        Ok(NumberList {
             numbers: self.numbers.clone()?,
             bits: self.bits.try_clone()?,
         })

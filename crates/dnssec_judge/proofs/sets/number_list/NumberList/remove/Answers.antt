@@ -4,7 +4,7 @@ use Rattle.std.proofs.Common.{suc, sym, true, zero, ℕ}
 use Rattle.std.specs.List.{list_any, remove}
 use Rattle.std.proofs.lemmas.Bool.{eqb-true}
 use Rattle.std.specs.Prelude.{◌||◌, get_or, if◌then◌else◌, nat_eq}
-use Rattle.dnssec_judge.proofs.sets.listed.Listed.remove.Goals as goal
+use Rattle.dnssec_judge.proofs.sets.number_list.NumberList.remove.Goals as goal
 
 swap : (a b c : Bool) → (a || (b || c)) ≡ (b || (a || c))
 swap true true c = refl

@@ -4,7 +4,7 @@ use Rattle.std.proofs.Common.{true, zero, ℕ}
 use Rattle.dnssec_judge.specs.Bits.{has_bit}
 use Rattle.std.specs.List.{insert, list_any}
 use Rattle.std.specs.Prelude.{◌||◌, if◌then◌else◌, nat_eq}
-use Rattle.dnssec_judge.proofs.sets.listed.Listed.insert.Goals as goal
+use Rattle.dnssec_judge.proofs.sets.number_list.NumberList.insert.Goals as goal
 
 any-first : (b c : Bool) → (b || c) ≡ (if b then true else c)
 any-first true c = refl

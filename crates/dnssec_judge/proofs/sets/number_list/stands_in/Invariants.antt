@@ -1,7 +1,7 @@
 -- Whether it stands among those so far.
 use Rattle.std.proofs.Common.{◌≡◌, take}
 use Rattle.std.specs.{List.list_any, Prelude.nat_eq}
-use Rattle.dnssec_judge.proofs.sets.listed.stands_in.Given as goal
+use Rattle.dnssec_judge.proofs.sets.number_list.stands_in.Given as goal
 
 abbrev pub invariant-loop-other : goal.invariant-loop-other
 invariant-loop-other l =
