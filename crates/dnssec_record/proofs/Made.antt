@@ -24,8 +24,8 @@ Finds old new found =
 -- the call of one more line
 pub one_made : (P Q : List ℕ → List Call → List Entry → Type 0) {script : List ℕ}
     {old : Lines} {new : Lines} {found : Option Statement} {s : Statement}
-    (h : HasMade script old P) (call : Call) (grown : List Entry) → Finds old new found → found ≡ Some s
-    → call_says call ≡ statement_says s → Q h.name (h.calls ++ call ∷ []) grown
+    (h : HasMade script old P) (call : Call) (grown : List Entry) → Finds old new found
+    → found ≡ Some s → call_says call ≡ statement_says s → Q h.name (h.calls ++ call ∷ []) grown
     → HasMade script new Q
 one_made P Q {script = script} {new = new} h call grown next some is so = record {
   name = h.name;
