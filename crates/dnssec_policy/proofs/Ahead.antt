@@ -31,7 +31,6 @@ use Rattle.dnssec_policy.specs.declared.policy.Scheme.{Scheme}
 use Rattle.dnssec_policy.specs.declared.policy.Scheme.TheVariants.{Split, SingleType}
 use Rattle.dnssec_policy.specs.InProgress.{awaited, end_next, ends_with, once, once_settled}
 use Rattle.dnssec_policy.specs.declared.why.Why.{Why}
-use Rattle.dnssec_policy.specs.declared.why.Why.TheVariants as why
 use Rattle.dnssec_policy.specs.InProgress.{later, once_there, report_next, report_or}
 use Rattle.dnssec_policy.specs.InProgress.{wait_next}
 use Rattle.dnssec_policy.specs.Keys.{first_over, has_left, is_unwanted, ksk_roll, leaves_from}

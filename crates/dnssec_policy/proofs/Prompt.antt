@@ -4,7 +4,6 @@ use Rattle.std.proofs.Common.{Option, None, Some, length, refl, sym, ap, subst, 
 use Rattle.std.proofs.lemmas.Bool.{le-leb}
 use Rattle.std.specs.Prelude.{if◌then◌else◌, Result, Ok, Err, nat_eq, nat_le}
 use Rattle.std.specs.{Option.option_map}
-use Rattle.std.specs.FinMap.{entries}
 use Rattle.dnssec_base.specs.declared.error.Error.{Error}
 use Rattle.dnssec_key.specs.declared.roll.RollState.{RollState}
 use Rattle.dnssec_key.specs.declared.roll.RollState.TheVariants.{Propagation1, CacheExpire1}
