@@ -101,12 +101,18 @@ class Look:
 
 
 def look(due: Due, kinds: Iterable[str], places: Places, now: float) -> Look:
-    """Asks all servers for the sets of these kinds, side by side."""
-    questions = [
-        (kind, type_, server)
-        for kind in kinds for type_ in TYPES[kind] for server in places.of_kind(kind, due.zone)
-    ]
-    answers = asking.side_by_side(
-        lambda it: asking.ask(it[2], places.port, due.zone, it[1]), questions
-    )
-    return Look(due, now, dict(zip(questions, answers)))
+    """Asks all servers for the sets of these kinds: first those of the zone side by side, then
+    those of the parent. So a DS set that is seen was there after the last CDS that a parent could
+    read."""
+    kinds = list(kinds)
+    answers: dict[tuple[str, str, Server], Answer] = {}
+    for of in ([it for it in kinds if it != "ds"], [it for it in kinds if it == "ds"]):
+        questions = [
+            (kind, type_, server)
+            for kind in of for type_ in TYPES[kind] for server in places.of_kind(kind, due.zone)
+        ]
+        given = asking.side_by_side(
+            lambda it: asking.ask(it[2], places.port, due.zone, it[1]), questions
+        )
+        answers |= zip(questions, given)
+    return Look(due, now, answers)

@@ -8,9 +8,11 @@ from collections.abc import Iterator
 from dataclasses import dataclass, field
 from pathlib import Path
 
-from tests.command.attended import passing
+import dns.rdatatype
+
+from tests.command.attended import DAY, passing
 from tests.command.rolling_folder import lines, living
-from tests.command.rolling_world import ZONE, Broken, World
+from tests.command.rolling_world import PARENT_TTL, ZONE, Broken, World
 from tests.command.terminal import folder, typed
 
 SCRIPT, ROLL = f"{ZONE}.script", "ksk-roll"
@@ -30,6 +32,24 @@ class Late(World):
     is_back: range = range(0)
     since: int | None = None
     before: frozenset = field(default_factory=frozenset)
+    turns: bool = False
+
+    def exchange(self, query, address: str, port: int):
+        """The response of a server. If the parent turns, CDS leaves as a server is asked for it."""
+        if self.turns and query.question[0].rdtype in (dns.rdatatype.CDS, dns.rdatatype.CDNSKEY):
+            self.turns = False
+            self.leave()
+        return super().exchange(query, address, port)
+
+    def leave(self) -> None:
+        """CDS leaves all servers, and the parent has gone back just before that."""
+        self.ds = self.before
+        old = {"DS": [(PARENT_TTL, it) for it in sorted(self.before)]}
+        self.parent.given = dict.fromkeys(self.parent.given, old)
+        self.zone.given = {
+            name: {kind: of for kind, of in sets.items() if kind not in ("CDS", "CDNSKEY")}
+            for name, sets in self.zone.given.items()
+        }
 
     def gives_cds(self) -> bool:
         """Whether a server of the zone gives CDS or CDNSKEY, also one that doesn't answer us."""
@@ -142,4 +162,18 @@ def typed_next(world: Late, row: Row) -> str:
     return said
 
 
-CHECKS = (by_hand,)
+def turned() -> Iterator[str]:
+    """A parent that goes back as CDS leaves hasn't the DS set, though it gave that before."""
+    world, row = Late(), Row("it turns", person=DAY)
+    with folder(), living(world, ""):
+        list(passing(world, 3600))
+        begin(world)
+        while COUNTS not in typed_next(world, row):
+            world.passes(EVERY)
+        before, world.turns = of_ds(), True
+        said, _ = typed(["watch", SCRIPT, *SERVERS], world.now)
+        if world.turns or of_ds() != before:
+            yield f"it notes {of_ds()}: {said}"
+
+
+CHECKS = (by_hand, turned)
