@@ -47,3 +47,9 @@ returns-in_err-statement-clause-err c =
     let p = err_from_is_err_and r c.from_residual-in_err-statement.ensures.1 in
     rw (p.1, p.2) (answer_fault c.args.script.now _
     (c.in_err-statement.ensures.err c.args.script.now h.name h.calls h.read))
+
+pub returns-in_err-push_answer-clause-err : goal.returns-in_err-push_answer-clause-err
+returns-in_err-push_answer-clause-err c =
+    let r = c.from_residual-in_err-push_answer.result in
+    let p = err_from_is_err_and r c.from_residual-in_err-push_answer.ensures.1 in
+    rw (p.1, p.2) c.in_ok-name.ensures.zone

@@ -44,3 +44,8 @@ pub returns-in_err-answer-clause-memory : goal.returns-in_err-answer-clause-memo
 returns-in_err-answer-clause-memory c =
     if-err c.from_residual-in_err-answer.result
     (speaks c.args.line.now _ c.in-Some.statement c.in_ok-statement.ensures.read c.in-Some.is)
+
+pub returns-in_err-reply-clause-memory : goal.returns-in_err-reply-clause-memory
+returns-in_err-reply-clause-memory c =
+    if-err c.from_residual-in_err-reply.result
+    (speaks c.args.line.now _ c.in-Some.statement c.in_ok-statement.ensures.read c.in-Some.is)
