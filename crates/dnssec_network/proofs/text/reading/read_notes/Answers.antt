@@ -1,5 +1,6 @@
 -- The first line, and the others, one by one.
 use Rattle.std.proofs.Common.{◌≡◌, ℕ, ◌+◌, ◌==◌, ◌∙◌, List, [], ◌∷◌, ap, arith, inl, inr, length}
+use Rattle.std.proofs.Common.{Option, Some}
 use Rattle.std.proofs.Common.{refl, rules, subst, sym, tests}
 use Rattle.std.proofs.lemmas.Iterator.{YieldsList}
 use Rattle.std.proofs.lemmas.Iterator.Consumers.{YieldsList-end, YieldsList-so_far, YieldsList-turn}
@@ -8,7 +9,6 @@ use Rattle.std.proofs.lemmas.List.{get_or_default, length_push, map-append}
 use Rattle.std.proofs.lemmas.Result.{err_from_is_err_and}
 use Rattle.std.specs.Option.{option_map}
 use Rattle.dnssec_network.specs.Notes.{NotesParts}
-use Rattle.dnssec_script.proofs.Cuts.{first_yielded}
 use Rattle.dnssec_script.specs.Script.{lines_of, without_end}
 use Rattle.dnssec_network.proofs.Texts.Noting.{facts-more, lines-fit}
 use Rattle.dnssec_network.specs.Text.Lines.{before_says}
@@ -17,6 +17,16 @@ use Rattle.dnssec_network.specs.declared.text.fault.NotesFault.TheVariants.{Malf
 use Rattle.dnssec_network.proofs.text.reading.read_notes.Goals as goal
 use Rattle.dnssec_network.proofs.text.reading.read_notes.Given.{iterator-loop-line}
 use Rattle.dnssec_network.proofs.text.reading.read_notes.Goals.{In-Some}
+
+-- the first item of an iterator whose list is known, and the others
+first_yielded : {S A B : Type 0} {steps : S → Option A → S → Type 0} {v : A → B} {s : S}
+    {all : List B} → YieldsList steps v s all → (r : Option A) (u t : S) (x : A) → r ≡ Some x
+    → steps s r u → t ≡ u → (rest : List B) × (all ≡ v x ∷ rest) × YieldsList steps v t rest
+first_yielded {steps = steps} {s = s} {all = []} e r u t x is step same =
+    absurd (e.runs x u (subst (λ r. steps s r u) is step))
+first_yielded {steps = steps} {s = s} {all = y ∷ ys} e r u t x is step same =
+    let m = e.runs.1 x t (subst (λ r. steps s r t) is (subst (steps s r) (sym same) step)) in
+    (ys, (λ i. sym m.0 i ∷ ys), record { runs = m.1 })
 
 -- the first line, and the others, which an iterator over the lines then gives
 first_line : (c : In-Some) (t : _) → t ≡ c.next.new.self → (rest : List (List ℕ))
