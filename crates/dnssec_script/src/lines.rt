@@ -91,13 +91,6 @@ fn zone_name(alloc: Global, text: &[u8]) -> Result<Option<Name<Vec<u8>>>, AllocE
 
 /// The lines of a script that are not read yet. Each is read when its turn comes, so no list of
 /// them takes memory.
-///
-/// ```rust
-/// let (name, mut lines) = Lines::begin(alloc, script)?;
-/// while let Some(statement) = lines.next(alloc)? {
-///     statement.advance(alloc, &mut recorder)?;
-/// }
-/// ```
 #[derive(Drop)]
 pub struct Lines<'a> {
     /// What comes after the lines that were read; none after the last one.
