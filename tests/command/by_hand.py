@@ -145,8 +145,8 @@ def act(world: World, *options: str) -> str:
 
 def typed_next(world: Late, row: Row) -> str:
     """What a person types now, by what `status` and `watch` say: what that prints."""
-    told, _ = typed(["status", SCRIPT, "--json"], world.now)
-    (roll,) = json.loads(told)[0]["rolls"]
+    status_now, _ = typed(["status", SCRIPT, "--json"], world.now)
+    (roll,) = json.loads(status_now)[0]["rolls"]
     if roll["next"].startswith("wait"):
         said, status = typed(["call", SCRIPT, f"{roll['next']} {ROLL} now"], world.now)
         return said if status else said + act(world)
