@@ -13,7 +13,8 @@ use Rattle.dnssec_key.specs.declared.kind.KeyType.TheVariants.{Ksk, Zsk, Csk, In
 use Rattle.dnssec_key.specs.Key.{ksk, zsk, every_key, ksk_role, zsk_role, any_key, zone_key}
 use Rattle.dnssec_key.specs.Key.{either, KeyParts}
 pub use Rattle.dnssec_key.specs.Stamping.{Writes, writes_nothing, stamps_after}
-use Rattle.dnssec_key.specs.declared.roll.Half.{Half as HalfOfCode}
+use Rattle.dnssec_key.specs.declared.roll.Half.{Half}
+use Rattle.dnssec_key.specs.declared.roll.Half.TheVariants.{First, Second}
 use Rattle.dnssec_key.specs.declared.roll.Action.{Action}
 use Rattle.dnssec_key.specs.declared.roll.Action.TheVariants.{ReportDnskeyPropagated, UpdateRrsig}
 use Rattle.dnssec_key.specs.declared.roll.Action.TheVariants.{ReportRrsigPropagated, RemoveCdsRrset}
@@ -28,7 +29,6 @@ use Rattle.dnssec_key.specs.declared.roll.RollType.TheVariants.{AlgorithmRoll}
 use Rattle.dnssec_key.specs.declared.roll.RollState.{RollState}
 use Rattle.dnssec_key.specs.declared.roll.RollState.TheVariants.{CacheExpire1, CacheExpire2}
 use Rattle.dnssec_key.specs.declared.roll.RollState.TheVariants.{Propagation2, Done, Propagation1}
-use Rattle.dnssec_key.specs.declared.roll.Half.TheVariants as code
 
 -- ---- what happens to one role, in the operator's words
 
@@ -111,20 +111,10 @@ at_zsk f = only (zsk is_any) (at_roles stays f)
 
 -- ---- the columns
 
--- the two halves of a roll
-pub data Half : Type 0 where
-  First : Half
-  Second : Half
-
--- the half that the code means
-abbrev pub which : HalfOfCode → Half
-which code.First = First
-which code.Second = Second
-
--- whether it is the second one
-abbrev pub is_second : HalfOfCode → Bool
-is_second code.First = false
-is_second code.Second = true
+-- whether it is the second half of a roll, as a report says it
+abbrev pub is_second : Half → Bool
+is_second First = false
+is_second Second = true
 
 -- half of a roll: a change spreads and is reported, then old data leaves the caches
 pub record HalfRoll : Type 0 where

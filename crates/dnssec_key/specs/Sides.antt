@@ -1,7 +1,8 @@
 -- Which keys a roll changes, what its start has to leave, whether it may change algorithms, and
 -- which waits change keys that stay (RFC 6781, section 4.1).
 use Rattle.std.specs.Prelude.{Bool, true, false, List, [], ◌∷◌}
-use Rattle.dnssec_key.specs.RollTable.{Half, First}
+use Rattle.dnssec_key.specs.declared.roll.Half.{Half}
+use Rattle.dnssec_key.specs.declared.roll.Half.TheVariants.{First}
 use Rattle.dnssec_key.specs.declared.roll.Side.{Side}
 use Rattle.dnssec_key.specs.declared.roll.Side.TheVariants.{KskSide, ZskSide, BothSides}
 use Rattle.dnssec_key.specs.declared.roll.Want.{Want}

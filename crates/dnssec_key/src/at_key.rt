@@ -4,7 +4,7 @@
 ghost use Rattle.std.specs.Prelude.{◌≡◌, false};
 ghost use Rattle.std.specs.Option.{option_map_or};
 ghost use Rattle.dnssec_key.specs.RollTable.{at_roles, comes_in_signing, leaves_dnskey};
-ghost use Rattle.dnssec_key.specs.RollTable.{which, half_of, after_report, after_wait};
+ghost use Rattle.dnssec_key.specs.RollTable.{half_of, after_report, after_wait};
 ghost use Rattle.dnssec_key.specs.RollTable.{new_at_start, old_at_start, new_at_early_end};
 ghost use Rattle.dnssec_key.specs.RollTable.{old_at_early_end};
 ghost use Rattle.dnssec_key.specs.Setters.{setting_of, set_by};
@@ -276,7 +276,7 @@ pub fn unmark_new(key: &mut Key, roll: RollType)
 
 /// A report of a roll is made.
 pub fn stamp_report(key: &mut Key, roll: RollType, half: Half, now: UnixTime)
-    ensures { key.new ≡ after_report roll (which half) now key.old }
+    ensures { key.new ≡ after_report roll half now key.old }
 {
     let report = roll.half(half).report;
     write_stamps(report, &key.keytype, now, &mut key.timestamps);
@@ -284,7 +284,7 @@ pub fn stamp_report(key: &mut Key, roll: RollType, half: Half, now: UnixTime)
 
 /// A wait of a roll is over.
 pub fn move_on(key: &mut Key, roll: RollType, half: Half, now: UnixTime)
-    ensures { key.new ≡ after_wait roll (which half) now key.old }
+    ensures { key.new ≡ after_wait roll half now key.old }
 {
     let half_roll = roll.half(half);
     write_stamps(half_roll.writes, &key.keytype, now, &mut key.timestamps);
@@ -294,7 +294,7 @@ pub fn move_on(key: &mut Key, roll: RollType, half: Half, now: UnixTime)
 /// Whether a wait checks the key.
 #[inline(always)]
 pub fn is_checked(key: &Key, roll: RollType, half: Half) -> bool
-    ensures { result ≡ (half_of roll (which half)).checks key.now.keytype }
+    ensures { result ≡ (half_of roll half).checks key.now.keytype }
 {
     roll.half(half).checks.has(&key.keytype)
 }

@@ -1,6 +1,6 @@
 //! Rolls: their kinds, their phases, their halves, and what they ask of the operator.
 ghost use Rattle.std.specs.Prelude.{◌≡◌};
-ghost use Rattle.dnssec_key.specs.RollTable.{which, after_expiry, cache_expire, is_second};
+ghost use Rattle.dnssec_key.specs.RollTable.{after_expiry, cache_expire, is_second};
 
 /// The kind of a roll (RFC 6781, section 4.1).
 #[derive(Clone, Copy, Debug, PartialEq, Eq, Hash)]
@@ -112,7 +112,7 @@ impl Half {
 
     /// The phase in which old data leaves the caches, which hold it for at most `ttl` seconds.
     pub fn cache_expire(self, ttl: u32) -> RollState
-        ensures { result ≡ cache_expire (which self) ttl }
+        ensures { result ≡ cache_expire self ttl }
     {
         match self {
             Half::First => RollState::CacheExpire1(ttl),
@@ -122,7 +122,7 @@ impl Half {
 
     /// The phase after the wait.
     pub fn after_expiry(self) -> RollState
-        ensures { result ≡ after_expiry (which self) }
+        ensures { result ≡ after_expiry self }
     {
         match self {
             Half::First => RollState::Propagation2,

@@ -4,8 +4,8 @@
 #![tactic(auto, unfolding(crate::specs::RollTable::column))]
 
 ghost use Rattle.std.specs.Prelude.{◌≡◌};
-ghost use Rattle.dnssec_key.specs.RollTable.{which, column, half_of, actions_of};
-ghost use Rattle.dnssec_key.specs.RollTable.{First as TheFirst, Second as TheSecond};
+ghost use Rattle.dnssec_key.specs.RollTable.{column, half_of, actions_of};
+ghost use Rattle.dnssec_key.specs.declared.roll.Half.TheVariants.{First as TheFirst, Second as TheSecond};
 ghost use Rattle.dnssec_key.specs.Sides.{side_of, wants, may_change_algorithms, wait_moves_kept};
 ghost use Rattle.dnssec_key.specs.Texts.{roll_name, NamesRoll};
 ghost use Rattle.dnssec_key.specs.Inner.Columns.{half_roll_of, column_of};
@@ -295,8 +295,8 @@ impl RollType {
 
     /// A half of it.
     pub(crate) fn half(self, half: Half) -> &'static HalfRoll
-        ensures means { half_roll_of result.now ≡ half_of self (which half) }
-        ensures kept { result.now.moves_kept ≡ wait_moves_kept self (which half) }
+        ensures means { half_roll_of result.now ≡ half_of self half }
+        ensures kept { result.now.moves_kept ≡ wait_moves_kept self half }
     {
         match half {
             Half::First => &self.column().first,
@@ -326,14 +326,14 @@ impl RollType {
 
 /// The stamp that a wait reads.
 pub fn stamp_read(roll: RollType, half: Half) -> Stamp
-    ensures { result ≡ (half_of roll (which half)).reads }
+    ensures { result ≡ (half_of roll half).reads }
 {
     roll.half(half).reads
 }
 
 /// Whether a wait may change which keys that stay are in the DNSKEY set or have a DS.
 pub fn wait_moves_kept(roll: RollType, half: Half) -> bool
-    ensures { result ≡ wait_moves_kept roll (which half) }
+    ensures { result ≡ wait_moves_kept roll half }
 {
     roll.half(half).moves_kept
 }

@@ -1,7 +1,9 @@
 -- What starts have listed, after each call: the entries that are kept agree with the keys, and mean
 -- the lists of the step.
 use Rattle.std.proofs.Common.{arith, ◌≡◌, ℕ, not, List, [], Some, None, Ok, Err, refl, sym, ap}
-use Rattle.dnssec_key.specs.RollTable.{Half, First, Second, after_start, after_report, after_wait}
+use Rattle.dnssec_key.specs.declared.roll.Half.{Half}
+use Rattle.dnssec_key.specs.declared.roll.Half.TheVariants.{First, Second}
+use Rattle.dnssec_key.specs.RollTable.{after_start, after_report, after_wait}
 use Rattle.dnssec_zone.specs.Inner.Entries.{EntriesAgree, lists_of, without_tag, without_roll}
 use Rattle.dnssec_zone.specs.Inner.Entries.{entries_at_start, entries_after_report, has_entry}
 use Rattle.dnssec_zone.specs.Lists.{Lists, listed_by, without, with_listed, listed_at_start}

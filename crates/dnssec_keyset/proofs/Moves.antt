@@ -1,7 +1,9 @@
 -- A call on a roll, as a change of each key and of the phase and the lists of its roll.
 use Rattle.std.proofs.Common.{arith, ◌≡◌, ℕ, Bool, List, Some, None, refl, sym, subst}
 use Rattle.std.specs.Prelude.{Option, IfSome}
-use Rattle.dnssec_key.specs.RollTable.{Half, Second, after_start, after_report, after_wait}
+use Rattle.dnssec_key.specs.declared.roll.Half.{Half}
+use Rattle.dnssec_key.specs.declared.roll.Half.TheVariants.{Second}
+use Rattle.dnssec_key.specs.RollTable.{after_start, after_report, after_wait}
 use Rattle.dnssec_key.specs.RollTable.{after_expiry, after_early_end, cache_expire}
 use Rattle.dnssec_key.specs.declared.roll.{RollType.RollType, RollState.RollState}
 use Rattle.dnssec_key.specs.{declared.roll.RollState.TheVariants.Propagation1, Key.KeyParts}

@@ -6,7 +6,9 @@ use Rattle.dnssec_base.specs.declared.error.Error.TheVariants.{WrongKeyState}
 use Rattle.dnssec_zone.specs.{Wait.ttl_in, Wait.Barred, Wait.wait_in_phase, Wait.LacksStamp}
 use Rattle.dnssec_zone.specs.{Rolls.phase_of}
 use Rattle.dnssec_zone.proofs.Tests.{some_or_none}
-use Rattle.dnssec_key.specs.RollTable.{Half, First, Second, cache_expire}
+use Rattle.dnssec_key.specs.declared.roll.Half.{Half}
+use Rattle.dnssec_key.specs.declared.roll.Half.TheVariants.{First, Second}
+use Rattle.dnssec_key.specs.RollTable.{cache_expire}
 use Rattle.dnssec_key.specs.{declared.roll.RollType.RollType, declared.roll.RollState.RollState}
 use Rattle.dnssec_base.specs.declared.error.Error.{Error}
 use Rattle.dnssec_keyset.specs.{declared.set.KeySet.TheInside.Inside as SetInside}

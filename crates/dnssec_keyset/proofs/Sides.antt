@@ -5,7 +5,8 @@ use Rattle.dnssec_zone.specs.Start.{is_listed, lists_kind, new_fault, old_entry_
 use Rattle.std.proofs.Common.{◌∙◌}
 use Rattle.dnssec_keyset.proofs.{Moves.key_after, Moves.moves-on, Laws.no_cause, Laws.step-keeps}
 use Rattle.dnssec_zone.specs.{Start.side_of, Wait.Clear}
-use Rattle.dnssec_key.specs.{RollTable.Half, RollTable.column, RollTable.half_of}
+use Rattle.dnssec_key.specs.declared.roll.Half.{Half}
+use Rattle.dnssec_key.specs.{RollTable.column, RollTable.half_of}
 use Rattle.dnssec_key.specs.{RollTable.after_start, declared.kind.KeyType.KeyType}
 use Rattle.dnssec_key.specs.{declared.roll.RollType.RollType, Key.KeyParts}
 use Rattle.std.specs.{Prelude.Option, Option.option_map, Cmp.Lexicographic.bytes_decides}

@@ -13,7 +13,8 @@ use Rattle.std.specs.Str.{bytes_eq}
 use Rattle.dnssec_base.specs.declared.error.Error.{Error}
 use Rattle.dnssec_base.specs.declared.error.Error.TheVariants.{Wait as WaitFor, OutOfMemory}
 use Rattle.dnssec_key.specs.declared.roll.RollType.{RollType}
-use Rattle.dnssec_key.specs.RollTable.{Half, column, actions_of, after_expiry, after_start}
+use Rattle.dnssec_key.specs.declared.roll.Half.{Half}
+use Rattle.dnssec_key.specs.RollTable.{column, actions_of, after_expiry, after_start}
 use Rattle.dnssec_key.specs.RollTable.{after_report, after_early_end, after_wait, cache_expire}
 use Rattle.dnssec_key.specs.declared.roll.Action.{Action}
 use Rattle.dnssec_key.specs.Key.{KeyParts}

@@ -4,7 +4,7 @@
 use Rattle.std.specs.Prelude.{◌≡◌, ℕ, Some, ◌*◌, ◌^◌, ◌≤◌, Option, None}
 use Rattle.dnssec_base.specs.declared.error.Error.{Error}
 use Rattle.dnssec_key.specs.declared.roll.RollType.{RollType}
-use Rattle.dnssec_key.specs.RollTable.{Half}
+use Rattle.dnssec_key.specs.declared.roll.Half.{Half}
 use Rattle.dnssec_zone.specs.Rolls.{phase_of}
 use Rattle.dnssec_zone.specs.Wait.{ttl_in, IsOverFrom, Barred}
 use Rattle.dnssec_keyset.specs.KeySet.{KeySetParts}

@@ -1,7 +1,8 @@
 //! The calls of a roll.
 ghost use Rattle.std.specs.Prelude.{◌≡◌, [], IfOk, IsOk, IsOkUnless};
 ghost use Rattle.dnssec_base.specs.declared.error.Error.TheVariants.{OutOfMemory};
-ghost use Rattle.dnssec_key.specs.RollTable.{which, First, Second, actions_due};
+ghost use Rattle.dnssec_key.specs.declared.roll.Half.TheVariants.{First, Second};
+ghost use Rattle.dnssec_key.specs.RollTable.{actions_due};
 ghost use Rattle.dnssec_zone.specs.{Refusals.AnswersExactly, Rolls.phase_of, Start.texts};
 ghost use Rattle.dnssec_keyset.specs.Step.{Step, StartRoll, Report, Wait, RollDone, AbortRoll};
 ghost use Rattle.dnssec_keyset.specs.Step.{reply_list, start_refusal};
@@ -247,7 +248,7 @@ impl KeySet {
         ttl: u32,
         now: &UnixTime,
     ) -> Result<Vec<Action>, Error>
-        ensures { Step self.old (Report rolltype (which half) ttl now.now)
+        ensures { Step self.old (Report rolltype half ttl now.now)
             (reply_list result) self.new }
     {
         // A report takes no memory, so one step checks the phase and writes it.
@@ -264,7 +265,7 @@ impl KeySet {
         half: Half,
         now: &UnixTime,
     ) -> Result<Vec<Action>, Error>
-        ensures { Step self.old (Wait rolltype (which half) now.now) (reply_list result) self.new }
+        ensures { Step self.old (Wait rolltype half now.now) (reply_list result) self.new }
     {
         self.check_wait(rolltype, half, now)?;
         let actions = list(self.alloc, rolltype.actions_in(half.after_expiry()))?;

@@ -1,7 +1,6 @@
 //! When a wait is over, and why it is refused before. Nothing is changed here.
 ghost use Rattle.std.specs.Prelude.{◌≡◌, ◌-◌, ◌*◌, ◌^◌, ◌≤◌, min, OnOk, IsSome, IfSome, IfNone};
 ghost use Rattle.std.specs.Duration.{as_nanos};
-ghost use Rattle.dnssec_key.specs.RollTable.{which};
 ghost use Rattle.dnssec_zone.specs.Rolls.{phase_of};
 ghost use Rattle.dnssec_keyset.specs.Step.{AnswersWait, wait_clearance};
 ghost use Rattle.dnssec_keyset.specs.WaitEnd.{EndsAt, HasNoWait, TellsEnd};
@@ -44,8 +43,8 @@ impl KeySet {
     /// is missing.
     fn over_from(&self, rolltype: RollType, half: Half, ttl: u32) -> Option<u128>
         ensures over { IfSome result (λ end.
-            IsOverFrom rolltype (which half) ttl self.now.keys end) }
-        ensures missing { IfNone result (LacksStamp rolltype (which half) ttl self.now.keys) }
+            IsOverFrom rolltype half ttl self.now.keys end) }
+        ensures missing { IfNone result (LacksStamp rolltype half ttl self.now.keys) }
     {
         self.keys.over_from(rolltype, half, ttl)
     }
@@ -58,7 +57,7 @@ impl KeySet {
         half: Half,
         now: &UnixTime,
     ) -> Result<(), Error>
-        ensures reply { AnswersWait (wait_clearance rolltype (which half) now.now self.old) result }
+        ensures reply { AnswersWait (wait_clearance rolltype half now.now self.old) result }
         ensures there { OnOk result (IsSome (phase_of self.old.rolls rolltype)) }
         ensures same { self.new ≡ self.old }
     {

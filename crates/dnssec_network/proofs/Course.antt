@@ -17,7 +17,8 @@ use Rattle.dnssec_key.specs.declared.roll.RollState.TheVariants.{CacheExpire1, C
 use Rattle.dnssec_key.specs.declared.roll.RollState.TheVariants.{Done, Propagation1, Propagation2}
 use Rattle.dnssec_key.specs.declared.roll.RollType.TheVariants.{AlgorithmRoll}
 use Rattle.dnssec_key.specs.Key.{KeyParts, new_key, new_state}
-use Rattle.dnssec_key.specs.RollTable.{First, Second, after_report, after_start, after_wait, column}
+use Rattle.dnssec_key.specs.declared.roll.Half.TheVariants.{First, Second}
+use Rattle.dnssec_key.specs.RollTable.{after_report, after_start, after_wait, column}
 use Rattle.dnssec_zone.specs.Start.{is_listed}
 use Rattle.dnssec_run.specs.declared.call.Call.{Call}
 use Rattle.dnssec_run.specs.declared.call.Call.TheVariants.{AddKeyKsk, AddKeyZsk, CacheExpired1}

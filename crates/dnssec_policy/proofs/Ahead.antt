@@ -11,7 +11,9 @@ use Rattle.dnssec_key.specs.declared.roll.RollState.TheVariants.{Propagation2, C
 use Rattle.dnssec_key.specs.declared.roll.RollType.{RollType}
 use Rattle.dnssec_key.specs.declared.roll.RollType.TheVariants.{AlgorithmRoll, CskRoll}
 use Rattle.dnssec_key.specs.Key.{KeyParts}
-use Rattle.dnssec_key.specs.RollTable.{Half, First, Second}
+use Rattle.dnssec_key.specs.declared.roll.Half.{Half}
+use Rattle.dnssec_key.specs.declared.roll.Half.TheVariants.{First, Second}
+use Rattle.dnssec_key.specs.RollTable.{is_second}
 use Rattle.dnssec_zone.specs.Keys.{some_key}
 use Rattle.dnssec_zone.specs.Rolls.{all_rolls, phase_of}
 use Rattle.dnssec_keyset.specs.Step as keyset
@@ -20,7 +22,7 @@ use Rattle.dnssec_keyset.specs.declared.wait.WaitEnd.TheVariants.{At, PastTime}
 use Rattle.dnssec_run.specs.declared.caches.SetKind.{SetKind}
 use Rattle.dnssec_run.specs.declared.caches.SetKind.TheVariants.{Ds, Dnskey, ZoneSigners}
 use Rattle.dnssec_run.specs.declared.{steps.LastStep.LastStep, steps.Origins.Origins}
-use Rattle.dnssec_run.specs.{Safe.kind_of, Steps.origin_in, WholeRolls.is_second}
+use Rattle.dnssec_run.specs.{Safe.kind_of, Steps.origin_in}
 use Rattle.dnssec_network.specs.declared.reach.Reach.{Reach}
 use Rattle.dnssec_network.specs.declared.reach.Reach.TheVariants.{Unpublished, Spreading}
 use Rattle.dnssec_network.specs.declared.reach.Reach.TheVariants.{Everywhere}

@@ -4,7 +4,9 @@ use Rattle.dnssec_key.specs.{Key.all_states, State.is_stale}
 use Rattle.std.proofs.Common.{◌≡◌, ℕ, ◌≤◌, Option, None, Some, refl, sym, ap, ◌∙◌, arith}
 use Rattle.dnssec_key.specs.declared.roll.RollState.{RollState}
 use Rattle.dnssec_key.specs.declared.roll.RollType.{RollType}
-use Rattle.dnssec_key.specs.RollTable.{Half, First, Second, cache_expire}
+use Rattle.dnssec_key.specs.declared.roll.Half.{Half}
+use Rattle.dnssec_key.specs.declared.roll.Half.TheVariants.{First, Second}
+use Rattle.dnssec_key.specs.RollTable.{cache_expire}
 use Rattle.dnssec_zone.specs.Rolls.{phase_of}
 use Rattle.dnssec_zone.specs.Refusals.{end_refusal, report_refusal}
 use Rattle.dnssec_zone.specs.Wait.{Clear, ttl_in, wait_in_phase, barred_by}

@@ -9,7 +9,9 @@ use Rattle.std.specs.Option.{option_map}
 use Rattle.dnssec_key.specs.declared.roll.RollState.{RollState}
 use Rattle.dnssec_key.specs.declared.roll.RollState.TheVariants.{Done}
 use Rattle.dnssec_key.specs.declared.roll.RollType.{RollType}
-use Rattle.dnssec_key.specs.RollTable.{Half, First, Second, cache_expire}
+use Rattle.dnssec_key.specs.declared.roll.Half.{Half}
+use Rattle.dnssec_key.specs.declared.roll.Half.TheVariants.{First, Second}
+use Rattle.dnssec_key.specs.RollTable.{cache_expire, is_second}
 use Rattle.dnssec_zone.specs.Rolls.{phase_of, same_roll}
 use Rattle.dnssec_zone.specs.Start.{together}
 use Rattle.dnssec_zone.specs.Wait.{ttl_in, wait_in_phase}
@@ -27,7 +29,7 @@ use Rattle.dnssec_run.specs.Record.{IsRun, call_moment, call_of, is_accepted, wo
 use Rattle.dnssec_run.specs.Safe.{SetKind, Ds, Dnskey, ZoneSigners, base_below}
 use Rattle.dnssec_run.specs.Safe.{position_at, retires}
 use Rattle.dnssec_run.specs.Steps.{step_at}
-use Rattle.dnssec_run.specs.WholeRolls.{LastReport, NeverFalls, counts_from, is_second, propagation}
+use Rattle.dnssec_run.specs.WholeRolls.{LastReport, NeverFalls, counts_from, propagation}
 use Rattle.dnssec_run.specs.WholeRolls as rolls
 use Rattle.dnssec_run.proofs.Chain.Rolls.{same-same, same-sym}
 use Rattle.dnssec_run.proofs.Chain.Trust.{mark, plainly}

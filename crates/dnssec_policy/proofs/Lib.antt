@@ -21,7 +21,6 @@
 -- | `nothing_is_silent`              | `outspoken`                           | Silence    |
 -- | `rest_is_as_wanted`              | `as-wanted`                           | Rests      |
 -- | `automatic_runs_grow`            | `grows`                               | Growing    |
-pub mod Halves
 pub mod May
 pub mod Said
 pub mod Accepted

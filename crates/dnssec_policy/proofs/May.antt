@@ -7,7 +7,7 @@ use Rattle.dnssec_key.specs.declared.roll.RollState.TheVariants.{Done}
 use Rattle.dnssec_key.specs.declared.roll.RollType.{RollType}
 use Rattle.dnssec_key.specs.declared.roll.RollType.TheVariants.{AlgorithmRoll}
 use Rattle.dnssec_key.specs.Key.{KeyParts}
-use Rattle.dnssec_key.specs.RollTable.{cache_expire}
+use Rattle.dnssec_key.specs.RollTable.{cache_expire, is_second}
 use Rattle.dnssec_zone.specs.Keys.{some_key}
 use Rattle.dnssec_zone.specs.Rolls.{phase_of}
 use Rattle.dnssec_keyset.specs.Step as keyset
@@ -15,7 +15,7 @@ use Rattle.dnssec_keyset.specs.declared.wait.WaitEnd.TheVariants.{At}
 use Rattle.dnssec_run.specs.declared.caches.SetKind.{SetKind}
 use Rattle.dnssec_run.specs.declared.steps.LastStep.{LastStep}
 use Rattle.dnssec_run.specs.{Steps.origin_in}
-use Rattle.dnssec_run.specs.WholeRolls.{is_second, propagation}
+use Rattle.dnssec_run.specs.WholeRolls.{propagation}
 use Rattle.dnssec_network.specs.declared.reach.Reach.TheVariants.{Everywhere}
 use Rattle.dnssec_network.specs.Reports.{due}
 use Rattle.dnssec_policy.specs.declared.policy.Policy.{Policy}

@@ -6,7 +6,8 @@ use Rattle.std.proofs.lemmas.Option.{none-some, slice_get_past}
 use Rattle.std.specs.Option.{option_map}
 use Rattle.std.specs.Prelude.{◌+◌, ◌≤◌, ◌⊎◌, Ok, false, if◌then◌else◌, max, slice_get}
 use Rattle.dnssec_key.specs.declared.roll.RollType.{RollType}
-use Rattle.dnssec_key.specs.RollTable.{First, Second}
+use Rattle.dnssec_key.specs.declared.roll.Half.TheVariants.{First, Second}
+use Rattle.dnssec_key.specs.RollTable.{is_second}
 use Rattle.dnssec_keyset.specs.Step as keyset
 use Rattle.dnssec_run.specs.declared.call.Call.{Call}
 use Rattle.dnssec_run.specs.declared.record.Entry.{Entry}
@@ -15,7 +16,6 @@ use Rattle.dnssec_run.specs.declared.steps.LastStep.{LastStep}
 use Rattle.dnssec_run.specs.{Origins.origin, Steps.last_step, Steps.origin_in, Steps.step_at}
 use Rattle.dnssec_run.specs.Record.{IsRun, call_moment, call_of}
 use Rattle.dnssec_run.specs.Safe.{SetKind, Ds, ZoneSigners, base_below, position_at, retires}
-use Rattle.dnssec_run.specs.WholeRolls.{is_second}
 use Rattle.dnssec_run.proofs.Chain.Trust.{mark, moment, plainly}
 use Rattle.dnssec_run.proofs.Laws.{made-at}
 use Rattle.dnssec_run.proofs.Since.{origin-of}

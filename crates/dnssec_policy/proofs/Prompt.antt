@@ -9,7 +9,9 @@ use Rattle.dnssec_key.specs.declared.roll.RollState.{RollState}
 use Rattle.dnssec_key.specs.declared.roll.RollState.TheVariants.{Propagation1, CacheExpire1}
 use Rattle.dnssec_key.specs.declared.roll.RollState.TheVariants.{Propagation2, CacheExpire2, Done}
 use Rattle.dnssec_key.specs.declared.roll.RollType.{RollType}
-use Rattle.dnssec_key.specs.RollTable.{Half, First, Second, cache_expire}
+use Rattle.dnssec_key.specs.declared.roll.Half.{Half}
+use Rattle.dnssec_key.specs.declared.roll.Half.TheVariants.{First, Second}
+use Rattle.dnssec_key.specs.RollTable.{cache_expire, is_second}
 use Rattle.dnssec_zone.specs.Rolls.{phase_of}
 use Rattle.dnssec_zone.specs.Wait.{longest_left}
 use Rattle.dnssec_zone.specs.Wait as waits
@@ -24,7 +26,7 @@ use Rattle.dnssec_run.specs.declared.caches.SetKind.TheVariants.{Ds, Dnskey, Zon
 use Rattle.dnssec_run.specs.declared.record.Entry.{Entry}
 use Rattle.dnssec_run.specs.declared.{steps.LastStep.LastStep, steps.Origins.Origins}
 use Rattle.dnssec_run.specs.Record.{IsRun, world_at}
-use Rattle.dnssec_run.specs.{Safe.kind_of, Steps.origin_in, Steps.step_at, WholeRolls.is_second}
+use Rattle.dnssec_run.specs.{Safe.kind_of, Steps.origin_in, Steps.step_at}
 use Rattle.dnssec_run.proofs.Premise.{sets-nothing}
 use Rattle.dnssec_run.proofs.WholeRolls.Order.{by-time, in-order}
 use Rattle.dnssec_network.specs.declared.reach.Reach.{Reach}

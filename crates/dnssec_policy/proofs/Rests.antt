@@ -13,7 +13,9 @@ use Rattle.dnssec_key.specs.declared.roll.RollType.TheVariants.{AlgorithmRoll}
 use Rattle.dnssec_key.specs.declared.kind.KeyType.{KeyType}
 use Rattle.dnssec_key.specs.Key.{KeyParts, all_states}
 use Rattle.dnssec_key.specs.State.{is_stale}
-use Rattle.dnssec_key.specs.RollTable.{Half, First, Second}
+use Rattle.dnssec_key.specs.declared.roll.Half.{Half}
+use Rattle.dnssec_key.specs.declared.roll.Half.TheVariants.{First, Second}
+use Rattle.dnssec_key.specs.RollTable.{is_second}
 use Rattle.dnssec_zone.specs.Keys.{some_key}
 use Rattle.dnssec_zone.specs.Rolls.{Rolls, all_rolls, phase_of, same_roll}
 use Rattle.dnssec_zone.specs.Start.{conflict, has_conflict, lists_kind, side_of, together}
@@ -22,7 +24,7 @@ use Rattle.dnssec_keyset.specs.declared.wait.WaitEnd.{WaitEnd}
 use Rattle.dnssec_keyset.specs.declared.wait.WaitEnd.TheVariants.{At, PastTime}
 use Rattle.dnssec_run.specs.declared.caches.SetKind.{SetKind}
 use Rattle.dnssec_run.specs.declared.{steps.LastStep.LastStep, steps.Origins.Origins}
-use Rattle.dnssec_run.specs.{Safe.kind_of, Steps.origin_in, WholeRolls.is_second}
+use Rattle.dnssec_run.specs.{Safe.kind_of, Steps.origin_in}
 use Rattle.dnssec_network.specs.declared.reach.Reach.{Reach}
 use Rattle.dnssec_network.specs.Reports.{due}
 use Rattle.dnssec_policy.specs.declared.policy.KeyRole.{KeyRole}

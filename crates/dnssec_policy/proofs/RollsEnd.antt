@@ -9,7 +9,9 @@ use Rattle.dnssec_key.specs.declared.roll.RollState.{RollState}
 use Rattle.dnssec_key.specs.declared.roll.RollState.TheVariants.{Propagation1, CacheExpire1}
 use Rattle.dnssec_key.specs.declared.roll.RollState.TheVariants.{Propagation2, CacheExpire2, Done}
 use Rattle.dnssec_key.specs.declared.roll.RollType.{RollType}
-use Rattle.dnssec_key.specs.RollTable.{Half, First, Second, after_expiry, cache_expire}
+use Rattle.dnssec_key.specs.declared.roll.Half.{Half}
+use Rattle.dnssec_key.specs.declared.roll.Half.TheVariants.{First, Second}
+use Rattle.dnssec_key.specs.RollTable.{after_expiry, cache_expire, is_second}
 use Rattle.dnssec_zone.specs.{Rolls.phase_of, Rolls.same_roll, Start.together}
 use Rattle.dnssec_zone.specs.Wait as waits
 use Rattle.dnssec_keyset.specs.KeySet.{KeySetParts}
@@ -21,7 +23,7 @@ use Rattle.dnssec_run.specs.declared.record.Mark.TheVariants.{Other, Report, Ste
 use Rattle.dnssec_run.specs.Plain.{DoesAt}
 use Rattle.dnssec_run.specs.Record.{IsRun, call_of, is_accepted, world_at}
 use Rattle.dnssec_run.specs.Safe.{SetKind, base_below, is_step, position_at}
-use Rattle.dnssec_run.specs.WholeRolls.{IsAccepted, is_second, propagation}
+use Rattle.dnssec_run.specs.WholeRolls.{IsAccepted, propagation}
 use Rattle.dnssec_run.specs.WholeRolls as rolls
 use Rattle.dnssec_run.proofs.Chain.Allowed.{spreads, waits_in_phase}
 use Rattle.dnssec_run.proofs.Chain.History.{base_here, base_same}

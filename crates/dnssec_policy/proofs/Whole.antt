@@ -26,7 +26,8 @@ use Rattle.dnssec_run.proofs.Chain.Trust.{adds_blank, plainly}
 use Rattle.dnssec_run.proofs.Effects.{came, deleted-stale, deletes, goes as stays}
 use Rattle.dnssec_run.proofs.Effects.{moved_key}
 use Rattle.dnssec_run.proofs.WholeRolls.Replies.{did, outcome, since}
-use Rattle.dnssec_key.specs.{RollTable.Half, RollTable.half_of, declared.kind.KeyType.KeyType}
+use Rattle.dnssec_key.specs.declared.roll.Half.{Half}
+use Rattle.dnssec_key.specs.{RollTable.half_of, declared.kind.KeyType.KeyType}
 use Rattle.dnssec_network.specs.Network.{Network}
 use Rattle.dnssec_policy.specs.declared.policy.Policy.{Policy}
 use Rattle.dnssec_policy.specs.Automatic.{IsAutomatic, is_add}

@@ -11,7 +11,6 @@ use Rattle.dnssec_keyset.specs.KeySet.{KeySetParts}
 use Rattle.dnssec_policy.specs.declared.policy.KeyRole.{KeyRole}
 use Rattle.dnssec_key.specs.declared.roll.RollType.{RollType}
 use Rattle.dnssec_key.specs.Key.{KeyParts}
-use Rattle.dnssec_key.specs.RollTable.{which}
 use Rattle.dnssec_zone.specs.Rolls.{roll_number, same_roll}
 use Rattle.dnssec_zone.specs.Start.{texts}
 use Rattle.dnssec_keyset.specs.Step as keyset
@@ -92,8 +91,8 @@ passing p es =
 
 -- as the definitions say it, at the moment at which it is said
 abbrev pub todo_of : ℕ → Next → Todo
-todo_of now (code.Report roll half ttl) = Make (keyset.Report roll (which half) ttl now)
-todo_of now (code.Wait roll half) = Make (keyset.Wait roll (which half) now)
+todo_of now (code.Report roll half ttl) = Make (keyset.Report roll half ttl now)
+todo_of now (code.Wait roll half) = Make (keyset.Wait roll half now)
 todo_of now (code.Done roll) = Make (keyset.RollDone roll)
 todo_of now (code.Start roll old new) =
     Make (keyset.StartRoll roll (texts old.items) (texts new.items) now)

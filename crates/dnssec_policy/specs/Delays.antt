@@ -6,7 +6,9 @@ use Rattle.std.specs.{FinMap.get, List.list_any}
 use Rattle.dnssec_key.specs.declared.roll.RollState.TheVariants.{Done}
 use Rattle.dnssec_key.specs.declared.roll.RollType.{RollType}
 use Rattle.dnssec_key.specs.Key.{KeyParts}
-use Rattle.dnssec_key.specs.RollTable.{Half, First, Second}
+use Rattle.dnssec_key.specs.declared.roll.Half.{Half}
+use Rattle.dnssec_key.specs.declared.roll.Half.TheVariants.{First, Second}
+use Rattle.dnssec_key.specs.RollTable.{is_second}
 use Rattle.dnssec_zone.specs.Keys.{some_key}
 use Rattle.dnssec_zone.specs.Rolls.{phase_of, same_roll}
 use Rattle.dnssec_keyset.specs.Step as keyset
@@ -18,7 +20,7 @@ use Rattle.dnssec_run.specs.Plain.{DoesAt, start_of}
 use Rattle.dnssec_run.specs.Record.{IsRun, call_of, world_at}
 use Rattle.dnssec_run.specs.Safe.{SetKind as AnyKind, kind_of, retires}
 use Rattle.dnssec_run.specs.Steps.{origin_in}
-use Rattle.dnssec_run.specs.WholeRolls.{HasLeft, IsAccepted, end_of, is_second, propagation}
+use Rattle.dnssec_run.specs.WholeRolls.{HasLeft, IsAccepted, end_of, propagation}
 use Rattle.dnssec_network.specs.declared.reach.Reach.TheVariants.{Everywhere}
 use Rattle.dnssec_network.specs.Network.{Network}
 use Rattle.dnssec_policy.specs.declared.policy.Policy.{Policy}

@@ -10,7 +10,9 @@ use Rattle.dnssec_key.specs.declared.roll.RollState.{RollState}
 use Rattle.dnssec_key.specs.declared.roll.RollState.TheVariants.{Propagation1, CacheExpire1}
 use Rattle.dnssec_key.specs.declared.roll.RollState.TheVariants.{Propagation2, CacheExpire2, Done}
 use Rattle.dnssec_key.specs.declared.roll.RollType.{RollType}
-use Rattle.dnssec_key.specs.RollTable.{Half, First, Second, actions_of}
+use Rattle.dnssec_key.specs.declared.roll.Half.{Half}
+use Rattle.dnssec_key.specs.declared.roll.Half.TheVariants.{First, Second}
+use Rattle.dnssec_key.specs.RollTable.{actions_of, is_second}
 use Rattle.dnssec_keyset.specs.Step.{Report, RollDone, Wait}
 use Rattle.dnssec_keyset.specs.declared.wait.WaitEnd.{WaitEnd}
 use Rattle.dnssec_keyset.specs.declared.wait.WaitEnd.TheVariants as end
@@ -20,7 +22,6 @@ use Rattle.dnssec_run.specs.declared.steps.LastStep.{LastStep}
 use Rattle.dnssec_run.specs.declared.steps.Origins.{Origins}
 use Rattle.dnssec_run.specs.Safe.{kind_of}
 use Rattle.dnssec_run.specs.Steps.{origin_in}
-use Rattle.dnssec_run.specs.WholeRolls.{is_second}
 use Rattle.dnssec_network.specs.declared.reach.Reach.{Reach}
 use Rattle.dnssec_network.specs.declared.reach.Reach.TheVariants.{Unpublished, Spreading}
 use Rattle.dnssec_network.specs.declared.reach.Reach.TheVariants.{Everywhere}

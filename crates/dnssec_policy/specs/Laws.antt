@@ -7,7 +7,8 @@ use Rattle.std.specs.{FinMap.get, FinMap.values, List.list_all, List.list_any}
 use Rattle.dnssec_key.specs.declared.roll.RollState.{RollState}
 use Rattle.dnssec_key.specs.declared.roll.RollState.TheVariants.{CacheExpire1, CacheExpire2}
 use Rattle.dnssec_key.specs.declared.roll.RollState.TheVariants.{Done}
-use Rattle.dnssec_key.specs.RollTable.{Half}
+use Rattle.dnssec_key.specs.declared.roll.Half.{Half}
+use Rattle.dnssec_key.specs.RollTable.{is_second}
 use Rattle.dnssec_key.specs.declared.roll.RollType.{RollType}
 use Rattle.dnssec_key.specs.declared.roll.RollType.TheVariants.{AlgorithmRoll}
 use Rattle.dnssec_key.specs.Key.{KeyParts, all_states}
@@ -29,7 +30,7 @@ use Rattle.dnssec_run.specs.Record.{IsRun, call_of, world_at}
 use Rattle.dnssec_run.specs.Safe.{SetKind as AnyKind, kind_of, retires}
 use Rattle.dnssec_run.specs.declared.steps.LastStep.{LastStep}
 use Rattle.dnssec_run.specs.Steps.{origin_in}
-use Rattle.dnssec_run.specs.WholeRolls.{is_second, propagation}
+use Rattle.dnssec_run.specs.WholeRolls.{propagation}
 use Rattle.dnssec_run.specs.Steps.{AreStepsOf}
 use Rattle.dnssec_network.specs.ByAlgorithm.{FindChainByEach}
 use Rattle.dnssec_network.specs.Facts.{AreTrue, moment_of, news_of}

@@ -1,7 +1,6 @@
 //! How a roll in progress goes on.
 ghost use Rattle.std.specs.Prelude.{◌≡◌, ℕ, Option, is_some};
 ghost use Rattle.dnssec_key.specs.declared.roll.RollType.{RollType as AnyRoll};
-ghost use Rattle.dnssec_key.specs.RollTable.{which};
 ghost use Rattle.dnssec_keyset.specs.declared.wait.WaitEnd.{WaitEnd as AnyEnd};
 ghost use Rattle.dnssec_run.specs.Steps.{step_of};
 ghost use Rattle.dnssec_zone.specs.Rolls.{phase_of};
@@ -59,7 +58,7 @@ fn awaited<'a>(reach: Reach, kind: SetKind, now: UnixTime) -> Next<'a>
 /// A report with this TTL.
 fn report_with<'a>(state: &State<'a>, roll: RollType, half: Half, ttl: u64) -> Next<'a>
     ensures { (end : AnyRoll → Option AnyEnd) → todo_of state.now.moment result
-        ≡ report_with (view_of state.now end) roll (which half) ttl }
+        ≡ report_with (view_of state.now end) roll half ttl }
 {
     match u32::try_from(ttl) {
         Ok(ttl) => Next::Report { roll, half, ttl },
@@ -77,7 +76,7 @@ fn report_or<'a>(
     due: Result<u32, SetKind>,
 ) -> Next<'a>
     ensures { (end : AnyRoll → Option AnyEnd) → todo_of state.now.moment result
-        ≡ report_or (view_of state.now end) roll (which half) origins due }
+        ≡ report_or (view_of state.now end) roll half origins due }
 {
     match due {
         Ok(due) => {
@@ -94,7 +93,7 @@ fn report_or<'a>(
 /// A report, or what it still waits for, by the last step of its roll.
 fn report_next<'a>(state: &State<'a>, roll: RollType, half: Half) -> Next<'a>
     ensures { (end : AnyRoll → Option AnyEnd) → todo_of state.now.moment result
-        ≡ report_next (view_of state.now end) roll (which half) (step_of state.now.steps roll) }
+        ≡ report_next (view_of state.now end) roll half (step_of state.now.steps roll) }
 {
     match state.steps.of(roll) {
         None => Next::Stuck {
@@ -112,7 +111,7 @@ fn report_next<'a>(state: &State<'a>, roll: RollType, half: Half) -> Next<'a>
 /// A wait that is over, or the moment from which it is.
 fn wait_next<'a>(state: &State<'a>, roll: RollType, half: Half, end: &Option<WaitEnd>) -> Next<'a>
     ensures { (e : AnyRoll → Option AnyEnd) → todo_of state.now.moment result
-        ≡ wait_next (view_of state.now e) roll (which half) end.now }
+        ≡ wait_next (view_of state.now e) roll half end.now }
 {
     match end {
         Some(WaitEnd::At(moment)) => {

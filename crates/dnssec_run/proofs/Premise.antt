@@ -8,7 +8,8 @@ use Rattle.std.specs.{FinMap.get, FinMap.get-empty, Ordering.nat_cmp, Cmp.Lexico
 use Rattle.dnssec_key.specs.Setters.{Setting, Decoupled, Present}
 use Rattle.dnssec_key.specs.declared.kind.KeyType.{KeyType, TheVariants.Include}
 use Rattle.dnssec_key.specs.declared.roll.RollType.{RollType, TheVariants.AlgorithmRoll}
-use Rattle.dnssec_key.specs.{Key.KeyParts, RollTable.First}
+use Rattle.dnssec_key.specs.declared.roll.Half.TheVariants.{First}
+use Rattle.dnssec_key.specs.Key.{KeyParts}
 use Rattle.dnssec_keyset.{specs.KeySet.KeySetParts, proofs.Exchange.Kinds.kind_number}
 use Rattle.dnssec_run.specs.Record.{IsRun, call_of, is_accepted, reply_of, world_at, world_next}
 use Rattle.dnssec_run.proofs.Effects.{accepted_step, looked-up, moved_key, passing-moved, put_at}

@@ -7,7 +7,7 @@ use Rattle.std.specs.Str.{bytes_eq}
 use Rattle.dnssec_key.specs.declared.kind.KeyType.TheVariants.{Ksk, Zsk, Csk, Include}
 use Rattle.dnssec_key.specs.Setters.{Decoupled, Present, Signer, AtParent, Stale, VisibleAt}
 use Rattle.dnssec_key.specs.Setters.{DsVisibleAt, RrsigVisibleAt}
-use Rattle.dnssec_key.specs.RollTable.{First, Second}
+use Rattle.dnssec_key.specs.declared.roll.Half.TheVariants.{First, Second}
 use Rattle.dnssec_key.specs.Key.{new_key, new_state, is_available}
 use Rattle.dnssec_keyset.specs.KeySet.{new_set}
 use Rattle.dnssec_zone.specs.Start.{texts}

@@ -19,7 +19,9 @@ use Rattle.dnssec_key.specs.declared.roll.RollState.TheVariants.{Done}
 use Rattle.dnssec_key.specs.State.{Flags, is_future, is_active_ksk, is_active_zsk, is_stale}
 use Rattle.dnssec_key.specs.Key.{KeyParts, all_states}
 use Rattle.dnssec_zone.specs.Rolls.{phase_of}
-use Rattle.dnssec_key.specs.RollTable.{Half, First, Second, cache_expire}
+use Rattle.dnssec_key.specs.declared.roll.Half.{Half}
+use Rattle.dnssec_key.specs.declared.roll.Half.TheVariants.{First, Second}
+use Rattle.dnssec_key.specs.RollTable.{cache_expire, is_second}
 use Rattle.dnssec_zone.specs.Start.{is_listed}
 use Rattle.dnssec_keyset.specs.Laws.{in_progress}
 use Rattle.dnssec_keyset.specs.Step as keyset
@@ -90,11 +92,6 @@ SettlesBetweenRolls name calls entries = SetsOnlyOthersPresent calls entries →
     each_role is_settled_ksk is_settled_zsk k.keytype ≡ true
 
 -- ---- how long a wait lasts
-
--- the marks of reports call the second half of a roll `true`
-abbrev pub is_second : Half → Bool
-is_second First = false
-is_second Second = true
 
 -- the last accepted report of this half of the roll up to position n
 pub record LastReport (entries : List Entry) (roll : RollType) (half : Half) (n : ℕ)

@@ -23,7 +23,8 @@ use Rattle.std.specs.{String.string_eq, HashMap.HashMap, HashMap.IsUnique, HashM
 use Rattle.std.specs.{List.list_any, List.fold, List.Sorted.IsPermutation, Option.option_map_or}
 use Rattle.std.specs.{Str.bytes_eq, Ordering.nat_cmp, Ordering.eq_by_cmp, FinMap.Entries.is_sorted}
 use Rattle.dnssec_key.specs.{declared.kind.KeyType.KeyType, Key.KeyParts, Key.all_states}
-use Rattle.dnssec_key.specs.{RollTable.Half, RollTable.half_of, RollTable.column}
+use Rattle.dnssec_key.specs.declared.roll.Half.{Half}
+use Rattle.dnssec_key.specs.{RollTable.half_of, RollTable.column}
 use Rattle.dnssec_key.specs.{RollTable.after_wait, Setters.Setting, Setters.set_by}
 use Rattle.dnssec_key.specs.{declared.roll.RollType.RollType, State.is_stale, Sides.wait_moves_kept}
 use Rattle.std.specs.FinMap as fin

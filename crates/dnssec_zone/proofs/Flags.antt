@@ -8,7 +8,8 @@ use Rattle.dnssec_key.specs.declared.kind.KeyType.TheVariants.{Ksk, Zsk, Csk, In
 use Rattle.dnssec_key.specs.declared.{roll.RollType.RollType, kind.KeyType.KeyType}
 use Rattle.dnssec_key.specs.State.{Flags, is_used, is_stale as stale_state, Flags as KeyState}
 use Rattle.dnssec_key.specs.Key.{all_states}
-use Rattle.dnssec_key.specs.RollTable.{First, Second, half_of, column, at_roles, turns_old}
+use Rattle.dnssec_key.specs.declared.roll.Half.TheVariants.{First, Second}
+use Rattle.dnssec_key.specs.RollTable.{half_of, column, at_roles, turns_old}
 use Rattle.dnssec_zone.specs.Start.{are_apart, lists_kind, side_of, KskSide, ZskSide}
 use Rattle.dnssec_zone.proofs.Tests.{◌⇒◌, alike}
 

@@ -11,8 +11,9 @@ use Rattle.std.specs.{String.string_eq, declared.string.String.String}
 use Rattle.std.specs.Cmp.Lexicographic.{bytes_decides}
 use Rattle.std.proofs.lemmas.Bool.{or_from, or_left, or_right, cond_both}
 use Rattle.std.proofs.lemmas.Bool.Decides.{nat_tests}
-use Rattle.dnssec_key.specs.{Key.KeyParts, Key.all_states, RollTable.Half, RollTable.column}
-use Rattle.dnssec_key.specs.{RollTable.half_of, RollTable.which, declared.roll.RollType.RollType}
+use Rattle.dnssec_key.specs.declared.roll.Half.{Half}
+use Rattle.dnssec_key.specs.{Key.KeyParts, Key.all_states, RollTable.column}
+use Rattle.dnssec_key.specs.{RollTable.half_of, declared.roll.RollType.RollType}
 use Rattle.dnssec_key.specs.{declared.kind.KeyType.KeyType, State.is_stale}
 use Rattle.dnssec_zone.specs.Wait.{early_by, lacks_stamp, time_left}
 use Rattle.dnssec_zone.specs.Wait.{wait_in_phase, IsOverFrom, LacksStamp}
@@ -267,23 +268,23 @@ known-alike : (m n : Keys) (r : List ℕ) (o : Option KeyParts)
     → ((q : List ℕ) → get n q ≡ (if bytes_eq r q then o else get m q))
     → (wait : ReportedWait)
     → seen (over_for (Some wait)) (get m r) ≡ seen (over_for (Some wait)) o
-    → ((tag : ℕ) → seen (over_but wait.roll (which wait.half) wait.ttl (Some tag)) (get m r)
-    ≡ seen (over_but wait.roll (which wait.half) wait.ttl (Some tag)) o)
+    → ((tag : ℕ) → seen (over_but wait.roll wait.half wait.ttl (Some tag)) (get m r)
+    ≡ seen (over_but wait.roll wait.half wait.ttl (Some tag)) o)
     → IsKnown (Some wait) m → IsKnown (Some wait) n
 known-alike m n r o is wait same each known = (
   latest-alike (over_for (Some wait)) m n r o is same wait.over known.0,
   others wait.others known.1,
 )
   where
-    others : (x : Option Others) → IsByOthers wait.roll (which wait.half) wait.ttl x m
-        → IsByOthers wait.roll (which wait.half) wait.ttl x n
+    others : (x : Option Others) → IsByOthers wait.roll wait.half wait.ttl x m
+        → IsByOthers wait.roll wait.half wait.ttl x n
     others None h = tt
-    others (Some x) h = latest-alike (over_but wait.roll (which wait.half) wait.ttl (Some x.but))
+    others (Some x) h = latest-alike (over_but wait.roll wait.half wait.ttl (Some x.but))
         m n r o is (each x.but) x.over h
 
 -- what a wait sees of a key, if the one with a tag is left out
 abbrev but : ReportedWait → ℕ → KeyParts → Option ℕ
-but wait tag = over_but wait.roll (which wait.half) wait.ttl (Some tag)
+but wait tag = over_but wait.roll wait.half wait.ttl (Some tag)
 
 -- a setter has changed the key at a reference
 pub known-after : (m n : Keys) (r : List ℕ) (k l : KeyParts) → get m r ≡ Some k
@@ -312,7 +313,7 @@ known-after m n r k l found is tag apart (Some wait) old = cond_both
         (ap (seen (but wait t)) found ∙ (grind (arith, nat_tests, e, tag))) x h
 
     beside : (x : Option Others) → wait.others ≡ x
-        → IsByOthers wait.roll (which wait.half) wait.ttl x m
+        → IsByOthers wait.roll wait.half wait.ttl x m
         → IsKnown (by_others k.key_tag (over_for (Some wait) l) wait x) n
     beside None e h = tt
     beside (Some x) e h = cond_both (nat_eq x.but k.key_tag)
@@ -321,7 +322,7 @@ known-after m n r k l found is tag apart (Some wait) old = cond_both
         (λ t.
         let is_its : x.but ≡ l.key_tag = grind (arith, nat_tests, t, tag) in
         let kept = rest x.but is_its x.over h in (
-          joined wait.roll (which wait.half) wait.ttl n r l there apart x.over
+          joined wait.roll wait.half wait.ttl n r l there apart x.over
               (subst (λ t. IsLatest (but wait t) n x.over) is_its kept),
           rw e kept,
         ))
@@ -342,8 +343,8 @@ pub known-removed : (m n : Keys) (r : List ℕ) (k : KeyParts) → get m r ≡ S
     → (known : Option ReportedWait) → IsKnown known m → IsKnown known n
 known-removed m n r k found is stale None old = tt
 known-removed m n r k found is stale (Some wait) old =
-    let none = stale-unchecked wait.roll (which wait.half) k.keytype stale in
+    let none = stale-unchecked wait.roll wait.half k.keytype stale in
     known-alike m n r None is wait
     (ap (seen (over_for (Some wait))) found ∙ (grind (arith, none)))
-    (λ t. ap (seen (over_but wait.roll (which wait.half) wait.ttl (Some t))) found
+    (λ t. ap (seen (over_but wait.roll wait.half wait.ttl (Some t))) found
     ∙ (grind (arith, none))) old

@@ -13,7 +13,8 @@ use Rattle.dnssec_key.specs.State.{is_stale}
 use Rattle.dnssec_key.specs.declared.roll.RollState.{RollState}
 use Rattle.dnssec_key.specs.declared.roll.RollState.TheVariants.{Propagation1, Propagation2}
 use Rattle.dnssec_key.specs.declared.roll.RollState.TheVariants.{Done as Finishing}
-use Rattle.dnssec_key.specs.RollTable.{Half, First, Second}
+use Rattle.dnssec_key.specs.declared.roll.Half.{Half}
+use Rattle.dnssec_key.specs.declared.roll.Half.TheVariants.{First, Second}
 use Rattle.dnssec_zone.specs.Keys.{Keys, has_tag}
 
 -- ---- of keys

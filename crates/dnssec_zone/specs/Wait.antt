@@ -13,7 +13,9 @@ use Rattle.dnssec_base.specs.declared.error.Error.TheVariants.{WrongKeyState}
 use Rattle.dnssec_base.specs.declared.error.Error.TheVariants.{WrongStateForRollOperation}
 use Rattle.dnssec_key.specs.declared.roll.RollState.{RollState}
 use Rattle.dnssec_key.specs.declared.roll.RollState.TheVariants.{CacheExpire1, CacheExpire2}
-use Rattle.dnssec_key.specs.RollTable.{Half, First, Second, half_of}
+use Rattle.dnssec_key.specs.declared.roll.Half.{Half}
+use Rattle.dnssec_key.specs.declared.roll.Half.TheVariants.{First, Second}
+use Rattle.dnssec_key.specs.RollTable.{half_of}
 use Rattle.dnssec_key.specs.declared.roll.RollType.{RollType}
 use Rattle.dnssec_key.specs.Key.{KeyParts}
 use Rattle.dnssec_zone.specs.Keys.{Keys, some_key}

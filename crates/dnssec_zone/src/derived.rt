@@ -6,7 +6,6 @@ ghost use Rattle.std.specs.Prelude.{IsOkUnless, if◌then◌else◌, length, ◌
 ghost use Rattle.std.specs.{List.fold, Option.option_map, String.string_eq};
 ghost use Rattle.std.specs.HashMap as hash;
 ghost use Rattle.dnssec_base.specs.declared.error.Error.TheVariants.{OutOfMemory};
-ghost use Rattle.dnssec_key.specs.RollTable.{which};
 ghost use Rattle.dnssec_key.specs.Setters.{setting_of, set_by};
 ghost use Rattle.dnssec_key.specs.Sides.{wait_moves_kept};
 ghost use Rattle.dnssec_key.specs.Inner.TagIndex.{has};
@@ -301,9 +300,9 @@ impl Derived {
     /// A wait has moved the keys on. They are counted again if that may change a count.
     pub(crate) fn go_on(&mut self, keys: &HashMap<String, Key>, roll: RollType, half: Half)
         ensures tags { self.new.tags ≡ self.old.tags }
-        ensures moved { wait_moves_kept roll (which half) ≡ true
+        ensures moved { wait_moves_kept roll half ≡ true
             → CountsAgree self.new.counts (keys_in_map keys.now) }
-        ensures kept { wait_moves_kept roll (which half) ≡ false
+        ensures kept { wait_moves_kept roll half ≡ false
             → self.new.counts ≡ self.old.counts }
         ensures waits { AreKnown self.new.waits (keys_in_map keys.now) }
     {

@@ -5,7 +5,7 @@ ghost use Rattle.std.specs.{List.list_any, Option.option_map, Str.bytes_eq, Stri
 ghost use Rattle.std.specs.FinMap as map;
 ghost use Rattle.std.specs.HashMap as hash;
 ghost use Rattle.dnssec_base.specs.declared.error.Error.TheVariants.{OutOfMemory};
-ghost use Rattle.dnssec_key.specs.RollTable.{which, after_report, after_wait, after_early_end};
+ghost use Rattle.dnssec_key.specs.RollTable.{after_report, after_wait, after_early_end};
 ghost use Rattle.dnssec_key.specs.Setters.{setting_of, set_by};
 ghost use Rattle.dnssec_key.specs.Inner.Bits.{is_set};
 ghost use Rattle.dnssec_zone.specs.Inner.{Counts.count_in, Counts.passes, KeyMark.marked};
@@ -247,7 +247,7 @@ impl Keys {
     /// Stamps every key that a report speaks of.
     pub fn report_all(&mut self, roll: RollType, half: Half, ttl: u32, now: UnixTime)
         ensures { (q : List ℕ) → map.get self.new q
-            ≡ option_map (after_report roll (which half) now) (map.get self.old q) }
+            ≡ option_map (after_report roll half now) (map.get self.old q) }
     {
         // `retain` says what is written on each key; it keeps them all.
         self.map.retain(|_, key| {
@@ -260,7 +260,7 @@ impl Keys {
     /// Moves every key on, once a wait is over.
     pub fn go_on_all(&mut self, roll: RollType, half: Half, now: UnixTime)
         ensures { (q : List ℕ) → map.get self.new q
-            ≡ option_map (after_wait roll (which half) now) (map.get self.old q) }
+            ≡ option_map (after_wait roll half now) (map.get self.old q) }
     {
         self.map.retain(|_, key| {
             move_on(key, roll, half, now);
@@ -273,8 +273,8 @@ impl Keys {
     /// is missing.
     pub fn over_from(&self, roll: RollType, half: Half, ttl: u32) -> Option<u128>
         ensures over { IfSome result (λ end.
-            IsOverFrom roll (which half) ttl self.now end) }
-        ensures missing { IfNone result (LacksStamp roll (which half) ttl self.now) }
+            IsOverFrom roll half ttl self.now end) }
+        ensures missing { IfNone result (LacksStamp roll half ttl self.now) }
     {
         match self.derived.waits.over(roll, half, ttl) {
             Some(over) => over,

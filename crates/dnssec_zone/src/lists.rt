@@ -3,7 +3,7 @@ ghost use Rattle.std.specs.Prelude.{◌≡◌, IfOk, IsOkUnless, OnOk, ℕ, List
 ghost use Rattle.std.specs.Option.{option_map};
 ghost use Rattle.std.specs.FinMap as map;
 ghost use Rattle.dnssec_base.specs.declared.error.Error.TheVariants.{OutOfMemory};
-ghost use Rattle.dnssec_key.specs.RollTable.{which, after_early_end};
+ghost use Rattle.dnssec_key.specs.RollTable.{after_early_end};
 ghost use Rattle.dnssec_key.specs.Inner.Bits.{is_set};
 ghost use Rattle.dnssec_zone.specs.{Lists.same_part, Start.texts};
 ghost use Rattle.dnssec_zone.specs.Inner.Entries.{is_of, is_of_roll, entries_after_report};
@@ -149,7 +149,7 @@ impl Lists {
     /// After its first report a roll can't be ended early, and nothing is kept for it.
     pub fn report(&mut self, roll: RollType, half: Half)
         ensures { self.new.entries.items
-            ≡ entries_after_report roll (which half) self.old.entries.items }
+            ≡ entries_after_report roll half self.old.entries.items }
     {
         match half {
             Half::First => self.take_out(roll),

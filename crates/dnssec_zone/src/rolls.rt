@@ -4,7 +4,7 @@ ghost use Rattle.std.specs.Prelude.{IsOkUnless, OnOk, OnErr};
 ghost use Rattle.std.specs.HashMap as hash;
 ghost use Rattle.dnssec_base.specs.declared.error.Error.TheVariants.{OutOfMemory};
 ghost use Rattle.dnssec_key.specs.declared.roll.RollType.{RollType as AnyRoll};
-ghost use Rattle.dnssec_key.specs.RollTable.{which, cache_expire};
+ghost use Rattle.dnssec_key.specs.RollTable.{cache_expire};
 ghost use Rattle.dnssec_zone.specs.Rolls.{all_rolls, phase_of, with_phase, no_rolls, rolls_in_map};
 ghost use Rattle.dnssec_zone.specs.Start.{has_conflict, conflict, together};
 ghost use Rattle.dnssec_zone.specs.Refusals.{AnswersExactly, report_refusal, end_refusal};
@@ -110,9 +110,9 @@ impl Rolls {
     #[tactic(auto, using(crate::proofs::Phases::phases))]
     pub fn take_report(&mut self, roll: RollType, half: Half, ttl: u32) -> Result<(), Error>
         ensures reply { AnswersExactly
-            (report_refusal (which half) (phase_of self.old roll)) result }
+            (report_refusal half (phase_of self.old roll)) result }
         ensures ok { OnOk result
-            (self.new ≡ with_phase self.old roll (Some (cache_expire (which half) ttl))) }
+            (self.new ≡ with_phase self.old roll (Some (cache_expire half ttl))) }
         ensures err { OnErr result (self.new ≡ self.old) }
     {
         let Some(phase) = self.phases.get_mut(&roll) else {
@@ -181,7 +181,7 @@ impl Rolls {
 
     /// The TTL that a wait goes by, if the roll is in the phase of this wait.
     pub fn ttl_in(&self, roll: RollType, half: Half) -> Option<u32>
-        ensures { result ≡ ttl_in (which half) (phase_of self.now roll) }
+        ensures { result ≡ ttl_in half (phase_of self.now roll) }
     {
         match (half, self.phase_of(roll)) {
             (Half::First, Some(RollState::CacheExpire1(ttl))) => Some(ttl),
@@ -193,7 +193,7 @@ impl Rolls {
 
 /// Whether a roll in a phase waits for a report.
 fn awaits_report(phase: RollState, half: Half) -> bool
-    ensures { result ≡ not (is_some (report_refusal (which half) (Some phase))) }
+    ensures { result ≡ not (is_some (report_refusal half (Some phase))) }
 {
     matches!(
         (half, phase),

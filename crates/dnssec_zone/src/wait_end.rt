@@ -1,7 +1,6 @@
 //! When a wait is over: for a key, and for all keys. Also what is kept of the waits in progress.
 ghost use Rattle.std.specs.Prelude.{◌≡◌, IsTrue, IfSome};
 ghost use Rattle.std.specs.Option.{option_and_then};
-ghost use Rattle.dnssec_key.specs.RollTable.{which};
 ghost use Rattle.dnssec_key.specs.Setters.{setting_of, set_by};
 ghost use Rattle.dnssec_zone.specs.Inner.Over.{over_at, over_but, later};
 ghost use Rattle.dnssec_zone.specs.Inner.Reported.{IsKnown, IsLatest, IsByOthers, AreKnown};
@@ -49,7 +48,7 @@ impl ReportedWait {
     // Out of line, so that a setter, which finds no wait as a rule, stays short.
     #[inline(never)]
     fn over_for(&self, key: &Key) -> Option<u128>
-        ensures { result ≡ over_at self.now.roll (which self.now.half) self.now.ttl key.now }
+        ensures { result ≡ over_at self.now.roll self.now.half self.now.ttl key.now }
     {
         over_for(self.roll, self.half, self.ttl, key)
     }
@@ -157,7 +156,7 @@ impl Waits {
     /// From when on a wait is over, if it is the one that is kept on its side.
     pub(crate) fn over(&self, roll: RollType, half: Half, ttl: u32) -> Option<Option<u128>>
         ensures { (keys : AnyKeys) → AreKnown self.now keys
-            → IfSome result (IsLatest (over_at roll (which half) ttl) keys) }
+            → IfSome result (IsLatest (over_at roll half ttl) keys) }
     {
         match self.of(roll) {
             Some(wait) if wait.is_of(roll, half, ttl) => Some(wait.over),
@@ -312,7 +311,7 @@ fn others_from(
     ttl: u32,
     but: Option<u16>,
 ) -> Option<Others>
-    ensures { IsByOthers roll (which half) ttl result (keys_in_map keys.now) }
+    ensures { IsByOthers roll half ttl result (keys_in_map keys.now) }
 {
     match but {
         None => None,
@@ -342,7 +341,7 @@ pub(crate) fn over_from(
     ttl: u32,
     but: Option<u16>,
 ) -> Option<u128>
-    ensures { IsLatest (over_but roll (which half) ttl but) (keys_in_map keys.now) result }
+    ensures { IsLatest (over_but roll half ttl but) (keys_in_map keys.now) result }
 {
     let mut over = 0;
     for key in keys.values() {
@@ -355,7 +354,7 @@ pub(crate) fn over_from(
 /// is missing. It is the first of all for a key that is left out.
 #[inline(always)]
 fn over_but(roll: RollType, half: Half, ttl: u32, but: Option<u16>, key: &Key) -> Option<u128>
-    ensures { result ≡ over_but roll (which half) ttl but key.now }
+    ensures { result ≡ over_but roll half ttl but key.now }
 {
     match but {
         Some(tag) if key.key_tag() == tag => Some(0),
@@ -367,7 +366,7 @@ fn over_but(roll: RollType, half: Half, ttl: u32, but: Option<u16>, key: &Key) -
 /// is missing. It is the first of all for a key that the wait doesn't check, and if the TTL is 0.
 #[inline(always)]
 fn over_for(roll: RollType, half: Half, ttl: u32, key: &Key) -> Option<u128>
-    ensures { result ≡ over_at roll (which half) ttl key.now }
+    ensures { result ≡ over_at roll half ttl key.now }
 {
     if !is_checked(key, roll, half) {
         return Some(0);

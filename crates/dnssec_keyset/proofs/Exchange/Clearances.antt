@@ -16,7 +16,8 @@ use Rattle.std.specs.{Prelude.Option, Prelude.◌||◌, Prelude.◌&&◌, Prelud
 use Rattle.std.specs.{List.list_any, Option.option_map_or, Option.option_or, Cmp.both_ways}
 use Rattle.std.specs.{FinMap.get}
 use Rattle.dnssec_key.specs.{declared.kind.KeyType.KeyType, declared.roll.RollType.RollType}
-use Rattle.dnssec_key.specs.{Key.KeyParts, RollTable.Half}
+use Rattle.dnssec_key.specs.declared.roll.Half.{Half}
+use Rattle.dnssec_key.specs.Key.{KeyParts}
 use Rattle.dnssec_zone.proofs.Longest.{above, longest-same}
 use Rattle.dnssec_base.specs.declared.error.Error.TheVariants.{WrongKeyType}
 use Rattle.dnssec_keyset.specs.{Step.start_refusal, Step.Call, Step.clearance, KeySet.KeySetParts}

@@ -3,7 +3,8 @@
 use Rattle.std.proofs.Common.{arith, ◌≡◌, ℕ, Bool, true, false, sym, ap, ◌∙◌, List}
 use Rattle.std.specs.Prelude.{nat_eq, nat_lt}
 use Rattle.dnssec_key.specs.declared.kind.KeyType.TheVariants.{Ksk, Zsk, Csk, Include}
-use Rattle.dnssec_key.specs.RollTable.{Half, column, half_of, at_roles}
+use Rattle.dnssec_key.specs.declared.roll.Half.{Half}
+use Rattle.dnssec_key.specs.RollTable.{column, half_of, at_roles}
 use Rattle.dnssec_key.specs.declared.{kind.KeyType.KeyType, roll.RollType.RollType}
 use Rattle.dnssec_key.specs.{State.Flags, Key.KeyParts}
 use Rattle.dnssec_zone.specs.Start.{Side, KskSide, ZskSide, BothSides, are_apart, lists_kind}

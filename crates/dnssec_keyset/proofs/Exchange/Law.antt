@@ -19,7 +19,8 @@ use Rattle.dnssec_zone.specs.{Start.together, Lists.has_kept_key, Rolls.same_rol
 use Rattle.std.specs.{Prelude.Option, Prelude.filter, Prelude.if◌then◌else◌, Option.option_map}
 use Rattle.std.specs.{Option.option_map_or, FinMap.get}
 use Rattle.dnssec_key.specs.{declared.roll.RollType.RollType, State.is_kept, Key.KeyParts}
-use Rattle.dnssec_key.specs.{Key.all_states, RollTable.First, RollTable.after_early_end}
+use Rattle.dnssec_key.specs.declared.roll.Half.TheVariants.{First}
+use Rattle.dnssec_key.specs.{Key.all_states, RollTable.after_early_end}
 use Rattle.dnssec_zone.proofs.Listing.Starts.{none_of_both}
 
 -- a call gets the same reply in each set that its roll sees the same

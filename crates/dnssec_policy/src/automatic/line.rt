@@ -3,7 +3,6 @@ ghost use Rattle.std.specs.Prelude.{◌≡◌, ◌++◌, ℕ, IfOk, OnOk, decima
 ghost use denote.Bor.{now};
 ghost use Rattle.std.specs.List.{flat_map};
 ghost use Rattle.std.specs.Prelude.{codes};
-ghost use Rattle.dnssec_key.specs.RollTable.{which};
 ghost use Rattle.dnssec_network.specs.Text.Due.{first_second};
 ghost use Rattle.dnssec_policy.specs.Code.{todo_of};
 ghost use Rattle.dnssec_policy.specs.Automatic.Lines.{list_text, report_name, role_name};
@@ -201,7 +200,7 @@ fn first_second(moment: u128) -> u128
 
 /// The word of a report, and a space.
 fn report_name(half: Half) -> &'static str
-    ensures { result.now ≡ report_name (which half) }
+    ensures { result.now ≡ report_name half }
 {
     match half {
         Half::First => "report1 ",
@@ -211,7 +210,7 @@ fn report_name(half: Half) -> &'static str
 
 /// The word of a wait, and a space.
 fn wait_name(half: Half) -> &'static str
-    ensures { result.now ≡ wait_name (which half) }
+    ensures { result.now ≡ wait_name half }
 {
     match half {
         Half::First => "wait1 ",

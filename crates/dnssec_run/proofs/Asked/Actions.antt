@@ -3,14 +3,15 @@ use Rattle.std.proofs.Common.{◌≡◌, Bool, true, false, ◌||◌, List, None
 use Rattle.std.proofs.lemmas.Bool.{and_parts}
 use Rattle.std.proofs.lemmas.List.Folds.{Any-from_list_any, list_any-from_Any}
 use Rattle.std.specs.{List.Contains, List.list_any, Prelude.if◌then◌else◌}
-use Rattle.dnssec_key.specs.RollTable.{column, half_of, after_expiry, actions_of, Half}
+use Rattle.dnssec_key.specs.declared.roll.Half.{Half}
+use Rattle.dnssec_key.specs.RollTable.{column, half_of, after_expiry, actions_of, is_second}
 use Rattle.dnssec_key.specs.contracts.roll.ActionPartialEq.TheImpl.{eq-value}
 use Rattle.dnssec_key.specs.declared.roll.{Action.Action, RollType.RollType}
 use Rattle.dnssec_key.specs.{declared.kind.KeyType.KeyType, State.is_stale, State.is_future}
 use Rattle.dnssec_key.specs.{Key.all_states, Key.KeyParts, Setters.Setting, Setters.set_by}
 use Rattle.dnssec_run.specs.Asked.{update_of, report_of, updates, flag_shown, sets_flag, sets_shown}
 use Rattle.dnssec_run.specs.Safe.{SetKind, Ds, Dnskey, ZoneSigners, retires}
-use Rattle.dnssec_run.specs.WholeRolls.{propagation, is_second}
+use Rattle.dnssec_run.specs.WholeRolls.{propagation}
 use Rattle.dnssec_run.specs.{declared.sets.Shown.Shown, Recorder.reference_set, Recorder.shows}
 use Rattle.dnssec_zone.proofs.Flags.{started, ended}
 use Rattle.dnssec_run.specs.declared.sets.Shown.TheVariants as lists

@@ -6,7 +6,7 @@ use Rattle.dnssec_run.proofs.Chain.{Allowed.waits_in_phase, Allowed.spreads, His
 use Rattle.dnssec_run.proofs.{Chain.History.base_here, Chain.Trust.mark, WholeRolls.Replies.outcome}
 use Rattle.dnssec_run.proofs.WholeRolls.{Replies.world_of, Keys.roll_now}
 use Rattle.dnssec_run.proofs.Asked.Changes.{due, due_by}
-use Rattle.dnssec_run.specs.WholeRolls.{is_second, propagation}
+use Rattle.dnssec_run.specs.WholeRolls.{propagation}
 use Rattle.dnssec_run.specs.declared.{call.Call.Call, record.Entry.Entry, record.Mark.Mark}
 use Rattle.dnssec_run.specs.declared.record.Mark.TheVariants.{Other, Report}
 use Rattle.dnssec_run.specs.Asked.{asked_by, asked_at, report_of, RetiresAsAsked}
@@ -19,7 +19,9 @@ use Rattle.std.specs.{List.Contains, List.list_any, Option.option_map_or}
 use Rattle.dnssec_key.specs.declared.roll.RollState.TheVariants.{Propagation1, CacheExpire1}
 use Rattle.dnssec_key.specs.declared.roll.RollState.TheVariants.{Propagation2, CacheExpire2, Done}
 use Rattle.dnssec_key.specs.declared.roll.{RollType.RollType, RollState.RollState}
-use Rattle.dnssec_key.specs.RollTable.{Half, First, Second, actions_of, cache_expire}
+use Rattle.dnssec_key.specs.declared.roll.Half.{Half}
+use Rattle.dnssec_key.specs.declared.roll.Half.TheVariants.{First, Second}
+use Rattle.dnssec_key.specs.RollTable.{actions_of, cache_expire, is_second}
 use Rattle.dnssec_keyset.{specs.KeySet.KeySetParts, proofs.Laws.no_cause}
 use Rattle.dnssec_keyset.specs.Step as keyset
 use Rattle.dnssec_zone.specs.Wait as waits

@@ -13,7 +13,9 @@ use Rattle.std.proofs.Common.{◌∷◌, ◌++◌, Option, None, Some}
 use Rattle.std.proofs.lemmas.Bool.{and_parts, or_parts, eqb-true}
 use Rattle.std.specs.{Prelude.is_some, Prelude.nat_eq, List.list_all, List.list_any}
 use Rattle.std.specs.{Option.option_map_or, Cmp.Lexicographic.bytes_decides, FinMap.get}
-use Rattle.dnssec_key.specs.RollTable.{cache_expire, Half, First, Second}
+use Rattle.dnssec_key.specs.declared.roll.Half.{Half}
+use Rattle.dnssec_key.specs.declared.roll.Half.TheVariants.{First, Second}
+use Rattle.dnssec_key.specs.RollTable.{cache_expire}
 use Rattle.dnssec_key.specs.declared.roll.{RollType.RollType, RollState.RollState}
 use Rattle.dnssec_key.specs.declared.roll.RollState.TheVariants.{CacheExpire1, CacheExpire2}
 use Rattle.dnssec_key.specs.{State.is_future, Key.KeyParts, Key.all_states}

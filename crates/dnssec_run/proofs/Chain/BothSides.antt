@@ -2,7 +2,9 @@
 use Rattle.dnssec_key.specs.declared.roll.RollType.{TheVariants.AlgorithmRoll, RollType}
 use Rattle.dnssec_key.specs.declared.roll.RollState.{RollState}
 use Rattle.dnssec_key.specs.declared.roll.RollState.TheVariants.{Propagation1, Propagation2, Done}
-use Rattle.dnssec_key.specs.RollTable.{after_report, cache_expire, Half, First, Second}
+use Rattle.dnssec_key.specs.declared.roll.Half.{Half}
+use Rattle.dnssec_key.specs.declared.roll.Half.TheVariants.{First, Second}
+use Rattle.dnssec_key.specs.RollTable.{after_report, cache_expire, is_second}
 use Rattle.dnssec_run.proofs.Chain.Invariant.{HasNo, Lasts, has_no-gentle, lasts-gentle, At, Alive}
 use Rattle.dnssec_run.proofs.Chain.Invariant.{Gentle, at-gentle, used-some}
 use Rattle.dnssec_run.proofs.Chain.Life.{Comes, LeavesEarly, LeavesLate, Unpassed, unpassed-next}
@@ -21,7 +23,7 @@ use Rattle.dnssec_run.proofs.Chain.{RollFacts.together-sym, Flags.Own, Facts.tes
 use Rattle.dnssec_run.proofs.Chain.{Same.some-was, Returns.KeepsLists, OneKey.Mapped, OneKey.came}
 use Rattle.dnssec_run.specs.declared.record.Mark.TheVariants.{Other, Report}
 use Rattle.dnssec_run.specs.{Published.in_ds, Safe.position_at, Safe.is_step}
-use Rattle.dnssec_run.specs.WholeRolls.{propagation, is_second}
+use Rattle.dnssec_run.specs.WholeRolls.{propagation}
 use Rattle.dnssec_zone.proofs.Flags.{Early, Late, Quiet, affects, SideOf, Keys, Zone, Stage}
 use Rattle.dnssec_zone.specs.Rolls.{same_roll}
 use Rattle.dnssec_zone.specs.Start.{together, lists_kind, side_of}

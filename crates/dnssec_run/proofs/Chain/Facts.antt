@@ -9,7 +9,9 @@ use Rattle.std.{specs.Prelude.if◌then◌else◌, proofs.lemmas.Bool.and_parts}
 use Rattle.dnssec_keyset.proofs.Exchange.Kinds.{apart-kinds}
 use Rattle.dnssec_key.specs.declared.roll.RollType.{RollType, TheVariants.ZskDoubleSignatureRoll}
 use Rattle.dnssec_key.specs.declared.{roll.RollType.TheVariants.CskRoll, kind.KeyType.KeyType}
-use Rattle.dnssec_key.specs.RollTable.{column, First, Second, Half, half_of}
+use Rattle.dnssec_key.specs.declared.roll.Half.{Half}
+use Rattle.dnssec_key.specs.declared.roll.Half.TheVariants.{First, Second}
+use Rattle.dnssec_key.specs.RollTable.{column, half_of}
 use Rattle.dnssec_run.proofs.Chain.Tables.{written, read, checked, want_on}
 use Rattle.dnssec_run.proofs.Chain.Flags.{SideSet, Shared, switches, is_in, first_set, in_use, live}
 use Rattle.dnssec_run.proofs.Chain.Flags.{second_set, remains, used_in}

@@ -7,7 +7,8 @@ use Rattle.std.proofs.Common.{◌≡◌, Bool, true, not, ◌&&◌, ◌||◌, ar
 use Rattle.std.proofs.lemmas.Bool.{and_parts}
 use Rattle.dnssec_key.specs.declared.roll.RollType.{RollType, TheVariants.AlgorithmRoll}
 use Rattle.dnssec_key.specs.declared.kind.KeyType.{KeyType}
-use Rattle.dnssec_key.specs.RollTable.{column, First, Second, half_of}
+use Rattle.dnssec_key.specs.declared.roll.Half.TheVariants.{First, Second}
+use Rattle.dnssec_key.specs.RollTable.{column, half_of}
 use Rattle.dnssec_run.specs.{ByAlgorithm.keeps_ksk, ByAlgorithm.keeps_zsk, Published.in_ds}
 use Rattle.dnssec_run.proofs.Chain.Flags.{Shared, Own, is_in, in_use, live, remains}
 use Rattle.dnssec_run.proofs.Chain.Facts.{Seen, stays}

@@ -9,7 +9,8 @@ use Rattle.dnssec_zone.specs.Lists.{Listed, Lists, listed_by, with_listed, witho
 use Rattle.dnssec_zone.specs.Lists.{lists_after_report}
 use Rattle.dnssec_zone.specs.{Rolls.same_roll, Start.is_listed}
 use Rattle.dnssec_zone.proofs.Flags.{SideOf, affects, has_role}
-use Rattle.dnssec_key.specs.{RollTable.Half, declared.roll.RollType.RollType}
+use Rattle.dnssec_key.specs.declared.roll.Half.{Half}
+use Rattle.dnssec_key.specs.declared.roll.RollType.{RollType}
 use Rattle.dnssec_key.specs.declared.roll.RollState.{RollState, TheVariants.Propagation1}
 use Rattle.dnssec_run.proofs.Chain.Tale.{Tale, Key, world_at, put_roll}
 use Rattle.dnssec_run.proofs.Chain.Rolls.{same-same, put-same, put-other}

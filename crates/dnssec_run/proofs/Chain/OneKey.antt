@@ -11,7 +11,9 @@ use Rattle.std.proofs.Common.{arith, List, Option, Some}
 use Rattle.std.specs.Option.{option_map}
 use Rattle.dnssec_key.specs.declared.roll.{RollType.RollType, RollState.RollState}
 use Rattle.dnssec_key.specs.declared.{kind.KeyType.KeyType, roll.RollState.TheVariants.Propagation1}
-use Rattle.dnssec_key.specs.RollTable.{after_wait, after_expiry, cache_expire, Half, First, Second}
+use Rattle.dnssec_key.specs.declared.roll.Half.{Half}
+use Rattle.dnssec_key.specs.declared.roll.Half.TheVariants.{First, Second}
+use Rattle.dnssec_key.specs.RollTable.{after_wait, after_expiry, cache_expire}
 use Rattle.dnssec_zone.proofs.Flags.{SideOf, affects, may_start, started}
 use Rattle.dnssec_zone.specs.Start.{is_listed, lists_kind, side_of}
 use Rattle.dnssec_zone.specs.Lists.{has_kept_key}

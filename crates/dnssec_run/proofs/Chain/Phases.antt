@@ -12,7 +12,7 @@ use Rattle.dnssec_run.proofs.Chain.OneKey.{Mapped, Starts, Waits, of_found, goes
 use Rattle.dnssec_run.proofs.Chain.{Kinds.same_list, KeyCalls.Kept, KeyCalls.founds-kept}
 use Rattle.dnssec_run.specs.Safe.{position_at, base_below, is_step}
 use Rattle.dnssec_run.specs.declared.record.Mark.TheVariants.{Other, Report}
-use Rattle.dnssec_run.specs.{Published.Id, WholeRolls.is_second}
+use Rattle.dnssec_run.specs.{Published.Id}
 use Rattle.std.proofs.Common.{◌≡◌, ℕ, suc, ◌≤◌, ◌&&◌, Bool, true, false, sym, ◌∙◌, ap, subst}
 use Rattle.std.proofs.Common.{arith, List, Option, Some, not}
 use Rattle.std.proofs.lemmas.{Bool.and_from, Option.same_Some}
@@ -21,8 +21,9 @@ use Rattle.dnssec_key.specs.declared.roll.RollState.TheVariants.{Propagation1, C
 use Rattle.dnssec_key.specs.declared.roll.RollState.TheVariants.{Propagation2, CacheExpire2}
 use Rattle.dnssec_key.specs.declared.roll.{RollType.RollType, RollState.RollState}
 use Rattle.dnssec_key.specs.declared.kind.KeyType.{KeyType}
-use Rattle.dnssec_key.specs.RollTable.{column, after_wait, after_report, cache_expire}
-use Rattle.dnssec_key.specs.RollTable.{Half, First, Second}
+use Rattle.dnssec_key.specs.RollTable.{column, after_wait, after_report, cache_expire, is_second}
+use Rattle.dnssec_key.specs.declared.roll.Half.{Half}
+use Rattle.dnssec_key.specs.declared.roll.Half.TheVariants.{First, Second}
 use Rattle.dnssec_zone.proofs.Flags.{Quiet, Early, flags_fit, is_idle}
 use Rattle.dnssec_zone.specs.Start.{together, is_listed, lists_kind, side_of}
 

@@ -2,7 +2,9 @@
 use Rattle.std.proofs.Common.{◌≡◌, Bool, true, false, arith}
 use Rattle.dnssec_key.specs.declared.roll.RollType.{RollType, TheVariants.AlgorithmRoll}
 use Rattle.dnssec_key.specs.declared.kind.KeyType.{KeyType}
-use Rattle.dnssec_key.specs.RollTable.{column, Half, First, Second, half_of}
+use Rattle.dnssec_key.specs.declared.roll.Half.{Half}
+use Rattle.dnssec_key.specs.declared.roll.Half.TheVariants.{First, Second}
+use Rattle.dnssec_key.specs.RollTable.{column, half_of}
 use Rattle.dnssec_run.specs.{Published.in_ds, Safe.Ds, Safe.retires, Plain.needs_algorithm_roll}
 use Rattle.dnssec_run.proofs.Chain.{Flags.switches, Facts.timed}
 use Rattle.dnssec_zone.proofs.Flags.{SideOf, Keys, Zone, affects, started, Early, Late}

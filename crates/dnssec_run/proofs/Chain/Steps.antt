@@ -23,7 +23,7 @@ use Rattle.std.proofs.Common.{sym, ◌∙◌, ap, subst, arith, List, length, Op
 use Rattle.std.{specs.Option.option_map_or, proofs.lemmas.Bool.and_parts}
 use Rattle.dnssec_key.specs.{State.is_kept, Key.all_states, declared.roll.RollType.RollType}
 use Rattle.dnssec_key.specs.declared.{roll.RollState.RollState, kind.KeyType.KeyType}
-use Rattle.dnssec_key.specs.RollTable.{First, Second}
+use Rattle.dnssec_key.specs.declared.roll.Half.TheVariants.{First, Second}
 use Rattle.dnssec_zone.specs.{Rolls.same_roll, Start.is_listed}
 use Rattle.dnssec_zone.proofs.Flags.{SideOf, affects, Stage, Quiet, Early, Late, flags_fit, ended}
 use Rattle.dnssec_keyset.proofs.Laws.{same-is}

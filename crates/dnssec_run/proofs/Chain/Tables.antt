@@ -4,7 +4,8 @@ use Rattle.dnssec_zone.specs.Start.{Want, PresentKskRole, PresentZskRole, wants}
 use Rattle.std.proofs.Common.{◌≡◌, Bool, true, ℕ, ◌-◌, Option, arith, get_or, length}
 use Rattle.std.{proofs.lemmas.Bool.and_parts, specs.List.list_all}
 use Rattle.dnssec_key.specs.declared.{roll.RollType.RollType, kind.KeyType.KeyType}
-use Rattle.dnssec_key.specs.RollTable.{Half, half_of, column, Writes}
+use Rattle.dnssec_key.specs.declared.roll.Half.{Half}
+use Rattle.dnssec_key.specs.RollTable.{half_of, column, Writes}
 use Rattle.dnssec_base.specs.Stamps.{Stamps, stamp_named}
 use Rattle.dnssec_base.specs.declared.time.Stamp.{Stamp as StampOfCode}
 use Rattle.dnssec_base.specs.declared.time.Stamp.TheVariants as code

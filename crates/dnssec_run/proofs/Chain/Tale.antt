@@ -4,7 +4,8 @@ use Rattle.std.proofs.Common.{◌≡◌, ℕ, ◌-◌, ◌≤◌, ◌⊎◌, Boo
 use Rattle.std.proofs.Common.{arith}
 use Rattle.std.specs.Prelude.{if◌then◌else◌, ◌==◌, ◌*◌}
 use Rattle.std.specs.FinMap.{get}
-use Rattle.dnssec_key.specs.RollTable.{after_start, after_early_end, column, stamps_after, Half}
+use Rattle.dnssec_key.specs.declared.roll.Half.{Half}
+use Rattle.dnssec_key.specs.RollTable.{after_start, after_early_end, column, stamps_after}
 use Rattle.dnssec_key.specs.declared.roll.{RollType.RollType, RollState.RollState}
 use Rattle.dnssec_key.specs.{declared.kind.KeyType.KeyType, Key.KeyParts, Key.all_states}
 use Rattle.dnssec_key.specs.State.{is_future}

@@ -27,14 +27,16 @@ use Rattle.dnssec_run.specs.declared.record.Mark.TheVariants.{Other, Step, Repor
 use Rattle.dnssec_run.specs.declared.{call.Call.Call, record.Entry.Entry}
 use Rattle.dnssec_run.specs.{declared.record.Mark.Mark, Safe.position_at, Plain.IsPlain}
 use Rattle.dnssec_run.specs.{Plain.StaysSafe, ByAlgorithm.StaysSafeByEach, ByAlgorithm.algorithm_of}
-use Rattle.dnssec_run.specs.{Published.Id, WholeRolls.is_second}
+use Rattle.dnssec_run.specs.{Published.Id}
 use Rattle.std.proofs.Common.{◌≡◌, ℕ, zero, suc, ◌≤◌, inl, inr, Bool, true, false, refl, sym, ◌∙◌}
 use Rattle.std.proofs.Common.{ap, subst, arith, List, [], length, Option, None, Some}
 use Rattle.std.proofs.lemmas.Bool.{true≢false, cases_Bool, eqb-true, eq-eqb}
 use Rattle.std.proofs.lemmas.{Iterator.Adapters.option_map_id, Option.same_Some, Option.none-some}
 use Rattle.std.specs.{Prelude.if◌then◌else◌, Option.option_map, FinMap.get}
 use Rattle.std.specs.{Cmp.Lexicographic.bytes_decides, List.Contains}
-use Rattle.dnssec_key.specs.RollTable.{First, Second, after_wait, after_report, Half}
+use Rattle.dnssec_key.specs.declared.roll.Half.{Half}
+use Rattle.dnssec_key.specs.declared.roll.Half.TheVariants.{First, Second}
+use Rattle.dnssec_key.specs.RollTable.{after_wait, after_report, is_second}
 use Rattle.dnssec_key.specs.declared.roll.RollType.{RollType, TheVariants.AlgorithmRoll}
 use Rattle.dnssec_key.specs.declared.roll.RollState.{RollState, TheVariants.Propagation1}
 use Rattle.dnssec_key.specs.{declared.kind.KeyType.KeyType, Setters.Present}

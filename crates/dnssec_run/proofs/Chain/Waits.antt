@@ -1,5 +1,7 @@
 -- A wait keeps the invariant of both sides.
-use Rattle.dnssec_key.specs.RollTable.{after_wait, after_expiry, cache_expire, Half, First, Second}
+use Rattle.dnssec_key.specs.declared.roll.Half.{Half}
+use Rattle.dnssec_key.specs.declared.roll.Half.TheVariants.{First, Second}
+use Rattle.dnssec_key.specs.RollTable.{after_wait, after_expiry, cache_expire}
 use Rattle.dnssec_key.specs.RollTable.{half_of}
 use Rattle.dnssec_key.specs.declared.roll.RollType.{RollType, TheVariants.AlgorithmRoll}
 use Rattle.dnssec_key.specs.declared.kind.KeyType.{KeyType}

@@ -7,7 +7,9 @@ use Rattle.std.proofs.lemmas.Bool.{and_parts}
 use Rattle.std.proofs.{Math.Bool.and-true, Math.Bool.and-false, lemmas.Option.none-some}
 use Rattle.std.specs.{Prelude.if◌then◌else◌, Option.option_map_or, Str.bytes_eq, FinMap.get}
 use Rattle.std.specs.{FinMap.get-empty, Cmp.Lexicographic.slice_cmp, Ordering.nat_cmp}
-use Rattle.dnssec_key.specs.RollTable.{column, First, Half, half_of}
+use Rattle.dnssec_key.specs.declared.roll.Half.{Half}
+use Rattle.dnssec_key.specs.declared.roll.Half.TheVariants.{First}
+use Rattle.dnssec_key.specs.RollTable.{column, half_of}
 use Rattle.dnssec_key.specs.Setters.{Setting, set_by, is_flag_setting}
 use Rattle.dnssec_key.specs.declared.kind.KeyType.{KeyType, TheVariants.Csk}
 use Rattle.dnssec_key.specs.{declared.roll.RollType.RollType, State.is_kept, Key.all_states}

@@ -4,7 +4,9 @@ use Rattle.std.proofs.Common.{◌≡◌, ℕ, ◌≤◌, ◌⊎◌, inl, inr, Bo
 use Rattle.std.proofs.Common.{ap, arith, List, None, Some, subst}
 use Rattle.std.proofs.lemmas.{Bool.true≢false, Bool.and_parts, Iterator.Adapters.option_map_id}
 use Rattle.std.specs.{Option.option_map, Option.option_map_or, FinMap.get}
-use Rattle.dnssec_key.specs.RollTable.{half_of, Half, First, Second, column, after_report}
+use Rattle.dnssec_key.specs.declared.roll.Half.{Half}
+use Rattle.dnssec_key.specs.declared.roll.Half.TheVariants.{First, Second}
+use Rattle.dnssec_key.specs.RollTable.{half_of, column, after_report}
 use Rattle.dnssec_key.specs.RollTable.{after_wait}
 use Rattle.dnssec_key.specs.declared.roll.RollType.{RollType, TheVariants.ZskDoubleSignatureRoll}
 use Rattle.dnssec_key.specs.{declared.kind.KeyType.KeyType, Key.KeyParts}

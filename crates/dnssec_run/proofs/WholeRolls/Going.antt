@@ -5,7 +5,8 @@ use Rattle.std.proofs.Common.{◌∙◌, ap, List, Some}
 use Rattle.std.proofs.lemmas.Bool.{and_parts, cases_Bool, false_from_ne_true, true≢false}
 use Rattle.std.{proofs.lemmas.Option.same_Some, specs.FinMap.get}
 use Rattle.dnssec_key.specs.State.{is_active_ksk, is_active_zsk, is_kept, is_old, is_used, is_stale}
-use Rattle.dnssec_key.specs.RollTable.{column, half_of, Half}
+use Rattle.dnssec_key.specs.declared.roll.Half.{Half}
+use Rattle.dnssec_key.specs.RollTable.{column, half_of}
 use Rattle.dnssec_key.specs.declared.roll.{RollType.RollType, RollState.RollState}
 use Rattle.dnssec_key.specs.{declared.kind.KeyType.KeyType, Key.all_states, Key.KeyParts}
 use Rattle.dnssec_zone.specs.{Rolls.same_roll, Start.lists_kind, Start.side_of}

@@ -10,7 +10,9 @@ use Rattle.std.specs.{FinMap.get-empty, Ordering.nat_cmp}
 use Rattle.dnssec_base.specs.declared.error.Error.TheVariants.{WrongKeyState}
 use Rattle.dnssec_key.specs.declared.roll.RollState.TheVariants.{Propagation1, Done, CacheExpire1}
 use Rattle.dnssec_key.specs.declared.roll.RollState.TheVariants.{CacheExpire2}
-use Rattle.dnssec_key.specs.RollTable.{First, cache_expire, Half, Second, after_report, after_start}
+use Rattle.dnssec_key.specs.declared.roll.Half.{Half}
+use Rattle.dnssec_key.specs.declared.roll.Half.TheVariants.{First, Second}
+use Rattle.dnssec_key.specs.RollTable.{cache_expire, after_report, after_start}
 use Rattle.dnssec_key.specs.RollTable.{after_expiry, half_of}
 use Rattle.dnssec_key.specs.declared.{kind.KeyType.KeyType, roll.RollType.RollType}
 use Rattle.dnssec_key.specs.{declared.roll.RollState.RollState, Key.KeyParts, Key.all_states}

@@ -4,7 +4,8 @@ use Rattle.std.proofs.Common.{arith, ◌≡◌, ℕ, Bool, true, false, List, No
 use Rattle.std.proofs.lemmas.Bool.{and_parts}
 use Rattle.std.specs.{Prelude.is_some, Prelude.if◌then◌else◌, FinMap.get, Str.bytes_eq}
 use Rattle.dnssec_key.specs.declared.roll.{RollType.RollType, RollState.RollState}
-use Rattle.dnssec_key.specs.{Key.KeyParts, RollTable.Half, RollTable.after_report}
+use Rattle.dnssec_key.specs.declared.roll.Half.{Half}
+use Rattle.dnssec_key.specs.{Key.KeyParts, RollTable.after_report}
 use Rattle.dnssec_zone.specs.Lists.{Listed, Lists, listed_by, nothing_listed, without}
 use Rattle.dnssec_zone.specs.{Rolls.phase_of, Start.is_listed}
 use Rattle.dnssec_zone.proofs.Flags.{SideOf, affects}

@@ -6,8 +6,10 @@ use Rattle.std.proofs.lemmas.Bool.{true≢false, cases_lt}
 use Rattle.std.specs.{Option.option_map, FinMap.get, Prelude.◌≢◌}
 use Rattle.dnssec_key.specs.declared.roll.RollState.TheVariants.{Propagation1, CacheExpire1}
 use Rattle.dnssec_key.specs.declared.roll.RollState.TheVariants.{Propagation2, CacheExpire2, Done}
-use Rattle.dnssec_key.specs.RollTable.{Half, First, Second, after_report, after_wait, after_expiry}
-use Rattle.dnssec_key.specs.RollTable.{cache_expire, after_start}
+use Rattle.dnssec_key.specs.declared.roll.Half.{Half}
+use Rattle.dnssec_key.specs.declared.roll.Half.TheVariants.{First, Second}
+use Rattle.dnssec_key.specs.RollTable.{after_report, after_wait, after_expiry}
+use Rattle.dnssec_key.specs.RollTable.{cache_expire, after_start, is_second}
 use Rattle.dnssec_key.specs.declared.roll.RollType.{RollType, TheVariants.ZskDoubleSignatureRoll}
 use Rattle.dnssec_key.specs.{declared.roll.RollState.RollState, Key.KeyParts}
 use Rattle.dnssec_zone.specs.Start.{is_listed, lists_kind, side_of, serves_as_new, serves_as_kept}
@@ -16,7 +18,7 @@ use Rattle.dnssec_keyset.specs.{KeySet.KeySetParts, Laws.LeavesOthers, Laws.Roll
 use Rattle.dnssec_keyset.proofs.{Changes.Changes, Laws.no_cause}
 use Rattle.dnssec_run.specs.declared.record.{Entry.Entry, Mark.Mark, Mark.TheVariants.Report}
 use Rattle.dnssec_run.specs.Safe.{position_at}
-use Rattle.dnssec_run.specs.WholeRolls.{LastReport, is_second, counts_from, propagation}
+use Rattle.dnssec_run.specs.WholeRolls.{LastReport, counts_from, propagation}
 use Rattle.dnssec_run.proofs.Effects.{Own, by-phase, is_on}
 use Rattle.dnssec_run.proofs.Chain.Allowed.{can_start, waits_in_phase, spreads}
 use Rattle.dnssec_run.proofs.Chain.Facts.{other, timer, stays, timer-affects, stays_facts}

@@ -8,7 +8,9 @@ use Rattle.std.specs.{Ordering.nat_cmp, FinMap.get, FinMap.get-empty}
 use Rattle.dnssec_key.specs.declared.roll.RollType.{RollType, TheVariants.ZskDoubleSignatureRoll}
 use Rattle.dnssec_key.specs.declared.roll.RollState.{RollState}
 use Rattle.dnssec_key.specs.declared.roll.RollState.TheVariants.{CacheExpire1, CacheExpire2}
-use Rattle.dnssec_key.specs.RollTable.{Half, First, Second, cache_expire}
+use Rattle.dnssec_key.specs.declared.roll.Half.{Half}
+use Rattle.dnssec_key.specs.declared.roll.Half.TheVariants.{First, Second}
+use Rattle.dnssec_key.specs.RollTable.{cache_expire}
 use Rattle.dnssec_zone.specs.{Rolls.phase_of, Wait.longest_left, Wait.time_left}
 use Rattle.dnssec_zone.proofs.Flags.{SideOf, Zone}
 use Rattle.dnssec_zone.proofs.Longest.{longest-is, none-left, some-left}

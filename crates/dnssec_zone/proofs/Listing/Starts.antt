@@ -5,7 +5,8 @@ use Rattle.std.proofs.lemmas.Bool.{and_parts, and_right, cond_both}
 use Rattle.std.proofs.lemmas.List.{append-nil, Elements.filter-append}
 use Rattle.std.specs.{Prelude.Option, Prelude.filter, Option.option_map_or, Option.option_or}
 use Rattle.std.specs.FinMap.{get}
-use Rattle.dnssec_key.specs.RollTable.{Half, First, Second}
+use Rattle.dnssec_key.specs.declared.roll.Half.{Half}
+use Rattle.dnssec_key.specs.declared.roll.Half.TheVariants.{First, Second}
 use Rattle.dnssec_key.specs.{declared.roll.RollType.RollType, State.is_kept, Key.KeyParts}
 use Rattle.dnssec_key.specs.Key.{all_states}
 use Rattle.dnssec_zone.specs.Inner.Entries.{is_of, is_of_roll, without_roll, entry_of}

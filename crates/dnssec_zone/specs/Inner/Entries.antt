@@ -7,7 +7,8 @@ use Rattle.std.specs.FinMap.{get, entries}
 use Rattle.dnssec_key.specs.declared.roll.RollType.{RollType}
 use Rattle.dnssec_key.specs.State.{is_kept}
 use Rattle.dnssec_key.specs.Key.{KeyParts, all_states}
-use Rattle.dnssec_key.specs.RollTable.{Half, First, Second}
+use Rattle.dnssec_key.specs.declared.roll.Half.{Half}
+use Rattle.dnssec_key.specs.declared.roll.Half.TheVariants.{First, Second}
 use Rattle.dnssec_zone.specs.declared.lists.ListedKey.{ListedKey}
 use Rattle.dnssec_zone.specs.declared.lists.Part.{Part}
 use Rattle.dnssec_zone.specs.declared.lists.Part.TheVariants.{Old, New}

@@ -3,7 +3,8 @@ use Rattle.std.specs.Prelude.{ℕ, ◌+◌, ◌*◌, Option, None, Some, if◌th
 use Rattle.std.specs.Option.{option_map}
 use Rattle.dnssec_key.specs.declared.roll.RollType.{RollType}
 use Rattle.dnssec_key.specs.Key.{KeyParts}
-use Rattle.dnssec_key.specs.RollTable.{Half, half_of}
+use Rattle.dnssec_key.specs.declared.roll.Half.{Half}
+use Rattle.dnssec_key.specs.RollTable.{half_of}
 use Rattle.dnssec_zone.specs.Wait.{stamp_read}
 
 -- the moment from which nothing is left of a wait of ttl seconds since a stamp; if the TTL is 0,

@@ -3,7 +3,7 @@ use Rattle.std.specs.Prelude.{◌≡◌, Option, None, Some, IfSome, ℕ, nat_eq
 use Rattle.std.specs.Prelude.{if◌then◌else◌, unwrap_or}
 use Rattle.std.specs.Option.{option_eq, option_and_then}
 use Rattle.dnssec_key.specs.Key.{KeyParts}
-use Rattle.dnssec_key.specs.RollTable.{Half, which}
+use Rattle.dnssec_key.specs.declared.roll.Half.{Half}
 use Rattle.dnssec_key.specs.declared.roll.RollType.{RollType}
 use Rattle.dnssec_zone.specs.declared.wait_end.ReportedWait.{ReportedWait}
 use Rattle.dnssec_zone.specs.declared.wait_end.Others.{Others}
@@ -27,8 +27,8 @@ IsByOthers roll half ttl others keys =
 abbrev pub IsKnown : Option ReportedWait → Keys → Type 0
 IsKnown None keys = Unit {0}
 IsKnown (Some wait) keys =
-    IsLatest (over_at wait.roll (which wait.half) wait.ttl) keys wait.over
-    × IsByOthers wait.roll (which wait.half) wait.ttl wait.others keys
+    IsLatest (over_at wait.roll wait.half wait.ttl) keys wait.over
+    × IsByOthers wait.roll wait.half wait.ttl wait.others keys
 
 -- it is so of both waits
 abbrev pub AreKnown : Waits → Keys → Type 0
@@ -37,7 +37,7 @@ AreKnown waits keys = IsKnown waits.of_ksks keys × IsKnown waits.of_zsks keys
 -- all that a wait sees of a key: the moment from which nothing is left for the key
 abbrev pub over_for : Option ReportedWait → KeyParts → Option ℕ
 over_for None k = None
-over_for (Some wait) k = over_at wait.roll (which wait.half) wait.ttl k
+over_for (Some wait) k = over_at wait.roll wait.half wait.ttl k
 
 -- what is known by the others once the key with a tag has changed
 abbrev pub by_others : ℕ → Option ℕ → ReportedWait → Option Others → Option ReportedWait

@@ -1,7 +1,7 @@
 -- The roll is in a phase.
 use Rattle.std.proofs.Common.{◌≡◌, ◌∙◌, ap, sym, Option, Some}
 use Rattle.dnssec_key.specs.declared.roll.{RollState.RollState, RollType.RollType}
-use Rattle.dnssec_key.specs.RollTable.{First, Second}
+use Rattle.dnssec_key.specs.declared.roll.Half.TheVariants.{First, Second}
 use Rattle.dnssec_policy.specs.Code.{end_of, view_of}
 use Rattle.dnssec_policy.specs.InProgress.{wait_next}
 use Rattle.dnssec_policy.specs.{Next.phase_next, View.View}

@@ -1,5 +1,5 @@
 -- A report retires what its phase asks to report.
-use Rattle.dnssec_key.specs.RollTable.{First, Second}
+use Rattle.dnssec_key.specs.declared.roll.Half.TheVariants.{First, Second}
 use Rattle.dnssec_run.{specs.Safe.kind_of, proofs.Asked.Actions.retires-asked}
 use Rattle.dnssec_run.proofs.caches.retires.Goals as goal
 

@@ -1,7 +1,6 @@
 -- A wait is answered by the end that the walk finds. To keep it changes no key.
 use Rattle.std.proofs.Common.{◌≡◌, refl, ap, subst, ◌∙◌, arith}
 use Rattle.std.specs.Prelude.{IfNone}
-use Rattle.dnssec_key.specs.RollTable.{which}
 use Rattle.dnssec_zone.specs.Wait.{IsOverFrom, LacksStamp}
 use Rattle.dnssec_keyset.specs.KeySet.{KeySetParts}
 use Rattle.dnssec_keyset.proofs.Replies.{ttl-shown, left-now}
@@ -13,10 +12,10 @@ returns-then-now-end-clause-reply c =
     let same : c.find_wait.new.self ≡ a.self.now.keys =
     c.find_wait.ensures ∙ ap (λ (v : KeySetParts). v.keys) c.self.view_is in
     let now = c.as_nanos-now.ensures ∙ c.from.ensures in
-    let over = subst (λ keys. IsOverFrom a.rolltype (which a.half) c.in-Some.ttl keys
+    let over = subst (λ keys. IsOverFrom a.rolltype a.half c.in-Some.ttl keys
     c.in-Some-over_from.end) same c.in-Some-over_from.ensures.over in
     rw (
-      ttl-shown (which a.half) a.rolltype c.self.inside a.self.now c.self.view_is _
+      ttl-shown a.half a.rolltype c.self.inside a.self.now c.self.view_is _
           c.in-Some.ensures,
       over.early a.now.now
           (omega (arith, now, c.if-now-end.true)),
@@ -28,11 +27,11 @@ returns-in_default-over_from-clause-reply c =
     let a = c.args in
     let same : c.find_wait.new.self ≡ a.self.now.keys =
     c.find_wait.ensures ∙ ap (λ (v : KeySetParts). v.keys) c.self.view_is in
-    let lacks = subst (λ keys. LacksStamp a.rolltype (which a.half) c.in-Some.ttl keys) same
-    (subst (λ o. IfNone o (LacksStamp a.rolltype (which a.half) c.in-Some.ttl
+    let lacks = subst (λ keys. LacksStamp a.rolltype a.half c.in-Some.ttl keys) same
+    (subst (λ o. IfNone o (LacksStamp a.rolltype a.half c.in-Some.ttl
     c.find_wait.new.self)) c.in_default-over_from.is c.over_from.ensures.missing) in
     rw (
-      ttl-shown (which a.half) a.rolltype c.self.inside a.self.now c.self.view_is _
+      ttl-shown a.half a.rolltype c.self.inside a.self.now c.self.view_is _
           c.in-Some.ensures,
       lacks a.now.now,
     ) refl
@@ -43,10 +42,10 @@ returns-clause-reply c =
     let same : c.find_wait.new.self ≡ a.self.now.keys =
     c.find_wait.ensures ∙ ap (λ (v : KeySetParts). v.keys) c.self.view_is in
     let now = c.as_nanos-now.ensures ∙ c.from.ensures in
-    let over = subst (λ keys. IsOverFrom a.rolltype (which a.half) c.in-Some.ttl keys
+    let over = subst (λ keys. IsOverFrom a.rolltype a.half c.in-Some.ttl keys
     c.in-Some-over_from.end) same c.in-Some-over_from.ensures.over in
     rw (
-      ttl-shown (which a.half) a.rolltype c.self.inside a.self.now c.self.view_is _
+      ttl-shown a.half a.rolltype c.self.inside a.self.now c.self.view_is _
           c.in-Some.ensures,
       over.over a.now.now
           (omega (arith, now, c.if-now-end.false)),

@@ -1,6 +1,6 @@
 -- A wait that is due has an end, and a roll without one has no wait.
 use Rattle.std.proofs.Common.{Some, sym, ◌∙◌, ap, refl, rules}
-use Rattle.dnssec_key.specs.RollTable.{First, Second}
+use Rattle.dnssec_key.specs.declared.roll.Half.TheVariants.{First, Second}
 use Rattle.dnssec_keyset.proofs.Replies.{no-end, no-wait-phase}
 use Rattle.dnssec_keyset.proofs.set.KeySet.over_in_phase.Goals as goal
 

@@ -1,11 +1,11 @@
 -- The walk moves each key as an accepted wait does; if that may change a count, all are counted.
 use Rattle.std.proofs.{Common.refl, Common.rules, lemmas.Map.Made.map_same_pairs}
-use Rattle.dnssec_key.specs.RollTable.{which, after_wait}
+use Rattle.dnssec_key.specs.RollTable.{after_wait}
 use Rattle.dnssec_zone.proofs.{Counted.counts-waited, Walks.IsWalked, Walks.get-walked}
 use Rattle.dnssec_zone.proofs.{Tags.tags-walked}
 use Rattle.dnssec_zone.proofs.keys.Keys.go_on_all.Goals as goal
 
-walk : (c : goal.After-go_on) → IsWalked (after_wait c.args.roll (which c.args.half) c.args.now)
+walk : (c : goal.After-go_on) → IsWalked (after_wait c.args.roll c.args.half c.args.now)
     c.self.inside.map c.retain.new.self
 walk c = record {
   is = map_same_pairs _ _ _ (λ k v b w f t. search rules) _ _ c.retain.ensures.filtered;

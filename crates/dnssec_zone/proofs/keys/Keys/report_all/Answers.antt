@@ -1,12 +1,12 @@
 -- The walk stamps each key as a report does, and leaves tags, kinds and flags. A second walk finds
 -- out about the wait.
 use Rattle.std.proofs.{Common.refl, Common.rules, lemmas.Map.Made.map_same_pairs}
-use Rattle.dnssec_key.specs.RollTable.{which, after_report}
+use Rattle.dnssec_key.specs.RollTable.{after_report}
 use Rattle.dnssec_zone.proofs.{Counted.counts-kept, Walks.IsWalked, Walks.get-walked}
 use Rattle.dnssec_zone.proofs.{Tags.tags-walked}
 use Rattle.dnssec_zone.proofs.keys.Keys.report_all.Goals as goal
 
-walk : (c : goal.After-report) → IsWalked (after_report c.args.roll (which c.args.half) c.args.now)
+walk : (c : goal.After-report) → IsWalked (after_report c.args.roll c.args.half c.args.now)
     c.self.inside.map c.retain.new.self
 walk c = record {
   is = map_same_pairs _ _ _ (λ k v b w f t. search rules) _ _ c.retain.ensures.filtered;
