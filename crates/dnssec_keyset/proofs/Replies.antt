@@ -1,10 +1,10 @@
 -- What a wait answers at any moment, from the end that the walk over the keys finds.
-use Rattle.std.proofs.Common.{arith, ◌≡◌, ℕ, Some, None, refl, sym, ap, ◌∙◌, min}
+use Rattle.std.proofs.Common.{arith, ◌≡◌, ℕ, Some, None, refl, subst, sym, ap, ◌∙◌, min}
 use Rattle.std.specs.Prelude.{Option, ◌*◌, ◌-◌, IfNone}
 use Rattle.dnssec_base.specs.declared.error.Error.TheVariants.{WrongStateForRollOperation}
 use Rattle.dnssec_base.specs.declared.error.Error.TheVariants.{WrongKeyState}
 use Rattle.dnssec_zone.specs.{Wait.ttl_in, Wait.Barred, Wait.wait_in_phase, Wait.LacksStamp}
-use Rattle.dnssec_zone.specs.{Rolls.phase_of}
+use Rattle.dnssec_zone.specs.{Keys.Keys, Rolls.phase_of, Wait.IsOverFrom}
 use Rattle.dnssec_zone.proofs.Tests.{some_or_none}
 use Rattle.dnssec_key.specs.declared.roll.Half.{Half}
 use Rattle.dnssec_key.specs.declared.roll.Half.TheVariants.{First, Second}
@@ -27,6 +27,17 @@ pub ttl-shown : (half : Half) (roll : RollType) (i : SetInside) (v : KeySetParts
     → (ttl : ℕ) → Some ttl ≡ ttl_in half (phase_of i.rolls roll)
     → ttl_in half (phase_of v.rolls roll) ≡ Some ttl
 ttl-shown half roll i v e ttl is = ap (ttl_in half) (phase-shown roll i v e) ∙ sym is
+
+-- and the end of the wait, if the walk over the keys found it
+pub end-shown : (half : Half) (roll : RollType) (i : SetInside) (v : KeySetParts) → set_view i ≡ v
+    → (ttl end : ℕ) (keys : Keys) → keys ≡ (set_view i).keys
+    → Some ttl ≡ ttl_in half (phase_of i.rolls roll) → IsOverFrom roll half ttl keys end
+    → (ttl_in half (phase_of v.rolls roll) ≡ Some ttl) × IsOverFrom roll half ttl v.keys end
+end-shown half roll i v e ttl end keys same is over = (
+  ttl-shown half roll i v e ttl is,
+  subst (λ keys. IsOverFrom roll half ttl keys end) (same ∙ ap (λ (w : KeySetParts). w.keys) e)
+      over,
+)
 
 -- what is left, if the moment is given as a duration
 pub left-now : (ttl end : ℕ) {now nanos : ℕ} → nanos ≡ now →

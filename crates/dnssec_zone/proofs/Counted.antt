@@ -27,7 +27,13 @@ use Rattle.dnssec_key.specs.declared.roll.Half.{Half}
 use Rattle.dnssec_key.specs.{RollTable.half_of, RollTable.column}
 use Rattle.dnssec_key.specs.{RollTable.after_wait, Setters.Setting, Setters.set_by}
 use Rattle.dnssec_key.specs.{declared.roll.RollType.RollType, State.is_stale, Sides.wait_moves_kept}
+use Rattle.std.specs.Int.{from_bool}
 use Rattle.std.specs.FinMap as fin
+
+-- a bit is the number of its Bool
+pub from_bool-bit : (b : Bool) → from_bool b ≡ bit b
+from_bool-bit true = refl
+from_bool-bit false = refl
 
 tied : (r q : List ℕ) → bytes_eq r q ≡ eq_by_cmp (slice_cmp nat_cmp) q r
 tied r q = nat_list_eq_equiv.symm r q ∙ sym (is_eq-slice_cmp q r)

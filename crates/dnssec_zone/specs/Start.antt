@@ -32,11 +32,7 @@ use Rattle.dnssec_zone.specs.Keys.{Keys, some_entry}
 abbrev pub are_apart : Side → Side → Bool
 are_apart KskSide ZskSide = true
 are_apart ZskSide KskSide = true
-are_apart KskSide KskSide = false
-are_apart KskSide BothSides = false
-are_apart ZskSide ZskSide = false
-are_apart ZskSide BothSides = false
-are_apart BothSides _ = false
+are_apart _ _ = false
 
 -- two rolls go together if one changes only KSKs, the other only ZSKs
 abbrev pub together : RollType → RollType → Bool

@@ -251,9 +251,7 @@ impl Keys {
     {
         let mut count = 0;
         for (i, reference) in old.iter().enumerate() {
-            if self.serves_but_for(want, reference, &old[..i]) {
-                count += 1;
-            }
+            count += usize::from(self.serves_but_for(want, reference, &old[..i]));
         }
         count
     }
@@ -267,9 +265,7 @@ impl Keys {
         let mut earlier = [0; 1024];
         let mut count = 0;
         for reference in old {
-            if self.serves_first(want, reference, &earlier) {
-                count += 1;
-            }
+            count += usize::from(self.serves_first(want, reference, &earlier));
             self.add_tag(&mut earlier, reference);
         }
         count

@@ -18,13 +18,12 @@ ghost use Rattle.dnssec_zone.specs.Keys.{Keys as AnyKeys, has_tag, keys_in_map};
 ghost use Rattle.dnssec_zone.specs.Refusals.{Answers, reference_refusal};
 
 use crate::mark::KeyMark;
-use crate::wait_end::Waits;
+use crate::wait_end::{KeyMap, Waits};
 use dnssec_key::{
     Error, Half, Key, KeyType, RollType, Setting, TagIndex, Want, is_kept_at_parent,
     is_kept_present, mark_new, mark_old, wait_moves_kept,
 };
 use std::alloc::Global;
-use std::collections::HashMap;
 
 /// Up to this many keys we read each key's tag; more keys have an index of their tags.
 const KEYS_WITHOUT_INDEX: usize = 16;
@@ -173,7 +172,7 @@ impl Derived {
     pub(crate) fn index_many(
         &mut self,
         alloc: Global,
-        keys: &HashMap<String, Key>,
+        keys: &KeyMap,
         pubref: &str,
     ) -> Result<(), Error>
         ensures agree { TagsAgree (has self.old.tags) (keys_in_map keys.now)
@@ -256,7 +255,7 @@ impl Derived {
     }
 
     /// Flags of keys have changed: all are counted again.
-    pub(crate) fn recount(&mut self, keys: &HashMap<String, Key>)
+    pub(crate) fn recount(&mut self, keys: &KeyMap)
         ensures tags { self.new.tags ≡ self.old.tags }
         ensures counts { CountsAgree self.new.counts (keys_in_map keys.now) }
         ensures waits { (keys : AnyKeys) → AreKnown self.new.waits keys }
@@ -267,13 +266,7 @@ impl Derived {
 
     /// A report has stamped the keys. Tools ask often for the wait that it begins, so what a walk
     /// finds out about that wait is kept.
-    pub(crate) fn report(
-        &mut self,
-        keys: &HashMap<String, Key>,
-        roll: RollType,
-        half: Half,
-        ttl: u32,
-    )
+    pub(crate) fn report(&mut self, keys: &KeyMap, roll: RollType, half: Half, ttl: u32)
         ensures tags { self.new.tags ≡ self.old.tags }
         ensures counts { self.new.counts ≡ self.old.counts }
         ensures waits { AreKnown self.new.waits (keys_in_map keys.now) }
@@ -282,13 +275,7 @@ impl Derived {
     }
 
     /// A wait is asked for: what walks find out about it is kept.
-    pub(crate) fn find_wait(
-        &mut self,
-        keys: &HashMap<String, Key>,
-        roll: RollType,
-        half: Half,
-        ttl: u32,
-    )
+    pub(crate) fn find_wait(&mut self, keys: &KeyMap, roll: RollType, half: Half, ttl: u32)
         ensures tags { self.new.tags ≡ self.old.tags }
         ensures counts { self.new.counts ≡ self.old.counts }
         ensures waits { AreKnown self.old.waits (keys_in_map keys.now)
@@ -298,7 +285,7 @@ impl Derived {
     }
 
     /// A wait has moved the keys on. They are counted again if that may change a count.
-    pub(crate) fn go_on(&mut self, keys: &HashMap<String, Key>, roll: RollType, half: Half)
+    pub(crate) fn go_on(&mut self, keys: &KeyMap, roll: RollType, half: Half)
         ensures tags { self.new.tags ≡ self.old.tags }
         ensures moved { wait_moves_kept roll half ≡ true
             → CountsAgree self.new.counts (keys_in_map keys.now) }
@@ -314,7 +301,7 @@ impl Derived {
 }
 
 /// An index of the tags of the keys.
-fn index_of(alloc: Global, keys: &HashMap<String, Key>) -> Result<TagIndex, Error>
+fn index_of(alloc: Global, keys: &KeyMap) -> Result<TagIndex, Error>
     ensures ok { IfOk result (λ index. (t : ℕ) →
         has index t ≡ Some (has_tag t (keys_in_map keys.now))) }
     ensures err { IsOkUnless result OutOfMemory }
@@ -327,14 +314,14 @@ fn index_of(alloc: Global, keys: &HashMap<String, Key>) -> Result<TagIndex, Erro
 }
 
 /// The counts of the keys.
-fn count_all(keys: &HashMap<String, Key>) -> Counts
+fn count_all(keys: &KeyMap) -> Counts
     ensures { CountsAgree result (keys_in_map keys.now) }
 {
     count_one_by_one(keys)
 }
 
 /// The counts by a walk over the keys.
-fn count_one_by_one(keys: &HashMap<String, Key>) -> Counts
+fn count_one_by_one(keys: &KeyMap) -> Counts
     ensures walk { result ≡ fold (λ c k. with_key k.keytype c) no_counts (hash.values keys.now) }
     ensures unique { hash.IsUnique string_eq keys.now }
     ensures fits { length keys.now.entries ≤ 18446744073709551615 }

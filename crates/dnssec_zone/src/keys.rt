@@ -17,7 +17,7 @@ ghost use Rattle.dnssec_zone.specs.Wait.{IsOverFrom, LacksStamp};
 
 use crate::derived::Derived;
 use crate::mark::KeyMark;
-use crate::wait_end::over_from;
+use crate::wait_end::{KeyMap, over_from};
 use dnssec_key::{
     Error, Half, Key, RollType, Setting, TagSet, UnixTime, Want, is_set, move_on, stamp_report,
     unmark_new, unmark_old,
@@ -30,7 +30,7 @@ use std::marker::Model;
 /// The keys of a zone by their public references.
 #[derive(Drop)]
 pub struct Keys {
-    map: HashMap<String, Key>,
+    map: KeyMap,
     derived: Derived,
 }
 
@@ -49,7 +49,7 @@ impl Model for Keys {
 }
 
 /// Whether some key has the tag, by a walk over the keys.
-fn some_has_tag(keys: &HashMap<String, Key>, key_tag: u16) -> bool
+fn some_has_tag(keys: &KeyMap, key_tag: u16) -> bool
     ensures some { result ≡ list_any (λ k. nat_eq k.key_tag key_tag) (hash.values keys.now) }
     ensures unique { hash.IsUnique string_eq keys.now }
 {
@@ -58,7 +58,7 @@ fn some_has_tag(keys: &HashMap<String, Key>, key_tag: u16) -> bool
 
 /// Puts a key at a reference that no other key has.
 #[inline(always)]
-fn put_new(map: &mut HashMap<String, Key>, pubref: String, key: Key) -> Result<(), Error>
+fn put_new(map: &mut KeyMap, pubref: String, key: Key) -> Result<(), Error>
     ensures reply { Answers
         (reference_refusal (hash.get_by_text map.old (string_bytes pubref))) result }
     ensures ok { OnOk result ((q : List ℕ) → hash.get_by_text map.new q

@@ -13,6 +13,9 @@ use dnssec_key::{
 use std::collections::HashMap;
 use std::time::Duration;
 
+/// Keys by their public references.
+pub(crate) type KeyMap = HashMap<String, Key>;
+
 /// A wait that a report has begun, and what walks over the keys found out about it.
 #[derive(Clone, Copy)]
 pub(crate) struct ReportedWait {
@@ -165,6 +168,8 @@ impl Waits {
     }
 
     /// What the waits see of a key.
+    // Out of line, as the next function, so that a setter which finds no wait stays short.
+    #[inline(never)]
     fn seen(&self, key: &Key) -> Sights
         ensures ksks { result.of_ksks ≡ over_for self.now.of_ksks key.now }
         ensures zsks { result.of_zsks ≡ over_for self.now.of_zsks key.now }
@@ -176,6 +181,7 @@ impl Waits {
     }
 
     /// A setter has changed the key with a tag, and the waits see it as they do.
+    #[inline(never)]
     fn follow(&mut self, key_tag: u16, before: Sights, after: Sights)
         ensures ksks { self.new.of_ksks
             ≡ known_after key_tag before.of_ksks after.of_ksks self.old.of_ksks }
@@ -208,21 +214,6 @@ impl Waits {
             apply_setting(key, setting);
             return;
         }
-        self.set_and_see(key, setting);
-    }
-
-    /// The same by what the waits see of the key.
-    // Out of line, so that a setter which finds no wait stays short.
-    #[inline(never)]
-    fn set_and_see(&mut self, key: &mut Key, setting: Setting)
-        ensures key { key.new ≡ set_by (setting_of setting) key.old }
-        ensures ksks { self.new.of_ksks ≡ known_after key.old.key_tag
-            (over_for self.old.of_ksks key.old)
-            (over_for self.old.of_ksks (set_by (setting_of setting) key.old)) self.old.of_ksks }
-        ensures zsks { self.new.of_zsks ≡ known_after key.old.key_tag
-            (over_for self.old.of_zsks key.old)
-            (over_for self.old.of_zsks (set_by (setting_of setting) key.old)) self.old.of_zsks }
-    {
         let key_tag = key.key_tag();
         let before = self.seen(key);
         apply_setting(key, setting);
@@ -230,13 +221,7 @@ impl Waits {
     }
 
     /// A report has begun a wait. That of the other side is found anew.
-    pub(crate) fn report(
-        &mut self,
-        keys: &HashMap<String, Key>,
-        roll: RollType,
-        half: Half,
-        ttl: u32,
-    )
+    pub(crate) fn report(&mut self, keys: &KeyMap, roll: RollType, half: Half, ttl: u32)
         ensures { AreKnown self.new (keys_in_map keys.now) }
     {
         if is_of_zsks(roll) {
@@ -249,7 +234,7 @@ impl Waits {
     }
 
     /// The wait of a roll has moved the keys on. That of the other side is found anew.
-    pub(crate) fn go_on(&mut self, keys: &HashMap<String, Key>, roll: RollType)
+    pub(crate) fn go_on(&mut self, keys: &KeyMap, roll: RollType)
         ensures { AreKnown self.new (keys_in_map keys.now) }
     {
         if is_of_zsks(roll) {
@@ -262,7 +247,7 @@ impl Waits {
     }
 
     /// Finds a wait, if it isn't the one that is kept on its side.
-    pub(crate) fn find(&mut self, keys: &HashMap<String, Key>, roll: RollType, half: Half, ttl: u32)
+    pub(crate) fn find(&mut self, keys: &KeyMap, roll: RollType, half: Half, ttl: u32)
         ensures { AreKnown self.old (keys_in_map keys.now)
             → AreKnown self.new (keys_in_map keys.now) }
     {
@@ -285,13 +270,7 @@ fn is_of_zsks(roll: RollType) -> bool {
 
 /// A wait, as walks over the keys find it: one over all, and one over all but the key in which a
 /// wait saw a change, if there is one.
-fn found(
-    keys: &HashMap<String, Key>,
-    roll: RollType,
-    half: Half,
-    ttl: u32,
-    changed: Option<u16>,
-) -> ReportedWait
+fn found(keys: &KeyMap, roll: RollType, half: Half, ttl: u32, changed: Option<u16>) -> ReportedWait
     ensures { IsKnown (Some result) (keys_in_map keys.now) }
 {
     ReportedWait {
@@ -305,7 +284,7 @@ fn found(
 
 /// From when on a wait is over by all keys but one, if one is left out.
 fn others_from(
-    keys: &HashMap<String, Key>,
+    keys: &KeyMap,
     roll: RollType,
     half: Half,
     ttl: u32,
@@ -323,7 +302,7 @@ fn others_from(
 }
 
 /// What is known of a wait after all keys may have changed: a walk finds it anew.
-fn renewed(known: &Option<ReportedWait>, keys: &HashMap<String, Key>) -> Option<ReportedWait>
+fn renewed(known: &Option<ReportedWait>, keys: &KeyMap) -> Option<ReportedWait>
     ensures { IsKnown result (keys_in_map keys.now) }
 {
     match known {
@@ -335,7 +314,7 @@ fn renewed(known: &Option<ReportedWait>, keys: &HashMap<String, Key>) -> Option<
 /// The nanosecond since 1970 from which a wait of `ttl` seconds is over, or `None` if a stamp is
 /// missing: a walk over the keys, but for one with a tag that is left out.
 pub(crate) fn over_from(
-    keys: &HashMap<String, Key>,
+    keys: &KeyMap,
     roll: RollType,
     half: Half,
     ttl: u32,

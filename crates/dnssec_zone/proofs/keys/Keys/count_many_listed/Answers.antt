@@ -1,10 +1,8 @@
 -- Each turn counts one more of the listed keys, if it serves and stood nowhere before.
-use Rattle.std.proofs.Common.{◌≡◌, ◌+◌, refl, rules, arith, sym, ap, ◌∙◌, take}
+use Rattle.std.proofs.Common.{◌+◌, refl, rules, arith, sym, ap, ◌∙◌, take}
 use Rattle.dnssec_zone.specs.{Inner.Counts.bit, Start.serves_as_kept, Start.texts, Start.is_listed}
-use Rattle.dnssec_zone.proofs.Counted.{count-listed, none_listed}
+use Rattle.dnssec_zone.proofs.Counted.{count-listed, from_bool-bit, none_listed}
 use Rattle.dnssec_zone.proofs.Marks.{first-listed, listed_more}
-use Rattle.dnssec_zone.proofs.keys.Keys.count_many_listed.Goals.{then-serves_first}
-use Rattle.dnssec_zone.proofs.keys.Keys.count_many_listed.Goals.{else-serves_first}
 use Rattle.dnssec_key.proofs.BitWords.{zeros}
 use Rattle.dnssec_zone.proofs.keys.Keys.count_many_listed.Goals as goal
 
@@ -22,15 +20,11 @@ loop-reference-preserved c =
     let p = serves_as_kept c.args.want in
     let first = c.serves_first.ensures ∙ first-listed p c.args.self.now l.earlier
     (is_listed (texts (take l.reference-index c.args.old.now))) _ l.invariant.3 in
-    let more : c.if-serves_first.count ≡ l.count + bit c.serves_first.result =
-    elim c.if-serves_first.branch [
-      | then-serves_first w ↦ omega (arith, w.count-is, ap bit w.if-serves_first.true)
-      | else-serves_first w ↦ omega (arith, w.count-is, ap bit w.if-serves_first.false)
-    ] in (
-      grind (arith, l.invariant.0, more),
-      more ∙ (λ j. l.invariant.1 j + bit (first j)) ∙ sym (count-listed p _ _ _ c.args.self.now
-          (λ q. listed_more c.args.old.now l.reference-index _ q
-          c.loop-reference-test.true)),
+    let one = c.from-count.ensures ∙ from_bool-bit c.serves_first.result in (
+      grind (arith, l.invariant.0, one),
+      ap (λ n. l.count + n) one ∙ (λ j. l.invariant.1 j + bit (first j))
+          ∙ sym (count-listed p _ _ _ c.args.self.now
+          (λ q. listed_more c.args.old.now l.reference-index _ q c.loop-reference-test.true)),
       search rules,
       λ q k at. c.add_tag.ensures.listed _ l.invariant.3 q k at ∙ sym (listed_more
           c.args.old.now l.reference-index _ q c.loop-reference-test.true),
