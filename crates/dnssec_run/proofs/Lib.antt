@@ -36,4 +36,5 @@ pub mod Premise
 pub mod Starts
 pub mod Recorded
 pub mod Latest
+pub mod Lent
 pub mod InOrder

@@ -146,10 +146,6 @@ module _ (calls : List Call) (entries : List Entry) (n : ℕ) (roll : RollType) 
       → plain.DoesAt plain.start_of calls entries n roll
   start-made = does-too _ _ (λ c. sym (same-rolls c).0)
 
-  pub first_wait-seen : plain.DoesAt plain.first_wait_of calls entries n roll
-      → DoesAt first_wait_of calls entries n roll
-  first_wait-seen = does-too _ _ (λ c. (same-rolls c).1)
-
   pub first_wait-made : DoesAt first_wait_of calls entries n roll
       → plain.DoesAt plain.first_wait_of calls entries n roll
   first_wait-made = does-too _ _ (λ c. sym (same-rolls c).1)
@@ -196,5 +192,5 @@ module _ {name : List ℕ} {calls : List Call} {entries : List Entry}
     setters = sets-nothing p.setters;
     first = λ n roll wants start.
         let a = p.first n roll wants (start-made calls entries n roll start) in
-        (a.0, a.1, first_wait-seen calls entries a.0 AlgorithmRoll a.2);
+        (a.0, a.1, does-too calls entries a.0 AlgorithmRoll _ _ (λ c. (same-rolls c).1) a.2);
   }

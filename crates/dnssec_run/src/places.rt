@@ -70,8 +70,8 @@ fn position(shown: Shown, key: Option<&Key>, at: Option<usize>) -> Option<usize>
     }
 }
 
-/// The same for one set, if it may have changed.
-#[inline(always)]
+/// Puts a key into a set at its position, or takes it out if it has none, if the set may have
+/// changed. Says whether it has, and notes what stands around the place of the key.
 fn renew_place(
     alloc: Global,
     is_touched: bool,
@@ -95,27 +95,6 @@ fn renew_place(
         *frame = Frame::of(false, keys.len());
         return Ok(false);
     }
-    set_place(alloc, keys, at, reference, frame)
-}
-
-/// Puts a key into a set at its position, or takes it out if it has none. Says whether the set has
-/// changed, and notes what stands around the place of the key.
-fn set_place(
-    alloc: Global,
-    keys: &mut Vec<PublishedKey>,
-    at: Option<usize>,
-    reference: &str,
-    frame: &mut Frame,
-) -> Result<bool, Error>
-    ensures kept { IfOk result (λ changed. changed ≡ false → keys.new ≡ keys.old) }
-    ensures changed { IfOk result (λ changed. changed ≡ true →
-        length keys.old.items ≢ length keys.new.items) }
-    ensures frame { OnOk result (KeepsFrame frame.new (map id_of keys.old.items)
-        (map id_of keys.new.items)) }
-    ensures ok { OnOk result (IsAscending (map id_of keys.old.items) →
-        SetsPlace reference.now at (map id_of keys.old.items) (map id_of keys.new.items)) }
-    ensures err { IfErr result (λ e. e ≡ OutOfMemory) }
-{
     match keys.binary_search_by(|key| key.reference.as_str().cmp(reference)) {
         Ok(place) => {
             *frame = Frame {

@@ -279,7 +279,7 @@ always tale law (suc n) le = next tale law n le (always tale law n (omega arith)
 module _ (name : List ℕ) (calls : List Call) (entries : List Entry)
     (run : rec.IsRun name calls entries) where
   -- the run, with the family of all keys
-  abbrev whole : IsPlain name calls entries → Tale
+  abbrev pub whole : IsPlain name calls entries → Tale
   whole plain = record {
     name = name;
     calls = calls;

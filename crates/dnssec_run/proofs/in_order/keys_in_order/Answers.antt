@@ -2,7 +2,7 @@
 use Rattle.std.proofs.Common.{Bor, List, String, ap, map, rules, string_bytes, subst, sym, ℕ, ◌++◌}
 use Rattle.std.proofs.{Common.◌∙◌, lemmas.Fn.always_returns_same}
 use Rattle.std.proofs.lemmas.List.Sorted.{IsPermutation-map, IsPermutation-sym, IsPermutation-trans}
-use Rattle.std.proofs.lemmas.{List.Sorted.ranks_by, List.append-nil, Map.Iter.rest_so_far}
+use Rattle.std.proofs.lemmas.List.Sorted.{ranks_by}
 use Rattle.std.specs.Cmp.Lexicographic.{nat_list_cmp_total, slice_cmp}
 use Rattle.std.specs.{FinMap.entries_sorted, Global.Global, Ordering.is_lt, Ordering.nat_cmp}
 use Rattle.std.specs.Prelude.{IsPermutation}
@@ -10,7 +10,7 @@ use Rattle.dnssec_key.specs.Key.{KeyParts}
 use Rattle.dnssec_zone.proofs.Walks.{apart_by_bytes, entries_permute}
 use Rattle.dnssec_zone.specs.Keys.{entries_by_bytes, keys_in_map}
 use Rattle.dnssec_run.specs.Recorder.{entry_lent}
-use Rattle.dnssec_run.{proofs.InOrder.put_in_order, specs.InOrder.entry_of}
+use Rattle.dnssec_run.{proofs.InOrder.put_in_order, proofs.Lent.all-lent, specs.InOrder.entry_of}
 use mathlib.Core.List.{map-map}
 use Rattle.std.specs.FinMap as fin
 use Rattle.dnssec_run.proofs.in_order.keys_in_order.Goals as goal
@@ -32,10 +32,7 @@ returns c =
     let sorted : List Lent = c.sort_unstable_by.new.self.items in
     let ran = c.in_ok-entries.ensures.ran in
     let lent : List Lent → List (String Global × KeyParts) = map entry_lent in
-    let walked = sym c.iter.ensures.rest
-    ∙ rest_so_far entry_lent ran.0 c.iter.result ran.1.0 ran.1.1
-    ∙ ap (λ rest. lent ran.0 ++ rest) (ran.1.2 tt).1.0 ∙ append-nil (lent ran.0)
-    ∙ ap lent (sym ran.2.0) in
+    let walked = all-lent entry_lent c.iter.ensures.rest ran.1.1 (ran.1.2 tt).1.0 ran.2.0 in
     let all : IsPermutation m.entries (lent sorted) =
     rw walked (IsPermutation-map entry_lent _ _ c.sort_unstable_by.ensures.permutation) in
     let moved : IsPermutation (entries_by_bytes m) (map entry_of sorted) =

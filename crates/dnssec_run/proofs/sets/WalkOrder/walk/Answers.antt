@@ -2,16 +2,11 @@
 use Rattle.std.proofs.Common.{◌≡◌, ◌++◌, ◌∷◌, ◌∙◌, List, [], map, Some, sym, ap, subst, Bor, String}
 use Rattle.std.proofs.Common.{string_bytes}
 use Rattle.std.proofs.lemmas.List.Elements.{All-nil, All-cons, All-head, All-tail}
-use Rattle.std.proofs.lemmas.{List.append-nil, Map.Iter.rest_so_far}
 use Rattle.std.specs.{List.All, Global.Global}
 use Rattle.dnssec_key.specs.Key.{KeyParts}
-use Rattle.dnssec_run.specs.Recorder.{entry_lent}
+use Rattle.dnssec_run.{specs.Recorder.entry_lent, proofs.Lent.all-lent}
 use Rattle.std.specs.HashMap as hash
 use Rattle.dnssec_run.proofs.sets.WalkOrder.walk.Goals as goal
-
--- an entry as it is lent
-abbrev Lent : Type 0
-Lent = Bor (String Global) × Bor KeyParts
 
 -- what holds of the entries of the map holds of those that are lent
 lends : {A X : Type 0} (P : X → Type 0) (f : A → X) (xs : List A) → All P (map f xs)
@@ -25,9 +20,5 @@ returns-clause-found c =
     let P : String Global × KeyParts → Type 0 =
     λ e. hash.get_by_text c.args.keys.now (string_bytes e.0) ≡ Some e.1 in
     let ran = c.in_ok-entries.ensures.ran in
-    let lent : List Lent → List (String Global × KeyParts) = map entry_lent in
-    let walked = sym c.iter.ensures.rest
-    ∙ rest_so_far entry_lent ran.0 c.iter.result ran.1.0 ran.1.1
-    ∙ ap (λ rest. lent ran.0 ++ rest) (ran.1.2 tt).1.0 ∙ append-nil (lent ran.0)
-    ∙ ap lent (sym ran.2.0) in
+    let walked = all-lent entry_lent c.iter.ensures.rest ran.1.1 (ran.1.2 tt).1.0 ran.2.0 in
     lends P entry_lent c.in_ok-entries.entries.items (subst (All P) walked c.iter.ensures.found)
