@@ -1,6 +1,6 @@
 -- A walk over the map lends its entries, and sorting them leaves them the same.
-use Rattle.std.proofs.Common.{Bor, List, String, ap, map, rules, string_bytes, subst, sym, ℕ, ◌++◌}
-use Rattle.std.proofs.{Common.◌∙◌, lemmas.Fn.always_returns_same}
+use Rattle.std.proofs.Common.{Bor, List, String, map, rules, string_bytes, subst, ℕ}
+use Rattle.std.proofs.lemmas.Fn.{always_returns_same}
 use Rattle.std.proofs.lemmas.List.Sorted.{IsPermutation-map, IsPermutation-sym, IsPermutation-trans}
 use Rattle.std.proofs.lemmas.List.Sorted.{ranks_by}
 use Rattle.std.specs.Cmp.Lexicographic.{nat_list_cmp_total, slice_cmp}

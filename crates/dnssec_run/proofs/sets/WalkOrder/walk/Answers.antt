@@ -1,6 +1,5 @@
 -- A walk over the map lends its entries.
-use Rattle.std.proofs.Common.{◌≡◌, ◌++◌, ◌∷◌, ◌∙◌, List, [], map, Some, sym, ap, subst, Bor, String}
-use Rattle.std.proofs.Common.{string_bytes}
+use Rattle.std.proofs.Common.{◌≡◌, ◌∷◌, List, [], map, Some, subst, String, string_bytes}
 use Rattle.std.proofs.lemmas.List.Elements.{All-nil, All-cons, All-head, All-tail}
 use Rattle.std.specs.{List.All, Global.Global}
 use Rattle.dnssec_key.specs.Key.{KeyParts}
