@@ -46,7 +46,7 @@ all-named : (qs : List (List ℕ)) → ((q : List ℕ) → is_listed qs q ≡ tr
 all-named [] each = refl
 all-named (q ∷ qs) each =
     let here = each q (ap (λ b. b || is_listed qs q) ((bytes_decides q q).1 refl)) in
-    let rest = all-named qs (λ r l. each r (later (bytes_eq q r) (is_listed qs r) l)) in
+    let rest = all-named qs (λ r l. each r (later (bytes_eq r q) (is_listed qs r) l)) in
     rw (here, rest) refl
 
 module _ (policy : Policy) (v : View) (names : CanNameKeys v.set) where
@@ -97,9 +97,9 @@ adds-at : (c : keyset.Call) (q : List ℕ) → adds c q ≡ true → reference_a
 adds-at (keyset.AddKey r k) q t = ap Some ((bytes_decides r q).0 t)
 adds-at _ q t = absurd (true≢false (sym t))
 
-module _ {script name : List ℕ} {calls : List Call} {entries : List Entry}
+module _ (script : List ℕ) {name : List ℕ} {calls : List Call} {entries : List Entry}
     (is : IsScript script name calls) (run : IsRun name calls entries) where
-  set_at : ℕ → KeySetParts
+  abbrev set_at : ℕ → KeySetParts
   set_at n = (world_at name calls entries n).set
 
   next-named : (n : ℕ) (c : Call) (e : Entry) → slice_get calls n ≡ Some c
@@ -119,7 +119,7 @@ module _ {script name : List ℕ} {calls : List Call} {entries : List Entry}
       (λ n c e later within. next-named n c e) n (omega arith) within
 
 pub names : ScriptsNameKeys
-names script name calls entries n is run within = named-at is run n within
+names script name calls entries n is run within = named-at script is run n within
 
 -- ---- an answer
 
