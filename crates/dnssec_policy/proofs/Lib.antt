@@ -21,6 +21,7 @@
 -- | `nothing_is_silent`              | `outspoken`                           | Silence    |
 -- | `rest_is_as_wanted`              | `as-wanted`                           | Rests      |
 -- | `automatic_runs_grow`            | `grows`                               | Growing    |
+-- | `said_lines_are_read`            | `are-read`, `names`, `goes-on`        | Lines      |
 pub mod May
 pub mod Said
 pub mod Accepted
@@ -50,4 +51,5 @@ pub mod RollsEnd
 pub mod KeysLeave
 pub mod Loops
 pub mod Texts
+pub mod Lines
 pub mod Zone

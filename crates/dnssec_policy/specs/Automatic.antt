@@ -4,6 +4,7 @@ pub mod ZoneNotes
 pub mod Zone
 pub mod Lines
 pub mod Answer
+pub mod Said
 pub mod Asking
 pub mod Faults
 use Rattle.std.specs.Prelude.{◌≡◌, ◌⊎◌, ℕ, zero, suc, ◌≤◌, ◌&&◌, Bool, true, false, List, slice_get}

@@ -9,6 +9,7 @@ ghost use Rattle.dnssec_policy.specs.Laws.{ChangesStartInTime, NextGoesOn, NextI
 ghost use Rattle.dnssec_policy.specs.Laws.{NothingIsSilent};
 ghost use Rattle.dnssec_policy.specs.Laws.{EndsAreInTime, RenewalsStartInTime, ReportsAreInTime};
 ghost use Rattle.dnssec_policy.specs.Laws.{ReportsCountNoLonger, RestIsAsWanted};
+ghost use Rattle.dnssec_policy.specs.Automatic.Said.{AnswersGoOn, SaidLinesAreRead, ScriptsNameKeys};
 ghost use Rattle.dnssec_policy.specs.Delays.{KeysLeave, RollsEnd};
 ghost use Rattle.dnssec_policy.specs.Kept.{AutomaticRunsServeKeepers, KeptAlgorithmsSign};
 
@@ -108,6 +109,14 @@ pub fn rest_is_as_wanted()
 /// known of it.
 pub fn automatic_runs_grow()
     ensures { AutomaticRunsGrow }
+{}
+
+/// The line of a call that is said is read as that call, if a script can name each key: so it is
+/// after the calls of a script. So a script goes on by the line that answers it.
+pub fn said_lines_are_read()
+    ensures lines { SaidLinesAreRead }
+    ensures keys { ScriptsNameKeys }
+    ensures script { AnswersGoOn }
 {}
 
 /// A call that `next` answers was said, if the state that it was given is that after the calls so

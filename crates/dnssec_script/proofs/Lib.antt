@@ -11,7 +11,7 @@
 -- | `read_zone`             | `zone_none`, `spelled_utf8`    | Zone              |
 -- | `Lines::next`           | `read_on`, `read_fault`        | Judging           |
 --
--- `Texts` is for the crates above.
+-- `Texts` and `Added` are for the crates above.
 pub mod Ascii
 pub mod Digits
 pub mod Cuts
@@ -20,3 +20,4 @@ pub mod Rolls
 pub mod Lists
 pub mod Texts
 pub mod Judging
+pub mod Added

@@ -1,0 +1,261 @@
+-- A line that says a call is read as that call.
+use Rattle.std.proofs.Common.{◌≡◌, ℕ, ◌≤◌, ◌*◌, ◌∙◌, ◌++◌, ◌∷◌, List, [], Some, ap, arith, refl}
+use Rattle.std.proofs.Common.{sym, subst, ◌<◌, ◌==◌, Bool, true, false, not, ◌&&◌, map, length, append_assoc}
+use Rattle.std.proofs.Common.{◌⊎◌, inl, inr, bytes_eq, codes, decimal, All}
+use Rattle.std.proofs.lemmas.{Bool.true≢false, Bool.cases_Bool, Bool.false_from_ne_true, List.append-nil}
+use Rattle.std.proofs.lemmas.Bool.Decides.{nat_tests}
+use Rattle.std.proofs.lemmas.List.Splits.{length-slice_split, slice_split_at, slice_split_none}
+use Rattle.std.proofs.lemmas.List.Sums.{AllPass-from_list_all, list_all-from_AllPass}
+use Rattle.std.specs.List.{flat_map, list_all, onto_first, slice_split}
+use denote.Bor.{Bor, now}
+use Rattle.std.specs.Cmp.Lexicographic.{bytes_decides}
+use Rattle.std.specs.Prelude.{if◌then◌else◌, None, option_and_then, slice_index_or}
+use Rattle.std.proofs.lemmas.List.Folds.{list_all-append}
+use Rattle.dnssec_key.specs.declared.roll.RollType.{RollType}
+use Rattle.dnssec_key.specs.declared.roll.RollType.TheVariants as rolls
+use Rattle.dnssec_key.specs.declared.roll.Half.{Half}
+use Rattle.dnssec_key.specs.declared.roll.Half.TheVariants.{First, Second}
+use Rattle.dnssec_key.specs.Texts.{roll_name}
+use Rattle.dnssec_keyset.specs.Step as keyset
+use Rattle.dnssec_script.specs.Script.{Moment, Number, Reference, References, Roll, as_list, said_after_word, word_at}
+use Rattle.dnssec_script.specs.Script.{as_reference, as_roll, fields_of, is_list, is_reference, IsLineOf}
+use Rattle.dnssec_script.specs.Script.{is_reference_byte, references_of, roll_named, says, word_named}
+use Rattle.dnssec_run.specs.declared.call.Call.{Call}
+use Rattle.dnssec_run.specs.declared.call.Call.TheVariants as call
+use Rattle.dnssec_run.specs.Record.{call_of}
+use Rattle.dnssec_policy.specs.Automatic.Lines.{call_line, list_text, report_name, start_text, wait_name}
+use Rattle.dnssec_policy.proofs.Texts.Cut.{first-field, lacks, none-of, one-field}
+use Rattle.dnssec_policy.proofs.Texts.Numbers.{digits-lack, number-back, time-back}
+
+-- ---- names of rolls
+
+roll-lacks : (roll : RollType) → lacks 32 (roll_name roll)
+roll-lacks rolls.KskRoll = refl
+roll-lacks rolls.KskDoubleDsRoll = refl
+roll-lacks rolls.ZskRoll = refl
+roll-lacks rolls.ZskDoubleSignatureRoll = refl
+roll-lacks rolls.CskRoll = refl
+roll-lacks rolls.AlgorithmRoll = refl
+
+roll-back : (roll : RollType) → as_roll (roll_name roll) ≡ Some (Roll roll)
+unfolding as_roll roll_named
+roll-back rolls.KskRoll = refl
+roll-back rolls.KskDoubleDsRoll = refl
+roll-back rolls.ZskRoll = refl
+roll-back rolls.ZskDoubleSignatureRoll = refl
+roll-back rolls.CskRoll = refl
+roll-back rolls.AlgorithmRoll = refl
+
+-- the line of the call at this second says it
+abbrev Says : Call → ℕ → Type 0
+Says c n = IsLineOf (call_line (call_of c) n) c
+
+-- what fields say
+said-by : (line : List ℕ) (fields : List (List ℕ)) → fields_of line ≡ fields
+    → says line ≡ option_and_then (λ x. said_after_word x.0 x.1) (word_at fields)
+unfolding says
+said-by line fields is = ap (λ l. option_and_then (λ x. said_after_word x.0 x.1) (word_at l)) is
+
+-- ---- fields
+
+onto : (b : ℕ) (xs ys : List (List ℕ)) → 0 < length xs
+    → onto_first b (xs ++ ys) ≡ onto_first b xs ++ ys
+onto b [] ys some = absurd (omega arith)
+onto b (x ∷ xs) ys some = refl
+
+-- the fields before a space, and those after it
+join : (t x : List ℕ) → fields_of (t ++ 32 ∷ x) ≡ fields_of t ++ fields_of x
+join [] x = refl
+join (b ∷ t) x = elim (cases_Bool (b == 32)) [
+  | inl e ↦ rw e (ap (λ l. [] ∷ l) (join t x))
+  | inr e ↦ rw e (ap (onto_first b) (join t x) ∙ onto b (fields_of t) (fields_of x)
+      (let many = length-slice_split (λ b. b == 32) t in omega (arith, many)))
+]
+
+-- one field more
+more : (t x : List ℕ) → lacks 32 x → fields_of ((t ++ codes " ") ++ x) ≡ fields_of t ++ x ∷ []
+more t x h =
+    ap fields_of (append_assoc t (32 ∷ []) x) ∙ join t x
+    ∙ ap (λ l. fields_of t ++ l) (one-field x h)
+
+-- a word and one field
+two : (t x : List ℕ) → lacks 32 t → lacks 32 x → fields_of (t ++ 32 ∷ x) ≡ t ∷ x ∷ []
+two t x ht hx = first-field t x ht ∙ ap (λ l. t ∷ l) (one-field x hx)
+
+number-lacks : (n : ℕ) → n ≤ 18446744073709551615 → lacks 32 (decimal n)
+number-lacks n small = digits-lack 32 n (omega arith) (omega (arith, small))
+
+-- ---- reports, waits and ends of rolls
+
+module _ (roll : RollType) (n : ℕ) (small : n ≤ 18446744073709551615) where
+  roll-fields : (t : List ℕ) → lacks 32 t
+      → fields_of (((t ++ 32 ∷ roll_name roll) ++ codes " ") ++ decimal n)
+      ≡ t ∷ roll_name roll ∷ decimal n ∷ []
+  roll-fields t h =
+      more (t ++ 32 ∷ roll_name roll) (decimal n) (number-lacks n small)
+      ∙ ap (λ l. l ++ decimal n ∷ []) (two t (roll_name roll) h (roll-lacks roll))
+
+  report-fields : (t : List ℕ) (ttl : ℕ) → ttl ≤ 4294967295 → lacks 32 t
+      → fields_of (((((t ++ 32 ∷ roll_name roll) ++ codes " ") ++ decimal ttl) ++ codes " ") ++ decimal n)
+      ≡ t ∷ roll_name roll ∷ decimal ttl ∷ decimal n ∷ []
+  report-fields t ttl fits h =
+      let d = decimal ttl in let r = roll_name roll in
+      more (((t ++ 32 ∷ r) ++ codes " ") ++ d) (decimal n) (number-lacks n small)
+      ∙ ap (λ l. l ++ decimal n ∷ []) (more (t ++ 32 ∷ r) d (number-lacks ttl (omega (arith, fits)))
+      ∙ ap (λ l. l ++ d ∷ []) (two t r h (roll-lacks roll)))
+
+  report1-back : (ttl : ℕ) → ttl ≤ 4294967295
+      → Says (call.Propagation1Complete roll ttl (n * 1_000_000_000)) n
+  unfolding word_named
+  report1-back ttl fits =
+      said-by _ _ (report-fields (codes "report1") ttl fits refl)
+      ∙ (rw (roll-back roll, number-back 4294967295 ttl fits (omega arith), time-back n small) refl)
+
+  report2-back : (ttl : ℕ) → ttl ≤ 4294967295
+      → Says (call.Propagation2Complete roll ttl (n * 1_000_000_000)) n
+  unfolding word_named
+  report2-back ttl fits =
+      said-by _ _ (report-fields (codes "report2") ttl fits refl)
+      ∙ (rw (roll-back roll, number-back 4294967295 ttl fits (omega arith), time-back n small) refl)
+
+  wait1-back : Says (call.CacheExpired1 roll (n * 1_000_000_000)) n
+  unfolding word_named
+  wait1-back =
+      said-by _ _ (roll-fields (codes "wait1") refl) ∙ (rw (roll-back roll, time-back n small) refl)
+
+  wait2-back : Says (call.CacheExpired2 roll (n * 1_000_000_000)) n
+  unfolding word_named
+  wait2-back =
+      said-by _ _ (roll-fields (codes "wait2") refl) ∙ (rw (roll-back roll, time-back n small) refl)
+
+  done-back : Says (call.RollDone roll) n
+  unfolding word_named
+  done-back =
+      said-by _ _ (two (codes "done") (roll_name roll) refl (roll-lacks roll)) ∙ (rw (roll-back roll) refl)
+
+-- ---- references
+
+both : (x y : Bool) → (x && y) ≡ true → (x ≡ true) × (y ≡ true)
+both true true h = (refl, refl)
+both true false h = cc
+both false y h = cc
+
+-- a script can name the key
+abbrev pub IsNamed : List ℕ → Type 0
+IsNamed q = is_reference q ≡ true
+
+byte-lacks : (c b : ℕ) → (c == 32) ≡ true ⊎ (c == 44) ≡ true → is_reference_byte b ≡ true
+    → not (b == c) ≡ true
+byte-lacks c b is h = grind (arith, nat_tests)
+
+reference-lacks : (c : ℕ) (q : List ℕ) → (c == 32) ≡ true ⊎ (c == 44) ≡ true → IsNamed q
+    → lacks c q
+unfolding is_reference
+reference-lacks c q is h =
+    let bytes = (both _ _ h).1 in
+    let each = AllPass-from_list_all is_reference_byte q bytes in
+    list_all-from_AllPass (λ b. not (b == c)) q (λ k d within. byte-lacks c _ is (each k d within))
+
+reference-back : (q : List ℕ) → IsNamed q → as_reference q ≡ Some (Reference q)
+unfolding as_reference
+reference-back q h = rw h refl
+
+delete-back : (q : Bor (List ℕ)) (n : ℕ) → IsNamed q.now → Says (call.DeleteKey q) n
+unfolding word_named
+delete-back q n h =
+    said-by _ _ (two (codes "delete") q.now refl (reference-lacks 32 q.now (inl refl) h))
+    ∙ (rw (reference-back q.now h) refl)
+
+-- ---- lists of references
+
+abbrev pub AreNamed : List (List ℕ) → Type 0
+AreNamed qs = list_all is_reference qs ≡ true
+
+-- each of them after a comma
+abbrev further : List (List ℕ) → List ℕ
+further qs = flat_map (λ (r : List ℕ). codes "," ++ r) qs
+
+list-cut : (q : List ℕ) (qs : List (List ℕ)) → IsNamed q → AreNamed qs
+    → slice_split (λ b. b == 44) (q ++ further qs) ≡ q ∷ qs
+list-cut q [] h hs =
+    ap (slice_split (λ b. b == 44)) (append-nil q)
+    ∙ slice_split_none (λ b. b == 44) q (none-of 44 q (reference-lacks 44 q (inr refl) h))
+list-cut q (r ∷ rs) h hs =
+    slice_split_at (λ b. b == 44) q 44 (r ++ further rs)
+    (none-of 44 q (reference-lacks 44 q (inr refl) h)) refl
+    ∙ ap (λ t. q ∷ t) (list-cut r rs (both _ _ hs).0 (both _ _ hs).1)
+
+-- it isn't a single `-`
+not-dash : (q : List ℕ) (qs : List (List ℕ)) → IsNamed q → AreNamed qs
+    → bytes_eq (q ++ further qs) (codes "-") ≡ false
+unfolding is_reference
+not-dash q qs h hs = false_from_ne_true _ (λ t.
+    let same : q ++ further qs ≡ codes "-" = (bytes_decides _ _).0 t in
+    let parts : q ∷ qs ≡ codes "-" ∷ [] = sym (list-cut q qs h hs)
+    ∙ ap (slice_split (λ b. b == 44)) same in
+    let dash : q ≡ codes "-" = ap (λ l. slice_index_or l 0 []) parts in
+    true≢false (sym (subst IsNamed dash h)))
+
+list-back : (qs : List (List ℕ)) → AreNamed qs → as_list (list_text qs) ≡ Some (References qs)
+unfolding as_list is_list references_of
+list-back [] h = refl
+list-back (q ∷ qs) h =
+    let named = both (is_reference q) (list_all is_reference qs) h in
+    rw (not-dash q qs named.0 named.1, list-cut q qs named.0 named.1)
+    (ap (λ (b : Bool). if b then Some (References (q ∷ qs)) else None) h)
+
+lack-append : (c : ℕ) (xs ys : List ℕ) → lacks c xs → lacks c ys → lacks c (xs ++ ys)
+lack-append c xs ys e f = list_all-append (λ b. not (b == c)) xs ys ∙ rw (e, f) refl
+
+list-lacks : (qs : List (List ℕ)) → AreNamed qs → lacks 32 (list_text qs)
+list-lacks [] h = refl
+list-lacks (q ∷ []) h =
+    subst (lacks 32) (sym (append-nil q)) (reference-lacks 32 q (inl refl) (both _ _ h).0)
+list-lacks (q ∷ r ∷ rs) h = lack-append 32 q (44 ∷ list_text (r ∷ rs))
+    (reference-lacks 32 q (inl refl) (both _ _ h).0) (list-lacks (r ∷ rs) (both _ _ h).1)
+
+start-back : (roll : RollType) (olds news : Bor (List (Bor (List ℕ)))) (n : ℕ)
+    → n ≤ 18446744073709551615 → AreNamed (map now olds.now) → AreNamed (map now news.now)
+    → Says (call.StartRoll roll olds news (n * 1_000_000_000)) n
+unfolding word_named
+start-back roll olds news n small ho hn =
+    let r = codes "start" ++ 32 ∷ roll_name roll in
+    let o = list_text (map now olds.now) in let i = list_text (map now news.now) in
+    let fields : fields_of (start_text roll (map now olds.now) (map now news.now) n)
+    ≡ codes "start" ∷ roll_name roll ∷ o ∷ i ∷ decimal n ∷ [] =
+    more ((((r ++ codes " ") ++ o) ++ codes " ") ++ i) (decimal n) (number-lacks n small)
+    ∙ ap (λ l. l ++ decimal n ∷ []) (more ((r ++ codes " ") ++ o) i (list-lacks _ hn)
+    ∙ ap (λ l. l ++ i ∷ []) (more r o (list-lacks _ ho)
+    ∙ ap (λ l. l ++ o ∷ []) (two (codes "start") (roll_name roll) refl (roll-lacks roll)))) in
+    said-by _ _ fields
+    ∙ (rw (roll-back roll, list-back _ ho, list-back _ hn, time-back n small) refl)
+
+-- ---- of the policy's calls
+
+-- each call that is said at this second
+abbrev pub IsSayable : keyset.Call → ℕ → Type 0
+IsSayable (keyset.Report roll half ttl t) n = (t ≡ n * 1_000_000_000) × (ttl ≤ 4294967295)
+IsSayable (keyset.Wait roll half t) n = t ≡ n * 1_000_000_000
+IsSayable (keyset.RollDone roll) n = Unit {0}
+IsSayable (keyset.StartRoll roll olds news t) n =
+    (t ≡ n * 1_000_000_000) × AreNamed olds × AreNamed news
+IsSayable (keyset.DeleteKey q) n = IsNamed q
+IsSayable _ n = ⊥
+
+pub call-back : (c : Call) (n : ℕ) → n ≤ 18446744073709551615 → IsSayable (call_of c) n → Says c n
+call-back (call.Propagation1Complete roll ttl t) n small s =
+    subst (λ t. Says (call.Propagation1Complete roll ttl t) n) (sym s.0)
+    (report1-back roll n small ttl s.1)
+call-back (call.Propagation2Complete roll ttl t) n small s =
+    subst (λ t. Says (call.Propagation2Complete roll ttl t) n) (sym s.0)
+    (report2-back roll n small ttl s.1)
+call-back (call.CacheExpired1 roll t) n small s =
+    subst (λ t. Says (call.CacheExpired1 roll t) n) (sym s) (wait1-back roll n small)
+call-back (call.CacheExpired2 roll t) n small s =
+    subst (λ t. Says (call.CacheExpired2 roll t) n) (sym s) (wait2-back roll n small)
+call-back (call.RollDone roll) n small s = done-back roll n small
+call-back (call.StartRoll roll olds news t) n small s =
+    subst (λ t. Says (call.StartRoll roll olds news t) n) (sym s.0)
+    (start-back roll olds news n small s.1 s.2)
+call-back (call.DeleteKey q) n small s = delete-back q n s
+call-back _ n small s = absurd s
