@@ -171,19 +171,10 @@ impl Numbers {
         ensures yes { result ≡ true → key_at self.now number ≡ Some (id_of key.now) }
         ensures no { result ≡ false → key_at self.now number ≡ Some (id_of key.now) → ⊥ }
     {
-        match self.key(number) {
-            Some(other) => *other == *key,
-            None => false,
-        }
-    }
-
-    /// The key that has a number.
-    fn key(&self, number: usize) -> Option<&PublishedKey>
-        ensures { option_map id_of (option_copied result) ≡ key_at self.now number }
-    {
         match self.keys.get(number) {
-            Some(key) => key.as_ref(),
-            None => None,
+            Some(Some(other)) => *other == *key,
+            Some(None) => false,
+            None => false,
         }
     }
 
@@ -240,7 +231,7 @@ impl Numbers {
         ensures none { result ≡ true → key_at self.now number ≡ None }
         ensures within { result ≡ true → number ≤ vec_len self.now.keys }
     {
-        number < self.keys.len() && self.key(number).is_none()
+        matches!(self.keys.get(number), Some(None))
     }
 
     /// Gives a number that no key has to a key.
@@ -293,7 +284,11 @@ impl Numbers {
         let mut by_added = HashMap::new(alloc);
         let mut spare = Vec::new(alloc);
         for (number, key) in self.keys.iter().enumerate() {
-            note(number, key, &mut by_added, &mut spare)?;
+            let Some(key) = key else {
+                spare.push(number)?;
+                continue;
+            };
+            by_added.insert(key.added, number)?;
         }
         let in_use = self.keys.len().saturating_sub(spare.len());
         let more = self.keys.len().saturating_add(1);
@@ -308,19 +303,8 @@ impl Numbers {
         ensures same { (n : ℕ) → key_at self.new n ≡ key_at self.old n }
         ensures kept { self.new ≡ record (self.old) { keys = self.new.keys } }
     {
-        while self.ends_without_key() {
+        while let Some(None) = self.keys.last() {
             self.keys.pop();
-        }
-    }
-
-    /// Whether no key has the last place.
-    fn ends_without_key(&self) -> bool
-        ensures { result ≡ true →
-            slice_get self.now.keys.items (vec_len self.now.keys - 1) ≡ Some None }
-    {
-        match self.keys.last() {
-            Some(key) => key.is_none(),
-            None => false,
         }
     }
 }
@@ -336,27 +320,6 @@ fn parts<T>(list: &[T], frame: Frame) -> (&[T], &[T], &[T])
     let (front, rest) = list.split_at(frame.front.min(list.len()));
     let (middle, back) = rest.split_at(rest.len().saturating_sub(frame.back));
     (front, middle, back)
-}
-
-/// Notes a number with its key, or that no key has it.
-fn note(
-    number: usize,
-    key: &Option<PublishedKey>,
-    by_added: &mut HashMap<usize, usize>,
-    spare: &mut Vec<usize>,
-) -> Result<(), Error>
-    ensures known { OnOk result ((k : Id) → key_in (Some key.now) ≡ Some k →
-        IsSome (get nat_eq by_added.new k.1)) }
-    ensures kept { OnOk result ((at : ℕ) → IsSome (get nat_eq by_added.old at) →
-        IsSome (get nat_eq by_added.new at)) }
-    ensures err { IfErr result (λ e. e ≡ OutOfMemory) }
-{
-    let Some(key) = key else {
-        spare.push(number)?;
-        return Ok(());
-    };
-    by_added.insert(key.added, number)?;
-    Ok(())
 }
 
 /// A copy of a key.
