@@ -1,11 +1,9 @@
 //! The keys of a record as small numbers.
-ghost use Rattle.std.specs.Prelude.{◌↔◌, ◌≡◌, ◌≤◌, ◌-◌, ℕ, false, true, Option, None, Some, map};
-ghost use Rattle.std.specs.Prelude.{nat_eq, ◌++◌, IfOk, IfErr, IfSome, IsSome, List, OnOk, length};
-ghost use Rattle.std.specs.Prelude.{slice_get, vec_len};
-ghost use Rattle.std.specs.{HashMap.get, Option.option_copied, Option.option_map};
+ghost use Rattle.std.specs.Prelude.{◌↔◌, ◌≡◌, ◌≤◌, ◌++◌, ℕ, false, true, None, Some, map};
+ghost use Rattle.std.specs.Prelude.{IfOk, IfErr, IfSome, List, OnOk, length, vec_len};
 ghost use Rattle.dnssec_base.specs.declared.error.Error.TheVariants.{OutOfMemory};
 ghost use Rattle.dnssec_run.specs.Published.{Id, id_of};
-ghost use Rattle.dnssec_judge.specs.Numbers.{Grows, IsRead, IsTable, StandFor, key_at, key_in};
+ghost use Rattle.dnssec_judge.specs.Numbers.{Grows, IsRead, IsTable, StandFor, key_at};
 
 use super::number_list::NumberList;
 use dnssec_keyset::Error;
@@ -78,8 +76,6 @@ impl Numbers {
     ) -> Result<bool, Error>
         ensures ok { IfOk result (IsRead self.old self.new known.old.numbers.items
             known.new.numbers.items frame (map id_of list.now)) }
-        ensures table { OnOk result (IsTable self.old → IsTable self.new) }
-        ensures grows { OnOk result (IsTable self.old → Grows self.old self.new) }
         ensures err { IfErr result (λ e. e ≡ OutOfMemory) }
     {
         if frame.front == list.len() && known.as_slice().len() == list.len() {
@@ -98,8 +94,6 @@ impl Numbers {
     ) -> Result<bool, Error>
         ensures ok { IfOk result (IsRead self.old self.new known.old.numbers.items
             known.new.numbers.items frame (map id_of list.now)) }
-        ensures table { OnOk result (IsTable self.old → IsTable self.new) }
-        ensures grows { OnOk result (IsTable self.old → Grows self.old self.new) }
         ensures err { IfErr result (λ e. e ≡ OutOfMemory) }
     {
         let (front, middle, back) = parts(known.as_slice(), frame);
@@ -132,9 +126,9 @@ impl Numbers {
         changed: &[PublishedKey],
         back: &[usize],
     ) -> Result<Vec<usize>, Error>
-        ensures ok { IfOk result (λ numbers. (ahead behind : List Id) → IsTable self.old →
-            StandFor self.old front.now ahead → StandFor self.old back.now behind →
-            StandFor self.new numbers.items (ahead ++ (map id_of changed.now ++ behind))) }
+        ensures ok { IfOk result (λ numbers. (ahead after : List Id) → IsTable self.old →
+            StandFor self.old front.now ahead → StandFor self.old back.now after →
+            StandFor self.new numbers.items (ahead ++ (map id_of changed.now ++ after))) }
         ensures table { OnOk result (IsTable self.old → IsTable self.new) }
         ensures grows { OnOk result (IsTable self.old → Grows self.old self.new) }
         ensures err { IfErr result (λ e. e ≡ OutOfMemory) }
