@@ -1,6 +1,5 @@
 //! A set that caches may hold.
-ghost use Rattle.std.specs.Prelude.{◌≡◌, ◌&&◌, ◌||◌, ℕ, false, true, not, nat_eq, if◌then◌else◌};
-ghost use Rattle.std.specs.Prelude.{IfOk, IfErr, OnOk};
+ghost use Rattle.std.specs.Prelude.{◌≡◌, ◌&&◌, ◌||◌, ℕ, false, true, IfOk, IfErr};
 ghost use Rattle.dnssec_base.specs.declared.error.Error.TheVariants.{OutOfMemory};
 ghost use Rattle.dnssec_judge.specs.Bits.{has, has_none, meet_three, words_of};
 ghost use Rattle.dnssec_judge.specs.Sets.{keys_hold, parts_of, set_of, zone_holds};

@@ -1,5 +1,5 @@
 //! Which sets a window holds, each once, and what helps with many.
-ghost use Rattle.std.specs.Prelude.{◌≡◌, ◌++◌, ◌∷◌, ℕ, suc, []};
+ghost use Rattle.std.specs.Prelude.{◌≡◌, ℕ, suc};
 ghost use Rattle.std.specs.Prelude.{Option, None, Some, slice_get, IfOk, IfErr, IfSome, OnOk};
 ghost use Rattle.dnssec_base.specs.declared.error.Error.TheVariants.{OutOfMemory};
 ghost use Rattle.dnssec_judge.specs.{Sets.set_of, declared.sets.held.OpenSet.OpenSet};
