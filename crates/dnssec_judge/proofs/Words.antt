@@ -189,6 +189,21 @@ pub none-of-all : (first one with : ℕ) (words ones others : List ℕ)
 none-of-all first one with words ones others none more zero = none
 none-of-all first one with words ones others none more (suc i) = more i
 
+-- the first word is written
+is-first : (index word first : ℕ) → index ≡ 0 → word ≡ (if nat_eq index 0 then word else first)
+is-first index word first is = grind (arith, nat_tests)
+
+not-first : (index i word other : ℕ) → index ≡ 0
+    → other ≡ (if nat_eq index (suc i) then word else other)
+not-first index i word other is = grind (arith, nat_tests)
+
+pub first-written : (first word : ℕ) (rest : List ℕ) (index : ℕ) → index ≡ 0
+    → (i : ℕ) → word_at (word ∷ rest) i
+    ≡ (if nat_eq index i then word else word_at (first ∷ rest) i)
+first-written first word rest index is zero = is-first index word first is
+first-written first word rest index is (suc i) =
+    not-first index i word (word_at rest i) is
+
 -- a word is written among others, which are filled up with 0
 pub written-words : (first : ℕ) (rest filled : List ℕ) (index before word : ℕ)
     → before + 1 ≡ index → before < length filled

@@ -32,11 +32,14 @@ Grows old new = (n : ℕ) (k : Id) → key_at old n ≡ Some k → key_at new n 
 abbrev pub StandFor : Numbers → List ℕ → List Id → Type 0
 StandFor t numbers keys = map (key_at t) numbers ≡ map Some keys
 
--- a list was read over another: its numbers stand in place of those of that one, and it is another
-abbrev pub IsRead : Numbers → Numbers → List ℕ → List ℕ → Frame → List Id → Bool → Type 0
-IsRead old new before after frame list is_other = (was : List Id) → IsTable old →
-    StandFor old before was → KeepsFrame frame was list →
-    StandFor new after list × (same_ids was list ≡ not is_other)
+-- a list was read over another: keys that have numbers keep them, its numbers stand in place of
+-- those of that one, and it is another
+pub record IsRead (old new : Numbers) (before after : List ℕ) (frame : Frame) (list : List Id)
+    (is_other : Bool) : Type 0 where
+  pub table : IsTable old → IsTable new
+  pub grows : IsTable old → Grows old new
+  pub read : (was : List Id) → IsTable old → StandFor old before was → KeepsFrame frame was list →
+      StandFor new after list × (same_ids was list ≡ not is_other)
 
 -- the bits are those of the keys of a list
 pub record Means (t : Numbers) (words : List ℕ) (keys : List Id) : Type 0 where

@@ -1,6 +1,6 @@
 //! Sets of small numbers.
-ghost use Rattle.std.specs.Prelude.{◌≡◌, ◌≤◌, ◌-◌, ◌||◌, ◌&&◌, ℕ, true, false, not, nat_eq};
-ghost use Rattle.std.specs.Prelude.{if◌then◌else◌, IfOk, IfErr, OnOk, Some, get_or, slice_get};
+ghost use Rattle.std.specs.Prelude.{◌≡◌, ◌≤◌, ◌-◌, ◌||◌, ◌&&◌, ℕ, true, false, nat_eq};
+ghost use Rattle.std.specs.Prelude.{if◌then◌else◌, IfOk, IfErr, OnOk, Some, get_or};
 ghost use Rattle.std.specs.Prelude.{vec_len};
 ghost use Rattle.std.specs.List.{list_any};
 ghost use Rattle.dnssec_base.specs.declared.error.Error.TheVariants.{OutOfMemory};
@@ -69,22 +69,6 @@ impl Bits {
         }
     }
 
-    /// Writes one of its words.
-    #[inline(always)]
-    fn write(&mut self, index: usize, word: u64) -> Result<(), Error>
-        ensures ok { OnOk result ((i : ℕ) → word_at (words_of self.new) i
-            ≡ (if nat_eq index i then word else word_at (words_of self.old) i)) }
-        ensures err { IfErr result (λ e. e ≡ OutOfMemory) }
-    {
-        let Some(before) = index.checked_sub(1) else {
-            self.first = word;
-            return Ok(());
-        };
-        self.fill_up(index)?;
-        self.rest[before] = word;
-        Ok(())
-    }
-
     /// Fills its words up with 0, to so many after the first.
     fn fill_up(&mut self, len: usize) -> Result<(), Error>
         ensures len { OnOk result (len ≤ vec_len self.new.rest) }
@@ -108,7 +92,13 @@ impl Bits {
         ensures err { IfErr result (λ e. e ≡ OutOfMemory) }
     {
         let index = number / WORD;
-        self.write(index, self.word(index) | 1u64 << (number % WORD))?;
+        let word = self.word(index) | 1u64 << (number % WORD);
+        let Some(before) = index.checked_sub(1) else {
+            self.first = word;
+            return Ok(());
+        };
+        self.fill_up(index)?;
+        self.rest[before] = word;
         Ok(())
     }
 

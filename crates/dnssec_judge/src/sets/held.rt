@@ -1,6 +1,5 @@
 //! A set that caches may hold.
-ghost use Rattle.std.specs.Prelude.{◌≡◌, ◌&&◌, ◌||◌, ℕ, false, true, not, nat_eq, if◌then◌else◌};
-ghost use Rattle.std.specs.Prelude.{IfOk, IfErr, OnOk};
+ghost use Rattle.std.specs.Prelude.{◌≡◌, ◌&&◌, ◌||◌, ℕ, false, true, IfOk, IfErr};
 ghost use Rattle.dnssec_base.specs.declared.error.Error.TheVariants.{OutOfMemory};
 ghost use Rattle.dnssec_judge.specs.Bits.{has, has_none, meet_three, words_of};
 ghost use Rattle.dnssec_judge.specs.Sets.{keys_hold, parts_of, set_of, zone_holds};
@@ -21,7 +20,7 @@ pub(crate) struct OpenSet {
     /// The keys that sign it, if it is a DNSKEY set.
     signers: Bits,
     /// Sets with other digests are other sets.
-    digest: u64,
+    pub(crate) digest: u64,
 }
 
 impl OpenSet {
@@ -63,24 +62,11 @@ impl OpenSet {
         })
     }
 
-    /// Sets with other digests are other sets.
-    pub(crate) fn digest(&self) -> u64 {
-        self.digest
-    }
-
     /// Whether it has the same keys, and the same keys sign it.
     pub(crate) fn is(&self, other: &OpenSet) -> bool
         ensures { result ≡ true → set_of self.now ≡ set_of other.now }
     {
         self.digest == other.digest && self.keys.is(&other.keys) && self.signers.is(&other.signers)
-    }
-
-    /// It is published at this position too, after others.
-    #[inline(always)]
-    pub(crate) fn show_at(&mut self, at: usize)
-        ensures { parts_of self.new ≡ (set_of self.old, self.old.since, at) }
-    {
-        self.last = at;
     }
 
     /// Whether it has no keys.

@@ -1,11 +1,9 @@
 //! The keys of a record as small numbers.
-ghost use Rattle.std.specs.Prelude.{◌↔◌, ◌≡◌, ◌≤◌, ◌-◌, ℕ, false, true, Option, None, Some, map};
-ghost use Rattle.std.specs.Prelude.{nat_eq, ◌++◌, IfOk, IfErr, IfSome, IsSome, List, OnOk, length};
-ghost use Rattle.std.specs.Prelude.{slice_get, vec_len};
-ghost use Rattle.std.specs.{HashMap.get, Option.option_copied, Option.option_map};
+ghost use Rattle.std.specs.Prelude.{◌↔◌, ◌≡◌, ◌≤◌, ◌++◌, ℕ, false, true, None, Some, map};
+ghost use Rattle.std.specs.Prelude.{IfOk, IfErr, IfSome, List, OnOk, length, vec_len};
 ghost use Rattle.dnssec_base.specs.declared.error.Error.TheVariants.{OutOfMemory};
 ghost use Rattle.dnssec_run.specs.Published.{Id, id_of};
-ghost use Rattle.dnssec_judge.specs.Numbers.{Grows, IsRead, IsTable, StandFor, key_at, key_in};
+ghost use Rattle.dnssec_judge.specs.Numbers.{Grows, IsRead, IsTable, StandFor, key_at};
 
 use super::number_list::NumberList;
 use dnssec_keyset::Error;
@@ -78,8 +76,6 @@ impl Numbers {
     ) -> Result<bool, Error>
         ensures ok { IfOk result (IsRead self.old self.new known.old.numbers.items
             known.new.numbers.items frame (map id_of list.now)) }
-        ensures table { OnOk result (IsTable self.old → IsTable self.new) }
-        ensures grows { OnOk result (IsTable self.old → Grows self.old self.new) }
         ensures err { IfErr result (λ e. e ≡ OutOfMemory) }
     {
         if frame.front == list.len() && known.as_slice().len() == list.len() {
@@ -98,8 +94,6 @@ impl Numbers {
     ) -> Result<bool, Error>
         ensures ok { IfOk result (IsRead self.old self.new known.old.numbers.items
             known.new.numbers.items frame (map id_of list.now)) }
-        ensures table { OnOk result (IsTable self.old → IsTable self.new) }
-        ensures grows { OnOk result (IsTable self.old → Grows self.old self.new) }
         ensures err { IfErr result (λ e. e ≡ OutOfMemory) }
     {
         let (front, middle, back) = parts(known.as_slice(), frame);
@@ -132,9 +126,9 @@ impl Numbers {
         changed: &[PublishedKey],
         back: &[usize],
     ) -> Result<Vec<usize>, Error>
-        ensures ok { IfOk result (λ numbers. (ahead behind : List Id) → IsTable self.old →
-            StandFor self.old front.now ahead → StandFor self.old back.now behind →
-            StandFor self.new numbers.items (ahead ++ (map id_of changed.now ++ behind))) }
+        ensures ok { IfOk result (λ numbers. (ahead after : List Id) → IsTable self.old →
+            StandFor self.old front.now ahead → StandFor self.old back.now after →
+            StandFor self.new numbers.items (ahead ++ (map id_of changed.now ++ after))) }
         ensures table { OnOk result (IsTable self.old → IsTable self.new) }
         ensures grows { OnOk result (IsTable self.old → Grows self.old self.new) }
         ensures err { IfErr result (λ e. e ≡ OutOfMemory) }
@@ -171,19 +165,10 @@ impl Numbers {
         ensures yes { result ≡ true → key_at self.now number ≡ Some (id_of key.now) }
         ensures no { result ≡ false → key_at self.now number ≡ Some (id_of key.now) → ⊥ }
     {
-        match self.key(number) {
-            Some(other) => *other == *key,
-            None => false,
-        }
-    }
-
-    /// The key that has a number.
-    fn key(&self, number: usize) -> Option<&PublishedKey>
-        ensures { option_map id_of (option_copied result) ≡ key_at self.now number }
-    {
         match self.keys.get(number) {
-            Some(key) => key.as_ref(),
-            None => None,
+            Some(Some(other)) => *other == *key,
+            Some(None) => false,
+            None => false,
         }
     }
 
@@ -240,7 +225,7 @@ impl Numbers {
         ensures none { result ≡ true → key_at self.now number ≡ None }
         ensures within { result ≡ true → number ≤ vec_len self.now.keys }
     {
-        number < self.keys.len() && self.key(number).is_none()
+        matches!(self.keys.get(number), Some(None))
     }
 
     /// Gives a number that no key has to a key.
@@ -293,7 +278,11 @@ impl Numbers {
         let mut by_added = HashMap::new(alloc);
         let mut spare = Vec::new(alloc);
         for (number, key) in self.keys.iter().enumerate() {
-            note(number, key, &mut by_added, &mut spare)?;
+            let Some(key) = key else {
+                spare.push(number)?;
+                continue;
+            };
+            by_added.insert(key.added, number)?;
         }
         let in_use = self.keys.len().saturating_sub(spare.len());
         let more = self.keys.len().saturating_add(1);
@@ -308,19 +297,8 @@ impl Numbers {
         ensures same { (n : ℕ) → key_at self.new n ≡ key_at self.old n }
         ensures kept { self.new ≡ record (self.old) { keys = self.new.keys } }
     {
-        while self.ends_without_key() {
+        while let Some(None) = self.keys.last() {
             self.keys.pop();
-        }
-    }
-
-    /// Whether no key has the last place.
-    fn ends_without_key(&self) -> bool
-        ensures { result ≡ true →
-            slice_get self.now.keys.items (vec_len self.now.keys - 1) ≡ Some None }
-    {
-        match self.keys.last() {
-            Some(key) => key.is_none(),
-            None => false,
         }
     }
 }
@@ -336,27 +314,6 @@ fn parts<T>(list: &[T], frame: Frame) -> (&[T], &[T], &[T])
     let (front, rest) = list.split_at(frame.front.min(list.len()));
     let (middle, back) = rest.split_at(rest.len().saturating_sub(frame.back));
     (front, middle, back)
-}
-
-/// Notes a number with its key, or that no key has it.
-fn note(
-    number: usize,
-    key: &Option<PublishedKey>,
-    by_added: &mut HashMap<usize, usize>,
-    spare: &mut Vec<usize>,
-) -> Result<(), Error>
-    ensures known { OnOk result ((k : Id) → key_in (Some key.now) ≡ Some k →
-        IsSome (get nat_eq by_added.new k.1)) }
-    ensures kept { OnOk result ((at : ℕ) → IsSome (get nat_eq by_added.old at) →
-        IsSome (get nat_eq by_added.new at)) }
-    ensures err { IfErr result (λ e. e ≡ OutOfMemory) }
-{
-    let Some(key) = key else {
-        spare.push(number)?;
-        return Ok(());
-    };
-    by_added.insert(key.added, number)?;
-    Ok(())
 }
 
 /// A copy of a key.

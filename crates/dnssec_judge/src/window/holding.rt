@@ -1,5 +1,5 @@
 //! Which sets a window holds, each once, and what helps with many.
-ghost use Rattle.std.specs.Prelude.{◌≡◌, ◌++◌, ◌∷◌, ℕ, suc, []};
+ghost use Rattle.std.specs.Prelude.{◌≡◌, ℕ, suc};
 ghost use Rattle.std.specs.Prelude.{Option, None, Some, slice_get, IfOk, IfErr, IfSome, OnOk};
 ghost use Rattle.dnssec_base.specs.declared.error.Error.TheVariants.{OutOfMemory};
 ghost use Rattle.dnssec_judge.specs.{Sets.set_of, declared.sets.held.OpenSet.OpenSet};
@@ -7,14 +7,69 @@ ghost use Rattle.dnssec_judge.specs.Inner.Window.{AreByAge, HasCommon, IsHelped,
 ghost use Rattle.dnssec_judge.specs.Inner.Window.{IsPut, Keeps, StillRests, came_since};
 ghost use Rattle.dnssec_judge.specs.Inner.Window.{stretches_of};
 
-use super::{Many, Window};
+use super::Window;
 use crate::sets::OpenSet;
 use dnssec_keyset::Error;
 use std::alloc::Global;
+use std::collections::HashMap;
 
 /// Up to this many sets a window grows by one, since few rolls need more; then twofold. More than
 /// these are many.
 const FEW: usize = 4;
+
+/// So that a new set isn't compared, nor tested, with each of many.
+#[derive(Debug, Drop)]
+pub(crate) struct Many {
+    /// Keys and signers that are in each set, as a set. What holds with it holds with all.
+    common: OpenSet,
+    /// By its digest, since when a set is there. A set that isn't found is held once more.
+    by_digest: HashMap<u64, usize>,
+}
+
+impl Many {
+    /// For these sets.
+    fn of(alloc: Global, sets: &[OpenSet]) -> Result<Self, Error>
+        ensures ok { IfOk result (λ many. (place : ℕ) (h : OpenSet) →
+            slice_get sets.now place ≡ Some h → IsIn many.common h) }
+        ensures err { IfErr result (λ e. e ≡ OutOfMemory) }
+    {
+        let common = match sets.first() {
+            Some(first) => first.try_clone()?,
+            None => OpenSet::none(alloc),
+        };
+        let mut many = Many {
+            common,
+            by_digest: HashMap::new(alloc),
+        };
+        for set in sets {
+            many.add(set)?;
+        }
+        Ok(many)
+    }
+
+    /// The same.
+    pub(super) fn try_clone(&self) -> Result<Self, Error>
+        ensures ok { IfOk result (λ many. set_of many.common ≡ set_of self.now.common) }
+        ensures err { IfErr result (λ e. e ≡ OutOfMemory) }
+    {
+        Ok(Many {
+            common: self.common.try_clone()?,
+            by_digest: self.by_digest.clone()?,
+        })
+    }
+
+    /// For one set more.
+    fn add(&mut self, set: &OpenSet) -> Result<(), Error>
+        ensures new { OnOk result (IsIn self.new.common set.now) }
+        ensures others { OnOk result ((h : OpenSet) → IsIn self.old.common h →
+            IsIn self.new.common h) }
+        ensures err { IfErr result (λ e. e ≡ OutOfMemory) }
+    {
+        self.common.keep(set);
+        self.by_digest.insert(set.digest, set.since)?;
+        Ok(())
+    }
+}
 
 impl Window {
     /// Holds a set that is published, and answers since when it is there: the same set if it is
@@ -30,25 +85,13 @@ impl Window {
     {
         let Some(place) = self.place_of(&set) else {
             let since = set.since;
-            self.hold(alloc, set)?;
+            self.make_room(alloc)?;
+            self.help_with(&set)?;
+            self.sets.push(set)?;
             return Ok(since);
         };
-        self.sets[place].show_at(set.since);
+        self.sets[place].last = set.since;
         Ok(self.sets[place].since)
-    }
-
-    /// Holds a set that came.
-    fn hold(&mut self, alloc: Global, set: OpenSet) -> Result<(), Error>
-        ensures kept { OnOk result (self.new
-            ≡ record (self.old) { sets = self.new.sets; many = self.new.many }) }
-        ensures sets { OnOk result (self.new.sets.items ≡ self.old.sets.items ++ set ∷ []) }
-        ensures common { OnOk result (HasCommon self.old → HasCommon self.new) }
-        ensures err { IfErr result (λ e. e ≡ OutOfMemory) }
-    {
-        self.make_room(alloc)?;
-        self.help_with(&set)?;
-        self.sets.push(set)?;
-        Ok(())
     }
 
     /// Prepares for one set more.
@@ -102,7 +145,7 @@ impl Window {
         let Some(many) = &self.many else {
             return self.sets.iter().position(|other| other.is(set));
         };
-        let place = self.place_since(many.find(set)?)?;
+        let place = self.place_since(*many.by_digest.get(&set.digest)?)?;
         match self.sets.get(place) {
             Some(other) if other.is(set) => Some(place),
             _ => None,
@@ -154,7 +197,7 @@ impl Window {
             IsOpen self.now h → IsIn common.now h) }
     {
         match &self.many {
-            Some(many) => Some(many.common()),
+            Some(many) => Some(&many.common),
             None => None,
         }
     }

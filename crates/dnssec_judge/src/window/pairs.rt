@@ -1,9 +1,9 @@
 //! Any two sets of the windows are tested once: each new set with all sets of the other kind.
-ghost use Rattle.std.specs.Prelude.{◌≡◌, ◌≤◌, ◌&&◌, ℕ, true};
+ghost use Rattle.std.specs.Prelude.{◌≡◌, ◌≤◌, ℕ, true};
 ghost use Rattle.std.specs.List.{Contains};
 ghost use Rattle.dnssec_judge.specs.Sets.{keys_hold, set_of, zone_holds};
 ghost use Rattle.dnssec_judge.specs.declared.sets.held.OpenSet.{OpenSet};
-ghost use Rattle.dnssec_judge.specs.Inner.Window.{AllHold, AreByAge, IsOpen, Keeps, NewPass};
+ghost use Rattle.dnssec_judge.specs.Inner.Window.{AllHold, AreByAge, IsOpen, Keeps};
 ghost use Rattle.dnssec_judge.specs.Inner.Window.{Tested, all_in};
 
 use super::Window;
@@ -14,13 +14,25 @@ pub(crate) fn new_sets_hold(ds: &Window, dnskey: &Window, zone: &Window, tested:
     ensures { (n : ℕ) → result ≡ true → Keeps n ds.now → Keeps n dnskey.now → Keeps n zone.now →
         Tested tested ds.now dnskey.now zone.now → AllHold ds.now dnskey.now zone.now }
 {
-    if !ds.new_ds_hold(dnskey, tested) {
-        return false;
+    for named in ds.new_sets(tested) {
+        if !dnskey.keys_hold_with(named) {
+            return false;
+        }
     }
-    if !dnskey.new_keys_hold(ds, zone, tested) {
-        return false;
+    for keys in dnskey.new_sets(tested) {
+        if !ds.ds_hold_with(keys) {
+            return false;
+        }
+        if !zone.signers_hold_with(keys) {
+            return false;
+        }
     }
-    zone.new_signers_hold(dnskey, tested)
+    for signers in zone.new_sets(tested) {
+        if !dnskey.keys_hold_with_signers(signers) {
+            return false;
+        }
+    }
+    true
 }
 
 // If there are many sets, a test with all of them first asks what is common to them. So most sets
@@ -34,49 +46,6 @@ impl Window {
         let first = self.sets.partition_point(|set| set.since < tested);
         let (_, new) = self.sets.split_at(first);
         new
-    }
-
-    /// Whether each new DS set holds with each DNSKEY set.
-    fn new_ds_hold(&self, dnskey: &Window, tested: usize) -> bool
-        ensures { result ≡ true → (n : ℕ) → Keeps n self.now → Keeps n dnskey.now →
-            NewPass tested self.now (λ p. all_in dnskey.now (λ q. keys_hold p q)) }
-    {
-        for ds in self.new_sets(tested) {
-            if !dnskey.keys_hold_with(ds) {
-                return false;
-            }
-        }
-        true
-    }
-
-    /// Whether each new DNSKEY set holds with each DS set and with all zone signers.
-    fn new_keys_hold(&self, ds: &Window, zone: &Window, tested: usize) -> bool
-        ensures { result ≡ true → (n : ℕ) → Keeps n self.now → Keeps n ds.now →
-            Keeps n zone.now → NewPass tested self.now (λ q. all_in ds.now (λ p. keys_hold p q)
-            && all_in zone.now (λ z. zone_holds q z)) }
-    {
-        for keys in self.new_sets(tested) {
-            if !ds.ds_hold_with(keys) {
-                return false;
-            }
-            if !zone.signers_hold_with(keys) {
-                return false;
-            }
-        }
-        true
-    }
-
-    /// Whether the new zone signers hold with each DNSKEY set.
-    fn new_signers_hold(&self, dnskey: &Window, tested: usize) -> bool
-        ensures { result ≡ true → (n : ℕ) → Keeps n self.now → Keeps n dnskey.now →
-            NewPass tested self.now (λ z. all_in dnskey.now (λ q. zone_holds q z)) }
-    {
-        for zone in self.new_sets(tested) {
-            if !dnskey.keys_hold_with_signers(zone) {
-                return false;
-            }
-        }
-        true
     }
 
     /// Whether the DS set holds with each DNSKEY set of the window.

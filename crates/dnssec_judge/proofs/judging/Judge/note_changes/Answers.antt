@@ -1,9 +1,12 @@
 -- What was found stays the first, or the next position is searched, or it is as safe as the one
--- before.
-use Rattle.std.proofs.Common.{◌≡◌, ◌≤◌, ℕ, suc, sym, ◌∙◌, ap, subst, arith, refl, None, [], ◌∷◌}
-use Rattle.std.proofs.Common.{length, ◌++◌, Bool, true, false, List, Option}
-use Rattle.dnssec_run.specs.{declared.record.Entry.Entry, Safe.IsSafe, Steps.origins_at}
-use Rattle.std.specs.Prelude.{is_some}
+-- before. If there is no DS, or any two sets fit together, nothing is broken.
+use Rattle.std.proofs.Common.{◌≡◌, ◌≤◌, ℕ, suc, sym, ◌∙◌, ap, subst, arith, refl, None, Some}
+use Rattle.std.proofs.Common.{[], ◌∷◌, length, ◌++◌, true, List, Option}
+use Rattle.std.specs.Prelude.{if◌then◌else◌, is_some, not}
+use Rattle.dnssec_key.specs.declared.roll.RollType.{RollType}
+use Rattle.dnssec_run.specs.declared.record.{Entry.Entry, Mark.Mark}
+use Rattle.dnssec_run.specs.Safe.{IsSafe, SetKind, is_step, position_at, position_of}
+use Rattle.dnssec_run.specs.{Origins.set_at, Steps.step_of}
 use Rattle.dnssec_judge.specs.Inner.Window.{Tested, first_ds, stretches_of}
 use Rattle.dnssec_judge.specs.{declared.judging.Judge.Judge, Judge.Follows, Judge.Knows}
 use Rattle.dnssec_judge.specs.Judge.{origins_of}
@@ -12,16 +15,8 @@ use Rattle.dnssec_judge.specs.Verdict.{IsVerdict}
 use Rattle.dnssec_judge.proofs.OneByOne.Followed.{is-none, none-found, some-kept}
 use Rattle.dnssec_judge.proofs.OneByOne.Followed.{steps-follow}
 use Rattle.dnssec_judge.proofs.OneByOne.{Found.judged, More.count, Same.stays-safe}
+use Rattle.dnssec_judge.proofs.OneByOne.Pairs.{none-where-held, none-without-ds, tested-held}
 use Rattle.dnssec_judge.proofs.judging.Judge.note_changes.Goals as goal
-
--- the verdict at a position, found by a search or safe as the one before
-found-or-safe : (entries : List Entry) (n : ℕ) (found result : Option Broken) (news : Bool)
-    → (news ≡ true → result ≡ found) → (news ≡ false → result ≡ None)
-    → ((o : Option Broken) → o ≡ found → IsVerdictAt entries n o)
-    → (news ≡ false → IsSafe entries n) → IsVerdictAt entries n result
-found-or-safe entries n found result true searched none judged safe = judged result (searched refl)
-found-or-safe entries n found result false searched none judged safe =
-    subst (IsVerdictAt entries n) (sym (none refl)) (safe refl)
 
 -- another place, test or verdict changes nothing else
 follows-as : (es : List Entry) (w : Judge) (at tested : ℕ) (found : Option Broken)
@@ -38,64 +33,122 @@ follows-as es w at tested found within all f = record {
 }
 
 -- what follow leaves of a judge that knows the entries so far
-module _ (es : List Entry) (e : Entry) (w : Judge) (g : Follows (es ++ e ∷ []) w) where
-  origins-are : origins_of w ≡ origins_at (es ++ e ∷ []) (length (es ++ e ∷ []))
-  origins-are = λ i. record {
-    ds = g.ds.came_at i;
-    dnskey = g.dnskey.came_at i;
-    zone = g.zone.came_at i;
+module _ (es : List Entry) (e : Entry) (j w : Judge) (mark : Mark) (at : ℕ) (h : Knows es j)
+    (here : at ≡ suc (length es)) (marked : e.mark ≡ mark) (at-is : w.at ≡ at)
+    (found-is : w.found ≡ j.found)
+    (steps : (roll : RollType) → step_of w.steps roll ≡ (if is_step roll mark then Some (record {
+      at = at;
+      origins = origins_of w;
+    }) else step_of j.steps roll))
+    (ok : Follows es (record j { at = at }) → Follows (es ++ e ∷ []) w) where
+  follows : Follows (es ++ e ∷ []) w
+  follows = ok (follows-as es j at j.tested j.found h.follows.within h.follows.tested h.follows)
+
+  -- with another verdict, and another test
+  judge-with : (tested : ℕ) (found : Option Broken) → tested ≤ suc (length (es ++ e ∷ []))
+      → Tested tested w.ds w.dnskey w.zone → IsVerdict (es ++ e ∷ []) found
+      → Knows (es ++ e ∷ []) (record w { tested = tested; found = found })
+  judge-with tested found within all verdict = record {
+    at = at-is ∙ here ∙ sym (count es e);
+    steps = steps-follow es e j.steps w.steps mark at (origins_of w) h.steps here marked
+        (λ i. record {
+          ds = follows.ds.came_at i;
+          dnskey = follows.dnskey.came_at i;
+          zone = follows.zone.came_at i;
+        }) steps;
+    verdict = verdict;
+    follows = follows-as (es ++ e ∷ []) w w.at tested found within all follows;
   }
+
+  -- what was found stays the first
+  some-found : is_some w.found ≡ true → Knows (es ++ e ∷ []) w
+  some-found some = judge-with w.tested w.found follows.within follows.tested
+      (subst (IsVerdict (es ++ e ∷ [])) (sym found-is)
+      (some-kept es e j.found (ap is_some (sym found-is) ∙ some) h.verdict))
+
+  module _ (none : w.found ≡ None) where
+    none-before : j.found ≡ None
+    none-before = sym found-is ∙ none
+
+    -- without news the position is as safe as the one before
+    no-news : ((kind : SetKind) → set_at kind (position_of e)
+        ≡ set_at kind (position_at es (length es))) → Knows (es ++ e ∷ []) w
+    no-news same = judge-with w.tested w.found follows.within follows.tested
+        (none-found es e j.found w.found none-before h.verdict
+        (subst (IsVerdictAt (es ++ e ∷ []) (length (es ++ e ∷ []))) (sym none)
+        (subst (IsSafe (es ++ e ∷ [])) (sym (count es e)) (stays-safe es e same
+        (subst (IsVerdict es) none-before h.verdict (length es) (omega arith))))))
+
+    -- or it is searched
+    searched : (n tested : ℕ) (found : Option Broken) → n ≡ at
+        → tested ≤ suc (length (es ++ e ∷ [])) → Tested tested w.ds w.dnskey w.zone
+        → found ≡ first_ds n w.ds.floor (stretches_of w.ds) w.dnskey.floor (stretches_of w.dnskey)
+        w.zone.floor (stretches_of w.zone)
+        → Knows (es ++ e ∷ []) (record w { tested = tested; found = found })
+    searched n tested found is within all first = judge-with tested found within all
+        (none-found es e j.found found none-before h.verdict
+        (judged (es ++ e ∷ []) (length (es ++ e ∷ [])) (omega arith) w.numbers follows.table
+        w.ds w.dnskey w.zone follows.ds follows.dnskey follows.zone found
+        (first ∙ ap (λ m. first_ds m w.ds.floor (stretches_of w.ds) w.dnskey.floor
+        (stretches_of w.dnskey) w.zone.floor (stretches_of w.zone))
+        (is ∙ here ∙ sym (count es e)))))
 
 pub returns-then-is_some-clause-ok : goal.returns-then-is_some-clause-ok
 returns-then-is_some-clause-ok c es e next keep h =
-    let j = c.args.self.now in let w = c.follow.new.self in
-    let f = h.follows in
-    let at : c.in-Some.at ≡ suc (length es) = omega (arith, h.at, c.in-Some.ensures) in
-    let g = c.in_ok-follow.ensures.follows es e at h.steps next keep
-    (follows-as es j c.in-Some.at j.tested j.found f.within f.tested f) in
-    let found : w.found ≡ j.found = c.in_ok-follow.ensures.found in
-    let some = ap is_some (sym found) ∙ sym c.is_some.ensures ∙ c.if-is_some.true in
-    record {
-      at = c.in_ok-follow.ensures.at ∙ at ∙ sym (count es e);
-      steps = steps-follow es e j.steps w.steps c.args.mark c.in-Some.at (origins_of w) h.steps at
-          next.has_mark (origins-are es e w g) c.in_ok-follow.ensures.steps;
-      verdict = subst (λ (o : Option Broken). IsVerdict (es ++ e ∷ []) o) (sym found)
-          (some-kept es e j.found some h.verdict);
-      follows = g;
-    }
+    let f = c.in_ok-follow.ensures in
+    let here : c.in-Some.at ≡ suc (length es) = omega (arith, h.at, c.in-Some.ensures) in
+    some-found es e c.args.self.now c.follow.new.self c.args.mark c.in-Some.at h here next.has_mark
+    f.at f.found f.steps (f.follows es e here h.steps next keep)
+    (sym c.is_some.ensures ∙ c.if-is_some.true)
+
+pub returns-then-is_none-clause-ok : goal.returns-then-is_none-clause-ok
+returns-then-is_none-clause-ok c es e next keep h =
+    let f = c.in_ok-follow.ensures in
+    let here : c.in-Some.at ≡ suc (length es) = omega (arith, h.at, c.in-Some.ensures) in
+    no-news es e c.args.self.now c.follow.new.self c.args.mark c.in-Some.at h here next.has_mark
+    f.at f.found f.steps (f.follows es e here h.steps next keep)
+    (is-none _ (sym c.is_some.ensures ∙ c.if-is_some.false))
+    (λ kind. rw (is-none c.args.published (c.is_none.ensures ∙ ap not c.if-is_none.true))
+    at (next.publishes kind))
+
+pub returns-then-has_no_keys-clause-ok : goal.returns-then-has_no_keys-clause-ok
+returns-then-has_no_keys-clause-ok c es e next keep h =
+    let w = c.follow.new.self in let f = c.in_ok-follow.ensures in
+    let here : c.in-Some.at ≡ suc (length es) = omega (arith, h.at, c.in-Some.ensures) in
+    let none = is-none w.found (sym c.is_some.ensures ∙ c.if-is_some.false) in
+    let ok = f.follows es e here h.steps next keep in
+    let g = follows es e c.args.self.now w c.args.mark c.in-Some.at h here next.has_mark
+    f.at f.found f.steps ok in
+    searched es e c.args.self.now w c.args.mark c.in-Some.at h here next.has_mark
+    f.at f.found f.steps ok none c.in-Some.at w.tested w.found refl g.within g.tested
+    (none ∙ sym (none-without-ds _ c.in-Some.at w.ds w.dnskey w.zone g.ds.keeps g.dnskey.keeps
+    g.zone.keeps (sym c.has_no_keys.ensures ∙ c.if-has_no_keys.true)))
+
+pub returns-then-new_sets_hold-clause-ok : goal.returns-then-new_sets_hold-clause-ok
+returns-then-new_sets_hold-clause-ok c es e next keep h =
+    let w = c.follow.new.self in let f = c.in_ok-follow.ensures in
+    let here : c.in-Some.at ≡ suc (length es) = omega (arith, h.at, c.in-Some.ensures) in
+    let none = is-none w.found (sym c.is_some.ensures ∙ c.if-is_some.false) in
+    let ok = f.follows es e here h.steps next keep in
+    let g = follows es e c.args.self.now w c.args.mark c.in-Some.at h here next.has_mark
+    f.at f.found f.steps ok in
+    let all = c.new_sets_hold.ensures _ c.if-new_sets_hold.true g.ds.keeps g.dnskey.keeps
+    g.zone.keeps g.tested in
+    searched es e c.args.self.now w c.args.mark c.in-Some.at h here next.has_mark
+    f.at f.found f.steps ok none c.in-Some.at _ w.found refl
+    (omega (arith, here, count es e, c.saturating_add-self.ensures))
+    (tested-held _ w.ds w.dnskey w.zone all)
+    (none ∙ sym (none-where-held _ c.in-Some.at w.ds w.dnskey w.zone g.ds.keeps g.dnskey.keeps
+    g.zone.keeps all))
 
 pub returns-clause-ok : goal.returns-clause-ok
 returns-clause-ok c es e next keep h =
-    let j = c.args.self.now in let w = c.follow.new.self in let new = c.look.new.self in
-    let more : List Entry = es ++ e ∷ [] in
-    let f = h.follows in
-    let at : c.in-Some.at ≡ suc (length es) = omega (arith, h.at, c.in-Some.ensures) in
-    let g = c.in_ok-follow.ensures.follows es e at h.steps next keep
-    (follows-as es j c.in-Some.at j.tested j.found f.within f.tested f) in
-    let here : c.in-Some.at ≡ length more = at ∙ sym (count es e) in
-    let search = λ (n : ℕ). first_ds n w.ds.floor (stretches_of w.ds)
-    w.dnskey.floor (stretches_of w.dnskey) w.zone.floor (stretches_of w.zone) in
-    let still : w.found ≡ None = is-none w.found (sym c.is_some.ensures ∙ c.if-is_some.false) in
-    let none : j.found ≡ None = sym c.in_ok-follow.ensures.found ∙ still in
-    let was : IsSafe es (length es) =
-    subst (λ (o : Option Broken). IsVerdict es o) none h.verdict (length es) (omega arith) in
-    let tested = c.in_ok-look.ensures.tested (length more) here g.within g.ds.keeps
-    g.dnskey.keeps g.zone.keeps g.tested in
-    subst (Knows more) (sym c.in_ok-look.ensures.kept) (record {
-      at = c.in_ok-follow.ensures.at ∙ here;
-      steps = steps-follow es e j.steps w.steps c.args.mark c.in-Some.at (origins_of w) h.steps at
-          next.has_mark (origins-are es e w g) c.in_ok-follow.ensures.steps;
-      verdict = none-found es e j.found new.found none h.verdict
-          (found-or-safe more (length more) (search (length more)) new.found
-          c.is_some-2.result
-          (λ t. c.in_ok-look.ensures.found t (length more) here g.within still g.ds.keeps
-          g.dnskey.keeps
-          g.zone.keeps g.tested ∙ ap search here)
-          (λ t. c.in_ok-look.ensures.none t ∙ still)
-          (judged more (length more) (omega arith) w.numbers g.table w.ds w.dnskey w.zone
-          g.ds g.dnskey g.zone)
-          (λ t. subst (IsSafe more) (sym (count es e)) (stays-safe es e
-          (λ kind. rw (is-none c.args.published (sym c.is_some-2.ensures ∙ t))
-          at (next.publishes kind)) was)));
-      follows = follows-as more w w.at new.tested new.found tested.0 tested.1 g;
-    })
+    let w = c.follow.new.self in let f = c.in_ok-follow.ensures in
+    let here : c.in-Some.at ≡ suc (length es) = omega (arith, h.at, c.in-Some.ensures) in
+    let none = is-none w.found (sym c.is_some.ensures ∙ c.if-is_some.false) in
+    let ok = f.follows es e here h.steps next keep in
+    let g = follows es e c.args.self.now w c.args.mark c.in-Some.at h here next.has_mark
+    f.at f.found f.steps ok in
+    searched es e c.args.self.now w c.args.mark c.in-Some.at h here next.has_mark
+    f.at f.found f.steps ok none c.in-Some.at w.tested _ refl g.within g.tested
+    (c.in_ok-self.ensures.ok _ g.ds.keeps g.dnskey.keeps g.zone.keeps)

@@ -2,7 +2,7 @@
 use Rattle.std.proofs.Common.{◌≡◌, ◌∙◌, ap, get_or, List, rules, subst, sym}
 use Rattle.std.{proofs.lemmas.Option.slice_get-get_or, specs.Prelude.slice_get}
 use Rattle.dnssec_judge.specs.Inner.Window.{IsIn}
-use Rattle.dnssec_judge.specs.declared.{sets.held.OpenSet.OpenSet, window.many.Many.Many}
+use Rattle.dnssec_judge.specs.declared.{sets.held.OpenSet.OpenSet, window.holding.Many.Many}
 use Rattle.dnssec_judge.proofs.window.Window.help.Goals as goal
 
 pub returns-clause-common : goal.returns-clause-common

@@ -7,7 +7,7 @@ use Rattle.std.proofs.lemmas.Nat.Bits.{bit_at_clear_other, bit_at_clear_same}
 use Rattle.std.specs.{Int.bit_not, Int.w64, Int.Bits.bit_and}
 use Rattle.std.specs.Prelude.{◌^◌, ◌*◌, if◌then◌else◌, nat_eq, set}
 use Rattle.dnssec_judge.specs.Bits.{has_bit, word_at, words_of}
-use Rattle.dnssec_judge.proofs.Words.{written-words}
+use Rattle.dnssec_judge.proofs.Words.{first-written, written-words}
 use Rattle.dnssec_judge.proofs.sets.bits.Bits.take_out.Goals as goal
 
 -- the word of a number without its bit
@@ -27,22 +27,7 @@ clear-bit old new number is n =
     let here = is (n / 64) in
     grind (arith, nat_tests, same, others, here)
 
--- the first word is another
-is-first : (index word first : ℕ) → index ≡ 0 → word ≡ (if nat_eq index 0 then word else first)
-is-first index word first is = grind (arith, nat_tests)
-
-not-first : (index i word other : ℕ) → index ≡ 0
-    → other ≡ (if nat_eq index (suc i) then word else other)
-not-first index i word other is = grind (arith, nat_tests)
-
-first-written : (first word : ℕ) (rest : List ℕ) (index : ℕ) → index ≡ 0
-    → (i : ℕ) → word_at (word ∷ rest) i
-    ≡ (if nat_eq index i then word else word_at (first ∷ rest) i)
-first-written first word rest index is zero = is-first index word first is
-first-written first word rest index is (suc i) =
-    not-first index i word (word_at rest i) is
-
--- and the others stay
+-- the other words stay
 same-first : (first : ℕ) (rest less : List ℕ) → ((i : ℕ) → get_or less i 0 ≡ get_or rest i 0)
     → (i : ℕ) → word_at (first ∷ less) i ≡ word_at (first ∷ rest) i
 same-first first rest less same zero = refl

@@ -1,4 +1,4 @@
--- The same words, but for some at the end that are 0.
+-- The same words, except words at the end that are 0.
 use Rattle.std.proofs.Common.{◌≡◌, ℕ}
 use Rattle.std.specs.Prelude.{get_or, vec_len}
 use Rattle.dnssec_judge.proofs.sets.bits.Bits.trim.Given as goal

@@ -30,42 +30,48 @@ any-removed (x ∷ xs) (suc i) m n lt is =
     ap (λ b. nat_eq x n || b) (any-removed xs i m n (omega arith) is)
     ∙ swap (nat_eq x n) (nat_eq m n) (list_any (λ k. nat_eq k n) (remove xs i))
 
+-- what is left of a list without the number of a place
+module _ (xs rest : List ℕ) (i m : ℕ) (lt : i < length xs) (is : m ≡ get_or xs i m)
+    (left : rest ≡ remove xs i) where
+  any : (n : ℕ) → list_any (λ k. nat_eq k n) xs ≡ (nat_eq m n || list_any (λ k. nat_eq k n) rest)
+  any n = any-removed xs i m n lt is
+      ∙ ap (λ (ns : List ℕ). nat_eq m n || list_any (λ k. nat_eq k n) ns) (sym left)
+
+  same-number : (b : Bool) → list_any (λ k. nat_eq k m) rest ≡ b → (n : ℕ) → nat_eq m n ≡ true
+      → list_any (λ k. nat_eq k n) rest ≡ b
+  same-number b is n e = ap (λ p. list_any (λ k. nat_eq k p) rest) (sym (eqb-true m n e)) ∙ is
+
+  -- the number stands elsewhere too
+  stays : list_any (λ k. nat_eq k m) rest ≡ true → (n : ℕ)
+      → list_any (λ k. nat_eq k n) xs ≡ list_any (λ k. nat_eq k n) rest
+  stays there n = any n ∙ still (nat_eq m n) _ (same-number true there n)
+
+  -- or it is gone
+  leaves : list_any (λ k. nat_eq k m) rest ≡ false → (n : ℕ)
+      → (if nat_eq m n then false else list_any (λ k. nat_eq k n) xs)
+      ≡ list_any (λ k. nat_eq k n) rest
+  leaves none n = ap (λ b. if nat_eq m n then false else b) (any n)
+      ∙ gone (nat_eq m n) _ (same-number false none n)
+
 pub invariant_of-self-else-not-stands_in : goal.invariant_of-self-else-not-stands_in
 invariant_of-self-else-not-stands_in c = record {
   same = λ n.
       (let old = c.args.self.now in let number = c.remove-number.result in
-      let within : c.args.place < length old.numbers.items =
-      omega (arith, c.requires, old.numbers.ok.0) in
-      let there : list_any (λ k. nat_eq k number) c.remove-number.new.self.items ≡ true =
-      ap (λ (ns : List ℕ). list_any (λ k. nat_eq k number) ns) (sym c.deref.ensures.value)
-      ∙ sym c.stands_in.ensures ∙ c.if-not-stands_in.false in
-      old.same n
-      ∙ any-removed old.numbers.items c.args.place number n within c.remove-number.ensures.value
-      ∙ still (nat_eq number n) (list_any (λ k. nat_eq k n) (remove old.numbers.items c.args.place))
-      (λ e. ap (λ m. list_any (λ k. nat_eq k m) (remove old.numbers.items c.args.place))
-      (sym (eqb-true number n e))
-      ∙ ap (λ (ns : List ℕ). list_any (λ k. nat_eq k number) ns)
-      (sym c.remove-number.ensures.items) ∙ there)
-      ∙ ap (λ (ns : List ℕ). list_any (λ k. nat_eq k n) ns) (sym c.remove-number.ensures.items));
+      old.same n ∙ stays old.numbers.items c.remove-number.new.self.items c.args.place number
+      (omega (arith, c.requires, old.numbers.ok.0)) c.remove-number.ensures.value
+      c.remove-number.ensures.items
+      (ap (λ (ns : List ℕ). list_any (λ k. nat_eq k number) ns) (sym c.deref.ensures.value)
+      ∙ sym c.stands_in.ensures ∙ c.if-not-stands_in.false) n);
 }
 
 pub invariant_of-self : goal.invariant_of-self
 invariant_of-self c = record {
   same = λ n.
       (let old = c.args.self.now in let number = c.remove-number.result in
-      let within : c.args.place < length old.numbers.items =
-      omega (arith, c.requires, old.numbers.ok.0) in
-      let there : list_any (λ k. nat_eq k number) c.remove-number.new.self.items ≡ false =
-      ap (λ (ns : List ℕ). list_any (λ k. nat_eq k number) ns) (sym c.deref.ensures.value)
-      ∙ sym c.stands_in.ensures ∙ c.if-not-stands_in.true in
-      c.take_out.ensures n
-      ∙ ap (λ b. if nat_eq number n then false else b) (old.same n
-      ∙ any-removed old.numbers.items c.args.place number n within
-      c.remove-number.ensures.value)
-      ∙ gone (nat_eq number n) (list_any (λ k. nat_eq k n) (remove old.numbers.items c.args.place))
-      (λ e. ap (λ m. list_any (λ k. nat_eq k m) (remove old.numbers.items c.args.place))
-      (sym (eqb-true number n e))
-      ∙ ap (λ (ns : List ℕ). list_any (λ k. nat_eq k number) ns)
-      (sym c.remove-number.ensures.items) ∙ there)
-      ∙ ap (λ (ns : List ℕ). list_any (λ k. nat_eq k n) ns) (sym c.remove-number.ensures.items));
+      c.take_out.ensures n ∙ ap (λ b. if nat_eq number n then false else b) (old.same n)
+      ∙ leaves old.numbers.items c.remove-number.new.self.items c.args.place number
+      (omega (arith, c.requires, old.numbers.ok.0)) c.remove-number.ensures.value
+      c.remove-number.ensures.items
+      (ap (λ (ns : List ℕ). list_any (λ k. nat_eq k number) ns) (sym c.deref.ensures.value)
+      ∙ sym c.stands_in.ensures ∙ c.if-not-stands_in.true) n);
 }

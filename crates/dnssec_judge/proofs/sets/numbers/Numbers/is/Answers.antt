@@ -1,21 +1,43 @@
--- The key at the place is the same, or another.
-use Rattle.std.proofs.Common.{◌∙◌, ap, sym, Some}
+-- The key at the place is the same, or another, or there is none.
+use Rattle.std.proofs.Common.{◌∙◌, ap, arith, length, refl, sym, Some}
 use Rattle.std.proofs.lemmas.{Bool.true≢false, Option.none-some, Option.same_Some}
+use Rattle.std.proofs.lemmas.Option.{slice_get_past, slice_get_read}
+use Rattle.std.specs.Option.{option_map}
 use Rattle.dnssec_run.proofs.Since.{same-id}
 use Rattle.dnssec_run.specs.Published.{id_of}
+use Rattle.dnssec_judge.specs.Numbers.{key_in}
 use Rattle.dnssec_judge.proofs.sets.numbers.Numbers.is.Goals as goal
 
-pub returns-in-Some-clause-yes : goal.returns-in-Some-clause-yes
-returns-in-Some-clause-yes c e =
-    sym c.in-Some.ensures
-    ∙ ap (λ k. Some k) ((same-id (id_of c.in-Some.other.now) (id_of c.args.key.now)).0
-    (sym c.eq.ensures ∙ e))
+pub returns-in-Some-Some-clause-yes : goal.returns-in-Some-Some-clause-yes
+returns-in-Some-Some-clause-yes c e =
+    let keys = c.args.self.now.keys.items in let other = c.in-Some-Some.other in
+    let item = rw c.deref.ensures.value at c.in-Some-Some.ensures.lookup in
+    let there = slice_get_read keys (length keys) c.args.number c.in-Some-Some.field-0.now refl
+    item.3.0 item.1 in
+    ap key_in there ∙ ap (option_map id_of) c.in-Some-Some.field-0-is
+    ∙ ap (λ k. Some k) ((same-id (id_of other) (id_of c.args.key.now)).0 (sym c.eq.ensures ∙ e))
 
-pub returns-in-Some-clause-no : goal.returns-in-Some-clause-no
-returns-in-Some-clause-no c e is =
-    let a = id_of c.in-Some.other.now in let b = id_of c.args.key.now in
-    let same = same_Some a b (c.in-Some.ensures ∙ is) in
+pub returns-in-Some-Some-clause-no : goal.returns-in-Some-Some-clause-no
+returns-in-Some-Some-clause-no c e is =
+    let keys = c.args.self.now.keys.items in
+    let a = id_of c.in-Some-Some.other in let b = id_of c.args.key.now in
+    let item = rw c.deref.ensures.value at c.in-Some-Some.ensures.lookup in
+    let there = slice_get_read keys (length keys) c.args.number c.in-Some-Some.field-0.now refl
+    item.3.0 item.1 in
+    let same = same_Some a b
+    (sym (ap key_in there ∙ ap (option_map id_of) c.in-Some-Some.field-0-is) ∙ is) in
     true≢false (sym ((same-id a b).1 same) ∙ sym c.eq.ensures ∙ e)
 
+pub returns-in-Some-None-clause-no : goal.returns-in-Some-None-clause-no
+returns-in-Some-None-clause-no c e is =
+    let keys = c.args.self.now.keys.items in let none = c.in-Some-None.field-0.now in
+    let item = rw c.deref.ensures.value at c.in-Some-None.ensures.lookup in
+    let there = slice_get_read keys (length keys) c.args.number none refl item.3.0 item.1 in
+    none-some (id_of c.args.key.now)
+    (sym (ap key_in there ∙ ap (option_map id_of) c.in-Some-None.field-0-is) ∙ is)
+
 pub returns-in-None-clause-no : goal.returns-in-None-clause-no
-returns-in-None-clause-no c e is = none-some (id_of c.args.key.now) (c.in-None.ensures ∙ is)
+returns-in-None-clause-no c e is =
+    let item = rw c.deref.ensures.value at c.in-None.ensures.lookup in
+    none-some (id_of c.args.key.now) (sym (ap key_in
+    (slice_get_past c.args.self.now.keys.items c.args.number (omega (arith, item.3)))) ∙ is)

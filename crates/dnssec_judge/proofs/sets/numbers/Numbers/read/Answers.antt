@@ -8,12 +8,16 @@ use Rattle.dnssec_judge.proofs.Framed.{all-front, stand-len}
 use Rattle.dnssec_judge.proofs.sets.numbers.Numbers.read.Goals as goal
 
 pub returns-then-as_slice-list-clause-ok : goal.returns-then-as_slice-list-clause-ok
-returns-then-as_slice-list-clause-ok c was table h keeps =
-    let ids = map id_of c.args.list.now in
-    let len = length-map c.args.list.now id_of in
-    let known = c.args.known.now.numbers in
-    let before = stand-len c.args.self.now known.items was h in
-    let same : was ≡ ids = all-front c.args.frame was ids keeps
-    (omega (arith, c.if-frame-list.true, len))
-    (omega (arith, before, ap length c.as_slice.ensures, c.if-as_slice-list.true, len)) in
-    (subst (StandFor c.args.self.now known.items) same h, (same-ids was ids).1 same)
+returns-then-as_slice-list-clause-ok c = record {
+  table = λ t. t;
+  grows = λ t n k e. e;
+  read = λ was t h keeps.
+      (let ids = map id_of c.args.list.now in
+      let len = length-map c.args.list.now id_of in
+      let known = c.args.known.now.numbers in
+      let before = stand-len c.args.self.now known.items was h in
+      let same : was ≡ ids = all-front c.args.frame was ids keeps
+      (omega (arith, c.if-frame-list.true, len))
+      (omega (arith, before, ap length c.as_slice.ensures, c.if-as_slice-list.true, len)) in
+      (subst (StandFor c.args.self.now known.items) same h, (same-ids was ids).1 same));
+}

@@ -48,7 +48,7 @@ loop-key-preserved c t =
     )
 
 pub returns-clause-ok : goal.returns-clause-ok
-returns-clause-ok c ahead behind t front back =
+returns-clause-ok c ahead after t front back =
     let so = c.loop-key.invariant t in
     let read = c.loop-key.self in
     let list = c.args.changed.now in
@@ -57,10 +57,10 @@ returns-clause-ok c ahead behind t front back =
     let all = ap (λ (ks : List PublishedKey). ahead ++ map id_of ks)
     (take_all c.loop-key.key-index list c.loop-key-test.false) in
     let begun : c.in_ok-numbers.numbers.items ≡ c.args.front.now = search rules in
-    subst (λ (ns : List ℕ). StandFor read ns (ahead ++ (map id_of list ++ behind))) (sym ended)
+    subst (λ (ns : List ℕ). StandFor read ns (ahead ++ (map id_of list ++ after))) (sym ended)
     (subst (StandFor read (c.loop-key.numbers.items ++ c.args.back.now))
-    (append_assoc ahead (map id_of list) behind)
-    (stand-both read c.loop-key.numbers.items c.args.back.now (ahead ++ map id_of list) behind
+    (append_assoc ahead (map id_of list) after)
+    (stand-both read c.loop-key.numbers.items c.args.back.now (ahead ++ map id_of list) after
     (subst (StandFor read c.loop-key.numbers.items) all
     (so.2 ahead (subst (λ (ns : List ℕ). StandFor c.args.self.now ns ahead) (sym begun) front)))
-    (stand-on c.args.self.now read c.args.back.now behind so.1 back)))
+    (stand-on c.args.self.now read c.args.back.now after so.1 back)))

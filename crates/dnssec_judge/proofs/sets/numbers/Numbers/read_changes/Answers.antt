@@ -67,35 +67,35 @@ module _ (t : Numbers) (known : List ℕ) (list : List PublishedKey) (frame : Fr
       (subst (λ (ks : List PublishedKey). StandFor u ns (map id_of ks)) news stands)))
 
   -- and all numbers, if those of before stay around those that are read
-  anew : (u : Numbers) (ns : List ℕ) → ((ahead behind : List Id) → StandFor t front ahead
-      → StandFor t back behind → StandFor u ns (ahead ++ (map id_of changed ++ behind)))
+  anew : (u : Numbers) (ns : List ℕ) → ((ahead after : List Id) → StandFor t front ahead
+      → StandFor t back after → StandFor u ns (ahead ++ (map id_of changed ++ after)))
       → StandFor u ns (map id_of list)
   anew u ns stands =
       let ahead = subst (λ (a : List ℕ). StandFor t a keeps.front) (sym olds.0)
       (old t known list was frame h keeps).is_one in
-      let behind = subst (λ (d : List ℕ). StandFor t d keeps.back) (sym olds.2)
+      let after = subst (λ (d : List ℕ). StandFor t d keeps.back) (sym olds.2)
       (old t known list was frame h keeps).is_three in
       let whole : keeps.front ++ (map id_of changed ++ keeps.back) ≡ map id_of list =
       ap (λ (ks : List Id). keeps.front ++ (ks ++ keeps.back))
       (ap (λ (ks : List PublishedKey). map id_of ks) news
       ∙ (new t known list was frame h keeps).is_two) ∙ sym keeps.splits_new in
-      subst (StandFor u ns) whole (stands keeps.front keeps.back ahead behind)
+      subst (StandFor u ns) whole (stands keeps.front keeps.back ahead after)
 
 pub returns-then-are-clause-ok : goal.returns-then-are-clause-ok
-returns-then-are-clause-ok c was t h keeps = (
-  subst (StandFor c.args.self.now c.args.known.now.numbers.items)
-      (is-same c.args.self.now c.args.known.now.numbers.items c.args.list.now c.args.frame
-      c.parts.result.0.now c.parts.result.1.now c.parts.result.2.now c.parts-2.result.1.now
+returns-then-are-clause-ok c = record {
+  table = λ t. t;
+  grows = λ t n k e. e;
+  read = λ was t h keeps.
+      (let same = is-same c.args.self.now c.args.known.now.numbers.items c.args.list.now
+      c.args.frame c.parts.result.0.now c.parts.result.1.now c.parts.result.2.now
+      c.parts-2.result.1.now
       (λ a b d is. c.parts.ensures.framed a b d (c.as_slice.ensures ∙ is))
       (λ a b d is f k. (c.parts-2.ensures.framed a b d is f k).1) was h keeps
-      (c.are.ensures.yes c.if-are.true)) h,
-  (same-ids was (map id_of c.args.list.now)).1
-      (is-same c.args.self.now c.args.known.now.numbers.items c.args.list.now c.args.frame
-      c.parts.result.0.now c.parts.result.1.now c.parts.result.2.now c.parts-2.result.1.now
-      (λ a b d is. c.parts.ensures.framed a b d (c.as_slice.ensures ∙ is))
-      (λ a b d is f k. (c.parts-2.ensures.framed a b d is f k).1) was h keeps
-      (c.are.ensures.yes c.if-are.true)),
-)
+      (c.are.ensures.yes c.if-are.true) in (
+        subst (StandFor c.args.self.now c.args.known.now.numbers.items) same h,
+        (same-ids was (map id_of c.args.list.now)).1 same,
+      ));
+}
 
 pub insert-requires : goal.insert-requires
 insert-requires c =
@@ -124,69 +124,81 @@ remove-requires c =
     )
 
 pub returns-then-came-eq0-clause-ok : goal.returns-then-came-eq0-clause-ok
-returns-then-came-eq0-clause-ok c was t h keeps = (
-  let front = c.parts.result.0.now in let back = c.parts.result.2.now in
-      let one = first-of c.parts.result.1.now c.if-left-eq1.true in
-      let all : c.args.known.now.numbers.items ≡ front ++ one.0 ∷ back =
-      sym c.as_slice.ensures ∙ c.parts.ensures.whole ∙ ap (λ m. front ++ (m ++ back)) one.1 in
-      subst (λ (ns : List ℕ). StandFor c.args.self.now ns (map id_of c.args.list.now))
-      (sym (c.remove.ensures
-      ∙ removed c.args.known.now.numbers.items front back (length front) one.0 all refl))
-      (between c.args.self.now c.args.known.now.numbers.items c.args.list.now c.args.frame
-      c.parts.result.0.now c.parts.result.1.now c.parts.result.2.now c.parts-2.result.1.now
-      (λ a b d is. c.parts.ensures.framed a b d (c.as_slice.ensures ∙ is))
-      (λ a b d is f k. (c.parts-2.ensures.framed a b d is f k).1) was h keeps
-      c.args.self.now [] (λ n k e. e)
-      (λ i. map {B = Option Id} Some
-      (map id_of (sym (none-at-all c.parts-2.result.1.now c.if-came-eq0.true) i)))),
-  is-other c.args.self.now c.args.known.now.numbers.items c.args.list.now c.args.frame
-      c.parts.result.0.now c.parts.result.1.now c.parts.result.2.now c.parts-2.result.1.now
-      (λ a b d is. c.parts.ensures.framed a b d (c.as_slice.ensures ∙ is))
-      (λ a b d is f k. (c.parts-2.ensures.framed a b d is f k).1) was h keeps
-      (c.are.ensures.no c.if-are.false),
-)
+returns-then-came-eq0-clause-ok c = record {
+  table = λ t. t;
+  grows = λ t n k e. e;
+  read = λ was t h keeps. (
+    let front = c.parts.result.0.now in let back = c.parts.result.2.now in
+        let one = first-of c.parts.result.1.now c.if-left-eq1.true in
+        let all : c.args.known.now.numbers.items ≡ front ++ one.0 ∷ back =
+        sym c.as_slice.ensures ∙ c.parts.ensures.whole ∙ ap (λ m. front ++ (m ++ back)) one.1 in
+        subst (λ (ns : List ℕ). StandFor c.args.self.now ns (map id_of c.args.list.now))
+        (sym (c.remove.ensures
+        ∙ removed c.args.known.now.numbers.items front back (length front) one.0 all refl))
+        (between c.args.self.now c.args.known.now.numbers.items c.args.list.now c.args.frame
+        c.parts.result.0.now c.parts.result.1.now c.parts.result.2.now c.parts-2.result.1.now
+        (λ a b d is. c.parts.ensures.framed a b d (c.as_slice.ensures ∙ is))
+        (λ a b d is f k. (c.parts-2.ensures.framed a b d is f k).1) was h keeps
+        c.args.self.now [] (λ n k e. e)
+        (λ i. map {B = Option Id} Some
+        (map id_of (sym (none-at-all c.parts-2.result.1.now c.if-came-eq0.true) i)))),
+    is-other c.args.self.now c.args.known.now.numbers.items c.args.list.now c.args.frame
+        c.parts.result.0.now c.parts.result.1.now c.parts.result.2.now c.parts-2.result.1.now
+        (λ a b d is. c.parts.ensures.framed a b d (c.as_slice.ensures ∙ is))
+        (λ a b d is f k. (c.parts-2.ensures.framed a b d is f k).1) was h keeps
+        (c.are.ensures.no c.if-are.false),
+  );
+}
 
 pub returns-then-came-eq1-clause-ok : goal.returns-then-came-eq1-clause-ok
-returns-then-came-eq1-clause-ok c was t h keeps = (
-  let front = c.parts.result.0.now in let back = c.parts.result.2.now in
-      let key = c.index-changed-0.result in let number = c.in_ok-number.number in
-      let read = c.number_of.new.self in
-      let all : c.args.known.now.numbers.items ≡ front ++ back =
-      sym c.as_slice.ensures ∙ c.parts.ensures.whole
-      ∙ ap (λ m. front ++ (m ++ back)) (none-at-all c.parts.result.1.now c.if-left-eq0.true) in
-      let only : c.parts-2.result.1.now ≡ key ∷ [] =
-      one-only c.parts-2.result.1.now key c.if-came-eq1.true c.index-changed-0.is in
-      subst (λ (ns : List ℕ). StandFor read ns (map id_of c.args.list.now))
-      (sym (c.in_ok-insert.ensures.ok
-      ∙ inserted c.args.known.now.numbers.items front back (length front) number all refl))
-      (between c.args.self.now c.args.known.now.numbers.items c.args.list.now c.args.frame
-      c.parts.result.0.now c.parts.result.1.now c.parts.result.2.now c.parts-2.result.1.now
-      (λ a b d is. c.parts.ensures.framed a b d (c.as_slice.ensures ∙ is))
-      (λ a b d is f k. (c.parts-2.ensures.framed a b d is f k).1) was h keeps
-      read (number ∷ []) (c.in_ok-number.ensures.grows t)
-      (subst (λ (ks : List PublishedKey). StandFor read (number ∷ []) (map id_of ks)) (sym only)
-      (λ i. c.in_ok-number.ensures.ok i ∷ []))),
-  is-other c.args.self.now c.args.known.now.numbers.items c.args.list.now c.args.frame
-      c.parts.result.0.now c.parts.result.1.now c.parts.result.2.now c.parts-2.result.1.now
-      (λ a b d is. c.parts.ensures.framed a b d (c.as_slice.ensures ∙ is))
-      (λ a b d is f k. (c.parts-2.ensures.framed a b d is f k).1) was h keeps
-      (c.are.ensures.no c.if-are.false),
-)
+returns-then-came-eq1-clause-ok c = record {
+  table = c.in_ok-number.ensures.table;
+  grows = c.in_ok-number.ensures.grows;
+  read = λ was t h keeps. (
+    let front = c.parts.result.0.now in let back = c.parts.result.2.now in
+        let key = c.index-changed-0.result in let number = c.in_ok-number.number in
+        let read = c.number_of.new.self in
+        let all : c.args.known.now.numbers.items ≡ front ++ back =
+        sym c.as_slice.ensures ∙ c.parts.ensures.whole
+        ∙ ap (λ m. front ++ (m ++ back)) (none-at-all c.parts.result.1.now c.if-left-eq0.true) in
+        let only : c.parts-2.result.1.now ≡ key ∷ [] =
+        one-only c.parts-2.result.1.now key c.if-came-eq1.true c.index-changed-0.is in
+        subst (λ (ns : List ℕ). StandFor read ns (map id_of c.args.list.now))
+        (sym (c.in_ok-insert.ensures.ok
+        ∙ inserted c.args.known.now.numbers.items front back (length front) number all refl))
+        (between c.args.self.now c.args.known.now.numbers.items c.args.list.now c.args.frame
+        c.parts.result.0.now c.parts.result.1.now c.parts.result.2.now c.parts-2.result.1.now
+        (λ a b d is. c.parts.ensures.framed a b d (c.as_slice.ensures ∙ is))
+        (λ a b d is f k. (c.parts-2.ensures.framed a b d is f k).1) was h keeps
+        read (number ∷ []) (c.in_ok-number.ensures.grows t)
+        (subst (λ (ks : List PublishedKey). StandFor read (number ∷ []) (map id_of ks)) (sym only)
+        (λ i. c.in_ok-number.ensures.ok i ∷ []))),
+    is-other c.args.self.now c.args.known.now.numbers.items c.args.list.now c.args.frame
+        c.parts.result.0.now c.parts.result.1.now c.parts.result.2.now c.parts-2.result.1.now
+        (λ a b d is. c.parts.ensures.framed a b d (c.as_slice.ensures ∙ is))
+        (λ a b d is f k. (c.parts-2.ensures.framed a b d is f k).1) was h keeps
+        (c.are.ensures.no c.if-are.false),
+  );
+}
 
 pub returns-clause-ok : goal.returns-clause-ok
-returns-clause-ok c was t h keeps = (
-  let read = c.read_anew.new.self in
-      subst (λ (ns : List ℕ). StandFor read ns (map id_of c.args.list.now))
-      (sym c.in_ok-known.ensures.ok)
-      (anew c.args.self.now c.args.known.now.numbers.items c.args.list.now c.args.frame
-      c.parts.result.0.now c.parts.result.1.now c.parts.result.2.now c.parts-2.result.1.now
-      (λ a b d is. c.parts.ensures.framed a b d (c.as_slice.ensures ∙ is))
-      (λ a b d is f k. (c.parts-2.ensures.framed a b d is f k).1) was h keeps
-      read c.in_ok-numbers.numbers.items
-      (λ ahead behind f k. c.in_ok-numbers.ensures.ok ahead behind t f k)),
-  is-other c.args.self.now c.args.known.now.numbers.items c.args.list.now c.args.frame
-      c.parts.result.0.now c.parts.result.1.now c.parts.result.2.now c.parts-2.result.1.now
-      (λ a b d is. c.parts.ensures.framed a b d (c.as_slice.ensures ∙ is))
-      (λ a b d is f k. (c.parts-2.ensures.framed a b d is f k).1) was h keeps
-      (c.are.ensures.no c.if-are.false),
-)
+returns-clause-ok c = record {
+  table = c.in_ok-numbers.ensures.table;
+  grows = c.in_ok-numbers.ensures.grows;
+  read = λ was t h keeps. (
+    let read = c.read_anew.new.self in
+        subst (λ (ns : List ℕ). StandFor read ns (map id_of c.args.list.now))
+        (sym c.in_ok-known.ensures.ok)
+        (anew c.args.self.now c.args.known.now.numbers.items c.args.list.now c.args.frame
+        c.parts.result.0.now c.parts.result.1.now c.parts.result.2.now c.parts-2.result.1.now
+        (λ a b d is. c.parts.ensures.framed a b d (c.as_slice.ensures ∙ is))
+        (λ a b d is f k. (c.parts-2.ensures.framed a b d is f k).1) was h keeps
+        read c.in_ok-numbers.numbers.items
+        (λ ahead after f k. c.in_ok-numbers.ensures.ok ahead after t f k)),
+    is-other c.args.self.now c.args.known.now.numbers.items c.args.list.now c.args.frame
+        c.parts.result.0.now c.parts.result.1.now c.parts.result.2.now c.parts-2.result.1.now
+        (λ a b d is. c.parts.ensures.framed a b d (c.as_slice.ensures ∙ is))
+        (λ a b d is f k. (c.parts-2.ensures.framed a b d is f k).1) was h keeps
+        (c.are.ensures.no c.if-are.false),
+  );
+}

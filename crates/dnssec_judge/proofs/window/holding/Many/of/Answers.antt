@@ -2,7 +2,7 @@
 use Rattle.std.proofs.lemmas.Option.{get_or_from_slice_get, slice_get_within}
 use Rattle.std.proofs.{Common.take, lemmas.List.Elements.All-weaker}
 use Rattle.dnssec_judge.{specs.Inner.Window.IsIn, proofs.Lists.all-passed, proofs.Lists.passed-more}
-use Rattle.dnssec_judge.proofs.window.many.Many.of.Goals as goal
+use Rattle.dnssec_judge.proofs.window.holding.Many.of.Goals as goal
 
 pub loop-set-preserved : goal.loop-set-preserved
 loop-set-preserved c =

@@ -1,6 +1,6 @@
 -- What is common with one set more is in that, and was common before.
 use Rattle.std.proofs.{Common.sym, Common.◌∙◌, lemmas.Bool.and_parts}
-use Rattle.dnssec_judge.proofs.window.many.Many.add.Goals as goal
+use Rattle.dnssec_judge.proofs.window.holding.Many.add.Goals as goal
 
 pub returns-clause-new : goal.returns-clause-new
 returns-clause-new c = record {
