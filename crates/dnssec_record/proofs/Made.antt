@@ -21,6 +21,17 @@ Finds old new found =
     (script name : List ℕ) (calls : List Call) → HasRead script name calls old →
     ReadsOn script name calls new found
 
+-- no call yet: the first line names the zone
+pub none_made : (P : List ℕ → List Call → List Entry → Type 0) {script : List ℕ} {left : Lines}
+    (name : List ℕ) → HasRead script name [] left → P name [] [] → HasMade script left P
+none_made P name read so = record {
+  name = name;
+  calls = [];
+  read = read;
+  entries = [];
+  so = so;
+}
+
 -- the call of one more line
 pub one_made : (P Q : List ℕ → List Call → List Entry → Type 0) {script : List ℕ}
     {old : Lines} {new : Lines} {found : Option Statement} {s : Statement}

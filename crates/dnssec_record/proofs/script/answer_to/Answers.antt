@@ -1,23 +1,18 @@
 -- Each turn of the loop answers the call of one line.
-use Rattle.std.proofs.Common.{◌++◌, ◌∙◌, [], ap, string_bytes}
+use Rattle.std.proofs.Common.{◌++◌, ◌∙◌, ap, string_bytes}
 use Rattle.std.proofs.lemmas.Result.{err_from_is_err_and}
 use Rattle.dnssec_run.specs.declared.record.Published.{Published}
 use Rattle.dnssec_record.proofs.Answering.{answer_fault}
+use Rattle.dnssec_record.proofs.Made.{none_made}
 use Rattle.dnssec_record.proofs.Running.{all_answered, none_follows, one_more}
 use Rattle.dnssec_record.specs.Output.{published_text}
 use Rattle.dnssec_record.proofs.script.answer_to.Goals as goal
 
 pub loop-judge-init : goal.loop-judge-init
-loop-judge-init c = record {
-  name = c.in_ok-name.name;
-  calls = [];
-  read = c.in_ok-name.ensures.ok;
-  entries = [];
-  so = (
-    none_follows _ c.new-recorder.result c.in-Ok.judge c.new-recorder.ensures c.in-Ok.ensures.ok,
-    c.new-text.ensures.bytes,
-  );
-}
+loop-judge-init c = none_made _ _ c.in_ok-name.ensures.ok (
+  none_follows _ c.new-recorder.result c.in-Ok.judge c.new-recorder.ensures c.in-Ok.ensures.ok,
+  c.new-text.ensures.bytes,
+)
 
 pub loop-judge-preserved : goal.loop-judge-preserved
 loop-judge-preserved c =

@@ -3,18 +3,14 @@ use Rattle.std.proofs.Common.{List, ◌++◌, ◌∷◌, [], ◌∙◌, ap, subs
 use Rattle.std.proofs.lemmas.Result.{err_from_is_err_and}
 use Rattle.dnssec_run.specs.{Record.world_at, Recorder.Records, declared.record.Entry.Entry}
 use Rattle.dnssec_record.proofs.Answering.{answer_fault}
-use Rattle.dnssec_record.proofs.Made.{all_made, one_made}
+use Rattle.dnssec_record.proofs.Made.{all_made, none_made, one_made}
 use Rattle.dnssec_record.proofs.script.record_script.Goals as goal
 
 pub loop-entries-init : goal.loop-entries-init
-loop-entries-init c = record {
-  name = c.in_ok-name.name;
-  calls = [];
-  read = c.in_ok-name.ensures.ok;
-  entries = [];
-  so = subst (λ es. Records c.in_ok-name.name [] es c.new-recorder.result)
-      (sym c.new-entries.ensures.items) c.new-recorder.ensures;
-}
+loop-entries-init c =
+    none_made _ _ c.in_ok-name.ensures.ok
+    (subst (λ es. Records c.in_ok-name.name [] es c.new-recorder.result)
+    (sym c.new-entries.ensures.items) c.new-recorder.ensures)
 
 pub loop-entries-preserved : goal.loop-entries-preserved
 loop-entries-preserved c =

@@ -1,22 +1,18 @@
 -- Each turn of the loop makes the call of one line.
-use Rattle.std.proofs.Common.{◌≢◌, [], subst, sym}
+use Rattle.std.proofs.Common.{◌≢◌, subst, sym}
 use Rattle.std.proofs.lemmas.List.Elements.{All-nil, All-push}
 use Rattle.std.proofs.lemmas.Result.{err_from_is_err_and}
 use Rattle.dnssec_base.specs.declared.error.Error.TheVariants.{OutOfMemory}
 use Rattle.dnssec_run.specs.declared.record.Reply.TheVariants.{Refused}
 use Rattle.dnssec_script.proofs.Judging.{begins}
 use Rattle.dnssec_record.proofs.Answering.{answer_fault}
-use Rattle.dnssec_record.proofs.Made.{all_made, one_made}
+use Rattle.dnssec_record.proofs.Made.{all_made, none_made, one_made}
 use Rattle.dnssec_record.proofs.session.Session.resume.Goals as goal
 
 pub loop-session-init : goal.loop-session-init
-loop-session-init c = record {
-  name = c.in_ok-name.name;
-  calls = [];
-  read = c.in_ok-name.ensures.ok;
-  entries = [];
-  so = (c.in_ok-session.ensures, All-nil (λ entry. entry.reply ≢ Refused OutOfMemory));
-}
+loop-session-init c =
+    none_made _ _ c.in_ok-name.ensures.ok
+    (c.in_ok-session.ensures, All-nil (λ entry. entry.reply ≢ Refused OutOfMemory))
 
 pub loop-session-preserved : goal.loop-session-preserved
 loop-session-preserved c =
