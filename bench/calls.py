@@ -3,10 +3,11 @@
     python3 bench/calls.py [--original FOLDER] [--build FOLDER]
 
 Each row is a course of calls on key sets. A small program makes the calls on this tree's key set
-(`calls.rt.in`), and another makes the same calls on the original's (`calls.rs`). A program makes
-some rounds of the calls, and then as many idle rounds. An idle round makes only what the calls
-need, as a reference or a copy of a set. The difference is what the calls cost, without the start
-and the setup of the program. Both programs have to get the same answers.
+(`calls.rt.in`, on the sets of `calls_sets.rt.in`), and another makes the same calls on the
+original's (`calls.rs`). A program makes some rounds of the calls, and then as many idle rounds. An
+idle round makes only what the calls need, as a reference or a copy of a set. The difference is what
+the calls cost, without the start and the setup of the program. Both programs have to get the same
+answers.
 
 It prints the calls of a round. For one call it prints the instructions, if valgrind is there to
 count them; the processor's nanoseconds, the least of some runs; and the ratios of ours to the
@@ -108,6 +109,7 @@ def copy_tree(folder):
     own = folder / "crates" / "calls" / "src"
     own.mkdir(parents=True, exist_ok=True)
     shutil.copyfile(BENCH / "calls.rt.in", own / "main.rt")
+    shutil.copyfile(BENCH / "calls_sets.rt.in", own / "calls_sets.rt")
     text = [*needed.values(), f"calls: {' '.join(LIBRARIES)}"]
     (folder / "crates.txt").write_text("\n".join(text) + "\n")
 
