@@ -15,8 +15,7 @@ use Rattle.dnssec_run.proofs.Chain.Places.{side}
 use Rattle.dnssec_run.proofs.Chain.Side.{Alive as AliveSide, Cached, Early as EarlySets}
 use Rattle.dnssec_run.proofs.Chain.Side.{Late as LateSets, Rest, Side, Since, or_map}
 use Rattle.dnssec_run.proofs.Chain.Tale.{Tale, key_at}
-use Rattle.dnssec_run.proofs.Chain.Trust.{always}
-use Rattle.dnssec_run.proofs.Premise.{plain-by-sets}
+use Rattle.dnssec_run.proofs.Chain.Trust.{always, whole}
 use Rattle.dnssec_run.specs.ByAlgorithm.{KeepsWhole, algorithm_of}
 use Rattle.dnssec_run.specs.Plain.{IsPlain}
 use Rattle.dnssec_run.specs.Published.{Id}
@@ -122,22 +121,10 @@ module _ (name : List ℕ) (calls : List Call) (entries : List Entry)
     (le : n ≤ length entries) (p z : ℕ) (up : MayBeCached entries Ds p n)
     (uz : MayBeCached entries ZoneSigners z n) (d : Id)
     (in_ds : Contains (position_at entries p).ds d) where
-  abbrev all_keys : Tale
-  all_keys = record {
-    name = name;
-    calls = calls;
-    es = entries;
-    run = run;
-    plain = plain-by-sets run plain;
-    of = λ id. true;
-    whole = true;
-    all = λ w id. refl;
-  }
-
   -- if a plain list has a DS in caches, it has such a key
   pub steady-key : SteadyKey entries n z
   steady-key =
-      let tale = all_keys in
+      let tale = whole name calls entries run plain in
       let s = family_steady tale n z uz (always tale (whole-law tale refl) n le) p up
       (λ none. none d refl in_ds) in
       (s.0, λ q c. s.1 q c.0 c.1, s.2)
@@ -147,7 +134,8 @@ module _ (name : List ℕ) (calls : List Call) (entries : List Entry)
       × (algorithm_of calls k.0 ≡ algorithm_of calls d)
   steady-each keeps =
       let a = algorithm_of calls d in
-      let tale = of_algorithm all_keys a in
-      let s = family_steady tale n z uz (always tale (algorithm-law all_keys a keeps) n le) p up
+      let all = whole name calls entries run plain in
+      let tale = of_algorithm all a in
+      let s = family_steady tale n z uz (always tale (algorithm-law all a keeps) n le) p up
       (λ none. none d (eq-eqb a a refl) in_ds) in
       ((s.0, λ q c. s.1 q c.0 c.1, s.2), eqb-true _ a s.3)
