@@ -111,8 +111,8 @@ pub fn automatic_runs_grow()
     ensures { AutomaticRunsGrow }
 {}
 
-/// The line of a call that is said is read as that call, if a script can name each key: so it is
-/// after the calls of a script. So a script goes on by the line that answers it.
+/// The line of a call that is said is read as that call, if a script can name each key, as it can
+/// after calls of a script. So an answer that says a call is the script's next line.
 pub fn said_lines_are_read()
     ensures lines { SaidLinesAreRead }
     ensures keys { ScriptsNameKeys }

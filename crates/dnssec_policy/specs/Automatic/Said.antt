@@ -21,7 +21,7 @@ use Rattle.dnssec_policy.specs.Automatic.Lines.{todo_line}
 abbrev pub CanNameKeys : KeySetParts → Type 0
 CanNameKeys set = (q : List ℕ) (k : KeyParts) → get set.keys q ≡ Some k → is_reference q ≡ true
 
--- so it is after calls of a script
+-- after calls of a script it can
 abbrev pub ScriptsNameKeys : Type 0
 ScriptsNameKeys =
     (script name : List ℕ) (calls : List Call) (entries : List Entry) (n : ℕ) →
