@@ -9,7 +9,8 @@ ghost use Rattle.dnssec_policy.specs.Laws.{ChangesStartInTime, NextGoesOn, NextI
 ghost use Rattle.dnssec_policy.specs.Laws.{NothingIsSilent};
 ghost use Rattle.dnssec_policy.specs.Laws.{EndsAreInTime, RenewalsStartInTime, ReportsAreInTime};
 ghost use Rattle.dnssec_policy.specs.Laws.{ReportsCountNoLonger, RestIsAsWanted};
-ghost use Rattle.dnssec_policy.specs.Automatic.Said.{AnswersGoOn, SaidLinesAreRead, ScriptsNameKeys};
+ghost use Rattle.dnssec_policy.specs.Automatic.Said.{AnswersGoOn, SaidLinesAreRead};
+ghost use Rattle.dnssec_policy.specs.Automatic.Said.{ScriptsNameKeys};
 ghost use Rattle.dnssec_policy.specs.Delays.{KeysLeave, RollsEnd};
 ghost use Rattle.dnssec_policy.specs.Kept.{AutomaticRunsServeKeepers, KeptAlgorithmsSign};
 

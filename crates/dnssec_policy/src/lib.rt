@@ -30,7 +30,7 @@ pub use laws::{
     automatic_reports_are_by_notes, automatic_runs_are_plain, automatic_runs_are_untouched,
     automatic_runs_grow, automatic_runs_reach_resolvers, automatic_runs_serve_keepers, keys_leave,
     next_goes_on, next_is_accepted, nothing_is_silent, rest_is_as_wanted, rolls_are_in_time,
-    rolls_end, starts_are_in_time,
+    rolls_end, said_lines_are_read, starts_are_in_time,
 };
 pub use policy::{KeyRole, KskMethod, Policy, Scheme, Term, ZskMethod};
 pub use state::State;

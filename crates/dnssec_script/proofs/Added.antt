@@ -85,7 +85,8 @@ named line _ is q e = absurd (none-some q e)
 of-lines : (lines : List (List ℕ)) (calls : List Call) → AreLinesOf lines calls
     → (n : ℕ) (c : Call) → slice_get calls n ≡ Some c → (line : List ℕ) × IsLineOf line c
 of-lines [] [] are n c e = absurd (none-some c e)
-of-lines (line ∷ lines) (k ∷ calls) are zero c e = (line, subst (IsLineOf line) (same_Some k c e) are.0)
+of-lines (line ∷ lines) (k ∷ calls) are zero c e =
+    (line, subst (IsLineOf line) (same_Some k c e) are.0)
 of-lines (line ∷ lines) (k ∷ calls) are (suc n) c e = of-lines lines calls are.1 n c e
 of-lines _ _ are n c e = absurd are
 

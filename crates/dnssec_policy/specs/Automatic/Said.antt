@@ -44,5 +44,5 @@ AnswersGoOn =
     (a : AnswersBy policy script notes seconds line) (network : Network) (time : ℕ) (call : Call) →
     seconds ≤ 18446744073709551615 → AreTrue a.before a.facts network time →
     answer_of policy (first_by_hand a.name a.calls a.entries (length a.entries)) a.view
-        ≡ Make (call_of call) →
+    ≡ Make (call_of call) →
     AreScript (lines_of script ++ line ∷ []) a.name (a.calls ++ call ∷ [])
