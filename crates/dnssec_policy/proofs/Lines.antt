@@ -1,6 +1,7 @@
 -- The line of a call that is said is read as that call, also after the lines of its script.
 use Rattle.std.proofs.Common.{◌≡◌, ℕ, suc, ◌≤◌, ◌*◌, ◌∙◌, ◌⊎◌, inl, inr, Bool, true, false, List}
-use Rattle.std.proofs.Common.{[], ◌∷◌, ◌++◌, Option, None, Some, length, refl, sym, subst, ap, arith}
+use Rattle.std.proofs.Common.{[], ◌∷◌, ◌++◌, Option, None, Some, length, refl, sym, subst, ap}
+use Rattle.std.proofs.Common.{arith}
 use Rattle.std.proofs.lemmas.{Bool.true≢false, Option.none-some}
 use Rattle.std.specs.Prelude.{◌||◌, Ok, slice_get}
 use Rattle.std.specs.List.{list_all}
@@ -54,8 +55,8 @@ module _ (policy : Policy) (v : View) (names : CanNameKeys v.set) where
   olds-named roll = all-named _ (λ q l.
       let w = old-goes policy v.set roll q l in names q w.0 w.1)
 
-  one-named : (role : KeyRole) (news : List (List ℕ)) → new_keys policy v.set.keys (role ∷ []) ≡ Ok news
-      → AreNamed news
+  one-named : (role : KeyRole) (news : List (List ℕ))
+      → new_keys policy v.set.keys (role ∷ []) ≡ Ok news → AreNamed news
   one-named role news e =
       let x = one-new policy v.set role news e in
       subst AreNamed x.1 (rw (names x.0 x.2.key x.2.at) refl)
@@ -129,6 +130,6 @@ goes-on policy script notes seconds line a network time call small are is =
     let named = subst CanNameKeys (sym sees.set)
     (names script a.name a.calls a.entries (length a.entries) a.is_script a.is_run (omega arith)) in
     let read = are-read policy _ a.view call seconds a.now small named is in
+    let says = ap (λ todo. todo_line policy.algorithm todo seconds) is in
     script_more _ a.name a.calls line call a.is_script
-    (subst (λ line. IsLineOf line call) (sym (a.is_line ∙ ap (λ todo. todo_line policy.algorithm todo
-    seconds) is)) read)
+    (subst (λ line. IsLineOf line call) (sym (a.is_line ∙ says)) read)

@@ -19,7 +19,8 @@ use Rattle.dnssec_policy.specs.Text.Writing.{HasNoOther, IsNumber, IsSayable, Is
 use Rattle.dnssec_policy.specs.Text.Writing.{IsSecond, first_line, lifetime_text, number_line}
 use Rattle.dnssec_policy.specs.Text.Writing.{once_text, policy_text, renewal_text, renewals_text}
 use Rattle.dnssec_policy.specs.Text.Writing.{rolls_text, word_name}
-use Rattle.dnssec_policy.proofs.Texts.Cut.{AllLack, lacks, lines-back, text-append, text_of}
+use Rattle.dnssec_policy.proofs.Texts.Cut.{AllLack, lack-append, lacks, lines-back, text-append}
+use Rattle.dnssec_policy.proofs.Texts.Cut.{text_of}
 use Rattle.dnssec_policy.proofs.Texts.Numbers.{digits-lack}
 use Rattle.dnssec_policy.proofs.Texts.Steps.{one-more}
 use Rattle.dnssec_policy.proofs.Texts.Wishing.{bare, bare_first, deletion-back, first-back}
@@ -97,9 +98,6 @@ whole-text p =
 
 both : {x y : Bool} → x ≡ true → y ≡ true → (x && y) ≡ true
 both {x = x} {y = y} e f = rw (e, f) refl
-
-lack-append : (c : ℕ) (xs ys : List ℕ) → lacks c xs → lacks c ys → lacks c (xs ++ ys)
-lack-append c xs ys e f = list_all-append (λ b. not (b == c)) xs ys ∙ both e f
 
 bare-lacks : (w : WishWord) (n : ℕ) → IsNumber n → lacks 10 (bare w n)
 bare-lacks w n small = lack-append 10 (word_name w) (32 ∷ decimal n) (word-lacks w).1

@@ -1,30 +1,29 @@
 -- A line that says a call is read as that call.
-use Rattle.std.proofs.Common.{◌≡◌, ℕ, ◌≤◌, ◌*◌, ◌∙◌, ◌++◌, ◌∷◌, List, [], Some, ap, arith, refl}
-use Rattle.std.proofs.Common.{sym, subst, ◌<◌, ◌==◌, Bool, true, false, not, ◌&&◌, map, length, append_assoc}
-use Rattle.std.proofs.Common.{◌⊎◌, inl, inr, bytes_eq, codes, decimal, All}
-use Rattle.std.proofs.lemmas.{Bool.true≢false, Bool.cases_Bool, Bool.false_from_ne_true, List.append-nil}
-use Rattle.std.proofs.lemmas.Bool.Decides.{nat_tests}
+use Rattle.std.proofs.Common.{◌≡◌, ℕ, ◌<◌, ◌≤◌, ◌*◌, ◌==◌, ◌⊎◌, ◌∙◌, ◌++◌, ◌∷◌, inl, inr, List, []}
+use Rattle.std.proofs.Common.{Some, Bool, true, false, not, ◌&&◌, bytes_eq, codes, decimal, length}
+use Rattle.std.proofs.Common.{map, append_assoc, ap, arith, refl, subst, sym}
+use Rattle.std.proofs.lemmas.Bool.{cases_Bool, false_from_ne_true, true≢false}
+use Rattle.std.proofs.lemmas.{Bool.Decides.nat_tests, List.append-nil}
 use Rattle.std.proofs.lemmas.List.Splits.{length-slice_split, slice_split_at, slice_split_none}
 use Rattle.std.proofs.lemmas.List.Sums.{AllPass-from_list_all, list_all-from_AllPass}
 use Rattle.std.specs.List.{flat_map, list_all, onto_first, slice_split}
-use denote.Bor.{Bor, now}
-use Rattle.std.specs.Cmp.Lexicographic.{bytes_decides}
 use Rattle.std.specs.Prelude.{if◌then◌else◌, None, option_and_then, slice_index_or}
-use Rattle.std.proofs.lemmas.List.Folds.{list_all-append}
+use Rattle.std.specs.Cmp.Lexicographic.{bytes_decides}
+use denote.Bor.{Bor, now}
+use Rattle.dnssec_key.specs.Texts.{roll_name}
 use Rattle.dnssec_key.specs.declared.roll.RollType.{RollType}
 use Rattle.dnssec_key.specs.declared.roll.RollType.TheVariants as rolls
-use Rattle.dnssec_key.specs.declared.roll.Half.{Half}
-use Rattle.dnssec_key.specs.declared.roll.Half.TheVariants.{First, Second}
-use Rattle.dnssec_key.specs.Texts.{roll_name}
 use Rattle.dnssec_keyset.specs.Step as keyset
-use Rattle.dnssec_script.specs.Script.{Moment, Number, Reference, References, Roll, as_list, said_after_word, word_at}
-use Rattle.dnssec_script.specs.Script.{as_reference, as_roll, fields_of, is_list, is_reference, IsLineOf}
-use Rattle.dnssec_script.specs.Script.{is_reference_byte, references_of, roll_named, says, word_named}
 use Rattle.dnssec_run.specs.declared.call.Call.{Call}
 use Rattle.dnssec_run.specs.declared.call.Call.TheVariants as call
 use Rattle.dnssec_run.specs.Record.{call_of}
-use Rattle.dnssec_policy.specs.Automatic.Lines.{call_line, list_text, report_name, start_text, wait_name}
-use Rattle.dnssec_policy.proofs.Texts.Cut.{first-field, lacks, none-of, one-field}
+use Rattle.dnssec_script.specs.Script.{IsLineOf, Moment, Number, Reference, References, Roll}
+use Rattle.dnssec_script.specs.Script.{as_list, as_reference, as_roll, fields_of, is_list}
+use Rattle.dnssec_script.specs.Script.{is_reference, is_reference_byte, references_of, roll_named}
+use Rattle.dnssec_script.specs.Script.{said_after_word, says, word_at, word_named}
+use Rattle.dnssec_policy.specs.Automatic.Lines.{call_line, list_text, start_text}
+use Rattle.dnssec_policy.proofs.Texts.Cut.{both, first-field, lack-append, lacks, none-of}
+use Rattle.dnssec_policy.proofs.Texts.Cut.{one-field}
 use Rattle.dnssec_policy.proofs.Texts.Numbers.{digits-lack, number-back, time-back}
 
 -- ---- names of rolls
@@ -96,7 +95,8 @@ module _ (roll : RollType) (n : ℕ) (small : n ≤ 18446744073709551615) where
       ∙ ap (λ l. l ++ decimal n ∷ []) (two t (roll_name roll) h (roll-lacks roll))
 
   report-fields : (t : List ℕ) (ttl : ℕ) → ttl ≤ 4294967295 → lacks 32 t
-      → fields_of (((((t ++ 32 ∷ roll_name roll) ++ codes " ") ++ decimal ttl) ++ codes " ") ++ decimal n)
+      → fields_of
+      (((((t ++ 32 ∷ roll_name roll) ++ codes " ") ++ decimal ttl) ++ codes " ") ++ decimal n)
       ≡ t ∷ roll_name roll ∷ decimal ttl ∷ decimal n ∷ []
   report-fields t ttl fits h =
       let d = decimal ttl in let r = roll_name roll in
@@ -131,14 +131,10 @@ module _ (roll : RollType) (n : ℕ) (small : n ≤ 18446744073709551615) where
   done-back : Says (call.RollDone roll) n
   unfolding word_named
   done-back =
-      said-by _ _ (two (codes "done") (roll_name roll) refl (roll-lacks roll)) ∙ (rw (roll-back roll) refl)
+      said-by _ _ (two (codes "done") (roll_name roll) refl (roll-lacks roll))
+      ∙ (rw (roll-back roll) refl)
 
 -- ---- references
-
-both : (x y : Bool) → (x && y) ≡ true → (x ≡ true) × (y ≡ true)
-both true true h = (refl, refl)
-both true false h = cc
-both false y h = cc
 
 -- a script can name the key
 abbrev pub IsNamed : List ℕ → Type 0
@@ -203,9 +199,6 @@ list-back (q ∷ qs) h =
     let named = both (is_reference q) (list_all is_reference qs) h in
     rw (not-dash q qs named.0 named.1, list-cut q qs named.0 named.1)
     (ap (λ (b : Bool). if b then Some (References (q ∷ qs)) else None) h)
-
-lack-append : (c : ℕ) (xs ys : List ℕ) → lacks c xs → lacks c ys → lacks c (xs ++ ys)
-lack-append c xs ys e f = list_all-append (λ b. not (b == c)) xs ys ∙ rw (e, f) refl
 
 list-lacks : (qs : List (List ℕ)) → AreNamed qs → lacks 32 (list_text qs)
 list-lacks [] h = refl

@@ -4,6 +4,7 @@ use Rattle.std.proofs.Common.{ap, sym, ◌&&◌, append_assoc, arith, refl}
 use Rattle.std.proofs.lemmas.Bool.Decides.{nat_tests}
 use Rattle.std.proofs.lemmas.List.Splits.{slice_split_at, slice_split_none}
 use Rattle.std.proofs.lemmas.List.Sums.{AllPass-from_list_all}
+use Rattle.std.proofs.lemmas.List.Folds.{list_all-append}
 use Rattle.std.specs.List.{list_all, slice_split}
 use Rattle.dnssec_script.proofs.Judging.{without_end_last}
 use Rattle.dnssec_script.specs.Script.{fields_of, lines_of, without_end}
@@ -19,6 +20,10 @@ pub none-of : (c : ℕ) (text : List ℕ) → lacks c text → All (λ b. (b == 
 none-of c text h =
     let each = AllPass-from_list_all (λ b. not (b == c)) text h in
     λ k d below. never _ c (each k d below)
+
+-- nor in two texts, if it is in neither
+pub lack-append : (c : ℕ) (xs ys : List ℕ) → lacks c xs → lacks c ys → lacks c (xs ++ ys)
+lack-append c xs ys e f = list_all-append (λ b. not (b == c)) xs ys ∙ rw (e, f) refl
 
 -- ---- fields
 
@@ -52,7 +57,7 @@ closed line (next ∷ lines) =
 abbrev pub AllLack : List (List ℕ) → Type 0
 AllLack lines = list_all (λ line. list_all (λ b. not (b == 10)) line) lines ≡ true
 
-both : (x y : Bool) → (x && y) ≡ true → (x ≡ true) × (y ≡ true)
+pub both : (x y : Bool) → (x && y) ≡ true → (x ≡ true) × (y ≡ true)
 both true true h = (refl, refl)
 both true false h = cc
 both false y h = cc
