@@ -1,9 +1,17 @@
 -- A loop that reads the lines of a script one by one, and makes their calls.
 use Rattle.std.proofs.Common.{◌≡◌, ℕ, List, [], ◌∷◌, ◌++◌, Option, Some, None, subst}
+use Rattle.std.proofs.Common.{Result, IfErr}
+use Rattle.std.specs.Prelude.{IsErrAnd}
+use Rattle.std.proofs.lemmas.Result.{err_from_is_err_and}
 use Rattle.dnssec_run.specs.declared.{call.Call.Call, record.Entry.Entry}
-use Rattle.dnssec_script.specs.Inner.{Reading.HasRead, Reading.ReadsOn, Statement.statement_says}
+use Rattle.dnssec_script.specs.Inner.{Reading.HasRead, Reading.IsReadFault, Reading.ReadsOn}
+use Rattle.dnssec_script.specs.Inner.Statement.{statement_says}
 use Rattle.dnssec_script.specs.Script.{IsScript, call_says}
-use Rattle.dnssec_script.specs.declared.{lines.Lines.Lines, statement.Statement.Statement}
+use Rattle.dnssec_script.specs.declared.{lines.Lines.Lines, lines.ReadFault.ReadFault}
+use Rattle.dnssec_script.specs.declared.statement.Statement.{Statement}
+use Rattle.dnssec_record.specs.{Answer.AnswerFault, Fault.fault_of_reading}
+use Rattle.dnssec_record.specs.declared.fault.ScriptFault.{ScriptFault}
+use Rattle.dnssec_record.proofs.Answering.{answer_fault}
 
 -- these are left of the lines of a script, and this holds of the calls of the others and of their
 -- entries
@@ -52,3 +60,13 @@ pub all_made : (P : List ℕ → List Call → List Entry → Type 0) {script : 
     → found ≡ None → IsScript script h.name h.calls
 all_made P {script = script} new h next none =
     subst (ReadsOn script h.name h.calls new) none (next script h.name h.calls h.read)
+
+-- the fault of the next line is one of the script
+pub fault_made : (P : List ℕ → List Call → List Entry → Type 0) {T : Type 0} {script : List ℕ}
+    {old : Lines} (fault : ReadFault) (h : HasMade script old P) (r : Result T ScriptFault)
+    → IsErrAnd r (λ e. e ≡ fault_of_reading fault)
+    → ((s name : List ℕ) (calls : List Call) → HasRead s name calls old → IsReadFault s fault)
+    → IfErr r (AnswerFault script)
+fault_made P {script = script} fault h r gives next =
+    let p = err_from_is_err_and r gives in
+    rw (p.1, p.2) (answer_fault script fault (next script h.name h.calls h.read))

@@ -2,8 +2,7 @@
 use Rattle.std.proofs.Common.{◌++◌, ◌∙◌, ap, string_bytes}
 use Rattle.std.proofs.lemmas.Result.{err_from_is_err_and}
 use Rattle.dnssec_run.specs.declared.record.Published.{Published}
-use Rattle.dnssec_record.proofs.Answering.{answer_fault}
-use Rattle.dnssec_record.proofs.Made.{none_made}
+use Rattle.dnssec_record.proofs.Made.{fault_made, none_made}
 use Rattle.dnssec_record.proofs.Running.{all_answered, none_follows, one_more}
 use Rattle.dnssec_record.specs.Output.{published_text}
 use Rattle.dnssec_record.proofs.script.answer_to.Goals as goal
@@ -38,10 +37,8 @@ returns-clause-ok c =
 
 pub returns-in_err-statement-clause-err : goal.returns-in_err-statement-clause-err
 returns-in_err-statement-clause-err c =
-    let h = c.loop-judge.invariant in let r = c.from_residual-in_err-statement.result in
-    let p = err_from_is_err_and r c.from_residual-in_err-statement.ensures.1 in
-    rw (p.1, p.2) (answer_fault c.args.script.now _
-    (c.in_err-statement.ensures.err c.args.script.now h.name h.calls h.read))
+    fault_made _ _ c.loop-judge.invariant c.from_residual-in_err-statement.result
+    c.from_residual-in_err-statement.ensures.1 c.in_err-statement.ensures.err
 
 pub returns-in_err-push_answer-clause-err : goal.returns-in_err-push_answer-clause-err
 returns-in_err-push_answer-clause-err c =

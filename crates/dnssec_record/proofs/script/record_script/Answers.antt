@@ -1,9 +1,7 @@
 -- Each turn of the loop adds the entry of one line.
 use Rattle.std.proofs.Common.{List, ◌++◌, ◌∷◌, [], ◌∙◌, ap, subst, sym}
-use Rattle.std.proofs.lemmas.Result.{err_from_is_err_and}
 use Rattle.dnssec_run.specs.{Record.world_at, Recorder.Records, declared.record.Entry.Entry}
-use Rattle.dnssec_record.proofs.Answering.{answer_fault}
-use Rattle.dnssec_record.proofs.Made.{all_made, none_made, one_made}
+use Rattle.dnssec_record.proofs.Made.{all_made, fault_made, none_made, one_made}
 use Rattle.dnssec_record.proofs.script.record_script.Goals as goal
 
 pub loop-entries-init : goal.loop-entries-init
@@ -33,7 +31,5 @@ returns-clause-ok c =
 
 pub returns-in_err-statement-clause-err : goal.returns-in_err-statement-clause-err
 returns-in_err-statement-clause-err c =
-    let h = c.loop-entries.invariant in let r = c.from_residual-in_err-statement.result in
-    let p = err_from_is_err_and r c.from_residual-in_err-statement.ensures.1 in
-    rw (p.1, p.2) (answer_fault c.args.script.now _
-    (c.in_err-statement.ensures.err c.args.script.now h.name h.calls h.read))
+    fault_made _ _ c.loop-entries.invariant c.from_residual-in_err-statement.result
+    c.from_residual-in_err-statement.ensures.1 c.in_err-statement.ensures.err

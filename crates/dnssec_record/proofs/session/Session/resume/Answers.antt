@@ -5,8 +5,7 @@ use Rattle.std.proofs.lemmas.Result.{err_from_is_err_and}
 use Rattle.dnssec_base.specs.declared.error.Error.TheVariants.{OutOfMemory}
 use Rattle.dnssec_run.specs.declared.record.Reply.TheVariants.{Refused}
 use Rattle.dnssec_script.proofs.Judging.{begins}
-use Rattle.dnssec_record.proofs.Answering.{answer_fault}
-use Rattle.dnssec_record.proofs.Made.{all_made, none_made, one_made}
+use Rattle.dnssec_record.proofs.Made.{all_made, fault_made, none_made, one_made}
 use Rattle.dnssec_record.proofs.session.Session.resume.Goals as goal
 
 pub loop-session-init : goal.loop-session-init
@@ -52,7 +51,5 @@ returns-in_err-check_memory-clause-err c =
 
 pub returns-in_err-statement-clause-err : goal.returns-in_err-statement-clause-err
 returns-in_err-statement-clause-err c =
-    let h = c.loop-session.invariant in let r = c.from_residual-in_err-statement.result in
-    let p = err_from_is_err_and r c.from_residual-in_err-statement.ensures.1 in
-    rw (p.1, p.2) (answer_fault c.args.script.now _
-    (c.in_err-statement.ensures.err c.args.script.now h.name h.calls h.read))
+    fault_made _ _ c.loop-session.invariant c.from_residual-in_err-statement.result
+    c.from_residual-in_err-statement.ensures.1 c.in_err-statement.ensures.err
