@@ -1,7 +1,7 @@
 -- Two signers that keep the guide's rules: what caches hold of the keeper has the signer's zone
 -- keys, so there is a chain.
 use Rattle.std.proofs.Common.{List, [], ap, arith, inl, inr, length, map, refl, subst, suc, sym}
-use Rattle.std.proofs.Common.{true, zero, ℕ, ◌+◌, ◌*◌, ◌<◌, ◌∙◌, ◌∷◌, ◌≡◌, ◌≤◌}
+use Rattle.std.proofs.Common.{true, zero, ℕ, ◌+◌, ◌*◌, ◌<◌, ◌∙◌, ◌∷◌, ◌≡◌, ◌≤◌, ◌⊎◌}
 use Rattle.std.proofs.lemmas.Bool.{cases_lt}
 use Rattle.std.proofs.lemmas.List.{get_or-map, length-map}
 use Rattle.std.proofs.lemmas.List.Elements.{Contains-append_cases, Contains-append_left}
@@ -230,33 +230,43 @@ module _ (keeper signer : Signer) (time : ℕ) (ds : HaveDsTogether keeper signe
   }
 
   module _ (algorithm : ℕ → ℕ) (same : HaveSameAlgorithms keeper signer algorithm time) where
+    -- a signer's key in its DS set, of the algorithm of d
+    abbrev HasAlike : Signer → ℕ → Type 0
+    HasAlike s d = (k : Id) × Contains (shown s Ds p).ds k
+        × (algorithm (s.public k) ≡ algorithm d)
+
+    -- one's own is such a key, and for the other's there is one
+    own : (s : Signer) (d : ℕ) → Contains (map s.public (shown s Ds p).ds) d → HasAlike s d
+    own s d c = let k = from_mapped s.public (shown s Ds p).ds d c in (k.0, k.1, ap algorithm k.2)
+
+    for_other : (s t : Signer) → ((k : Id) → Contains (shown t Ds p).ds k → HasAlike s (t.public k))
+        → (d : ℕ) → Contains (map t.public (shown t Ds p).ds) d → HasAlike s d
+    for_other s t alike d c =
+        let k = from_mapped t.public (shown t Ds p).ds d c in
+        let h = alike k.0 k.1 in
+        (h.0, h.1, h.2 ∙ ap algorithm k.2)
+
+    whose : (d : ℕ) → Contains (ds_of_both keeper signer p) d
+        → Contains (map keeper.public (shown keeper Ds p).ds) d
+        ⊎ Contains (map signer.public (shown signer Ds p).ds) d
+    whose = Contains-append_cases (map keeper.public (shown keeper Ds p).ds)
+        (map signer.public (shown signer Ds p).ds)
+
     pub each_of_keeper : HasEachAlgorithm keeper algorithm time (ds_of_both keeper signer p)
         ds_of_keeper
     unfolding ds_of_keeper
-    each_of_keeper d c = elim (Contains-append_cases (map keeper.public (shown keeper Ds p).ds)
-        (map signer.public (shown signer Ds p).ds) d c) [
-          | inl own ↦
-              let k = from_mapped keeper.public (shown keeper Ds p).ds d own in
-              (k.0, k.1, ap algorithm k.2)
-          | inr other ↦
-              let k = from_mapped signer.public (shown signer Ds p).ds d other in
-              let own = same.back p k.0 held k.1 in
-              (own.0, own.1, own.2 ∙ ap algorithm k.2)
-        ]
+    each_of_keeper d c = elim (whose d c) [
+      | inl mine ↦ own keeper d mine
+      | inr its ↦ for_other keeper signer (λ k. same.back p k held) d its
+    ]
 
     pub each_of_signer : HasEachAlgorithm signer algorithm time (ds_of_both keeper signer p)
         ds_of_signer
     unfolding ds_of_signer
-    each_of_signer d c = elim (Contains-append_cases (map keeper.public (shown keeper Ds p).ds)
-        (map signer.public (shown signer Ds p).ds) d c) [
-          | inl other ↦
-              let k = from_mapped keeper.public (shown keeper Ds p).ds d other in
-              let own = same.there p k.0 held k.1 in
-              (own.0, own.1, own.2 ∙ ap algorithm k.2)
-          | inr own ↦
-              let k = from_mapped signer.public (shown signer Ds p).ds d own in
-              (k.0, k.1, ap algorithm k.2)
-        ]
+    each_of_signer d c = elim (whose d c) [
+      | inl its ↦ for_other signer keeper (λ k. same.there p k held) d its
+      | inr mine ↦ own signer d mine
+    ]
 
 abbrev pub dnskey_of : Signer → ℕ → List ℕ
 dnskey_of s q = map s.public (shown s Dnskey q).dnskey

@@ -1,7 +1,7 @@
 -- Two signers: the keeper's chain down to its DNSKEY set, and a key of the signer that signs the
 -- zone and stands in each of its own sets in caches, so in that of the keeper too.
 use Rattle.std.proofs.Common.{List, arith, inl, inr, length, refl, subst, suc, sym, zero, ℕ}
-use Rattle.std.proofs.Common.{◌+◌, ◌<◌, ◌∙◌, ◌≤◌}
+use Rattle.std.proofs.Common.{◌+◌, ◌<◌, ◌∙◌, ◌≡◌, ◌≤◌}
 use Rattle.std.proofs.lemmas.Bool.{cases_Bool, cases_lt, true≢false}
 use Rattle.std.proofs.lemmas.Map.Views.{Contains-from_any, list_any-from_Contains}
 use Rattle.std.specs.Cmp.{nat_eq_equiv}
@@ -10,6 +10,7 @@ use Rattle.std.specs.Prelude.{nat_eq}
 use Rattle.std.proofs.lemmas.Bool.{eqb-true}
 use Rattle.dnssec_run.proofs.Chain.History.{base-lies-below, not_in_empty}
 use Rattle.dnssec_run.proofs.Chain.Trust.{chain-holds, each-holds}
+use Rattle.dnssec_run.specs.ByAlgorithm.{HasChainByEach, KeepsWhole, algorithm_of}
 use Rattle.dnssec_run.specs.Published.{Id}
 use Rattle.dnssec_run.proofs.Since.{origin-le, origin-same}
 use Rattle.dnssec_run.specs.Origins.{CachedSet, origin}
@@ -19,8 +20,8 @@ use Rattle.dnssec_network.proofs.Held.{IsHeldAs, LastMade, held-cached, held-cha
 use Rattle.dnssec_network.proofs.Held.{held-published, last-made, may-be-cached, report-within}
 use Rattle.dnssec_network.proofs.Steady.{SteadyKey, steady-each, steady-key}
 use Rattle.dnssec_network.specs.Network.{IsPublished, MayBeHeld}
-use Rattle.dnssec_network.specs.TwoSigners.{EachPublishesItsOwn, HasKey, HasKeysSince}
-use Rattle.dnssec_network.specs.TwoSigners.{HavingAllSuffices, IsKeysOf, KeepsRules}
+use Rattle.dnssec_network.specs.TwoSigners.{EachPublishesItsOwn, HasDsOf, HasKey, HasKeysSince}
+use Rattle.dnssec_network.specs.TwoSigners.{HavingAllSuffices, IsKeysOf, IsZoneOf, KeepsRules}
 use Rattle.dnssec_network.specs.TwoSigners.{PublishesKeysOf, Signer, SignsZone, TwoSignersFindChain}
 use Rattle.dnssec_network.specs.TwoSigners.{TwoSignersFindEachChain, shown}
 
@@ -173,6 +174,60 @@ carried keeper signer time dnskey signers keeps kept keys at z s =
 
 -- ---- the chain
 
+-- the keeper's own chain, with what a server gives of the zone
+module _ (s : Signer) (time : ℕ) (keeps : KeepsRules s time) {ds dnskey signers : List ℕ}
+    (a : HasDsOf s time ds) (keys : IsKeysOf s time dnskey signers) where
+  abbrev third : (z : ℕ) × MayBeHeld s.network ZoneSigners z time
+  third = served s time keeps
+
+  abbrev all_held : (n : ℕ) × (n ≤ length s.entries)
+      × IsHeldAs s.entries Ds (s.network.position Ds a.version) n
+      × IsHeldAs s.entries Dnskey (s.network.position Dnskey keys.version) n
+      × IsHeldAs s.entries ZoneSigners (s.network.position ZoneSigners third.0) n
+  all_held = held-cached s.entries s.network time keeps.network keeps.reports keeps.moments
+      a.version keys.version third.0 a.held keys.held third.1
+
+  own_chain : HasChain (shown s Ds a.version) (shown s Dnskey keys.version)
+      (shown s ZoneSigners third.0)
+  own_chain = held-chain s.entries all_held.0 _ _ _ all_held.2 all_held.3 all_held.4
+      (chain-holds s.name s.calls s.entries keeps.run keeps.plain all_held.0 all_held.1)
+
+  own_each : KeepsWhole s.name s.calls s.entries → HasChainByEach (algorithm_of s.calls)
+      (shown s Ds a.version) (shown s Dnskey keys.version) (shown s ZoneSigners third.0)
+  own_each whole = held-each s.entries all_held.0 _ _ _ all_held.2 all_held.3 all_held.4 s.calls
+      (each-holds s.name s.calls s.entries keeps.run keeps.plain whole all_held.0 all_held.1)
+
+-- the signer's key that signs the zone, and that each of its DNSKEY sets in caches has
+module _ (s : Signer) (time : ℕ) (keeps : KeepsRules s time) {ds zone : List ℕ}
+    (b : HasDsOf s time ds) (signed : IsZoneOf s time zone) where
+  abbrev at : (last : LastMade s.network.made (length s.entries) time)
+      × (s.network.first ≤ last.0)
+  at = now s time keeps
+
+  abbrev of : IsHeldAs s.entries Ds (s.network.position Ds b.version) at.0.0
+  of = cached s time keeps at.0 Ds b.version b.held
+
+  abbrev by : IsHeldAs s.entries ZoneSigners (s.network.position ZoneSigners signed.version)
+      at.0.0
+  by = cached s time keeps at.0 ZoneSigners signed.version signed.held
+
+  in_cached : (d : Id) → Contains (shown s Ds b.version).ds d
+      → Contains (position_at s.entries of.at).ds d
+  in_cached d c = subst (λ (set : CachedSet). Contains set.0 d) (sym of.same) c
+
+  zone_key : (d : Id) → Contains (shown s Ds b.version).ds d → SteadyKey s.entries at.0.0 by.at
+  zone_key d c = steady-key s.name s.calls s.entries keeps.run keeps.plain at.0.0 at.0.1 of.at by.at
+      of.cached by.cached d (in_cached d c)
+
+  zone_key_like : KeepsWhole s.name s.calls s.entries → (d : Id)
+      → Contains (shown s Ds b.version).ds d → (k : SteadyKey s.entries at.0.0 by.at)
+      × (algorithm_of s.calls k.0 ≡ algorithm_of s.calls d)
+  zone_key_like whole d c = steady-each s.name s.calls s.entries keeps.run keeps.plain at.0.0 at.0.1
+      of.at by.at of.cached by.cached d (in_cached d c) whole
+
+  signs : (k : SteadyKey s.entries at.0.0 by.at) → Contains zone (s.public k.0)
+  signs k = signed.has k.0 (subst (λ (set : CachedSet). Contains set.0 k.0) by.same k.2)
+
 -- with a key in the DS set, a chain is no excuse
 both_parts : (p q z : Position) (k : Id) → Contains p.ds k → HasChain p q z
     → TrustsKeys p q × TrustsZone q z
@@ -186,29 +241,17 @@ two_signers_find_chain keeper signer time ds dnskey signers zone keeps also kept
       | inr first ↦ elim b.some [
         | inl none ↦ inl none
         | inr second ↦
-            let third = served keeper time keeps in
-            let h = held-cached keeper.entries keeper.network time keeps.network keeps.reports
-            keeps.moments a.version keys.version third.0 a.held keys.held third.1 in
-            let found = held-chain keeper.entries h.0 (keeper.network.position Ds a.version)
-            (keeper.network.position Dnskey keys.version)
-            (keeper.network.position ZoneSigners third.0) h.2 h.3 h.4
-            (chain-holds keeper.name keeper.calls keeper.entries keeps.run keeps.plain h.0 h.1) in
             let own = (both_parts (shown keeper Ds a.version) (shown keeper Dnskey keys.version)
-            (shown keeper ZoneSigners third.0) first.0 first.1 found).0 in
-            let at = now signer time also in
-            let of = cached signer time also at.0 Ds b.version b.held in
-            let by = cached signer time also at.0 ZoneSigners signed.version signed.held in
-            let z : ℕ = by.at in
-            let s = steady-key signer.name signer.calls signer.entries also.run also.plain
-            at.0.0 at.0.1 of.at z of.cached by.cached second.0
-            (subst (λ (set : CachedSet). Contains set.0 second.0) (sym of.same) second.1) in
+            (shown keeper ZoneSigners (third keeper time keeps a keys).0) first.0 first.1
+            (own_chain keeper time keeps a keys)).0 in
             let k = own.0 in
+            let s = zone_key signer time also b signed second.0 second.1 in
             inr (
               (keeper.public k, a.has k own.1, keys.has k own.2, keys.signed k own.3),
               (
                 signer.public s.0,
-                carried keeper signer time dnskey signers also kept keys at z s,
-                signed.has s.0 (subst (λ (set : CachedSet). Contains set.0 s.0) by.same s.2),
+                carried keeper signer time dnskey signers also kept keys (now signer time also) _ s,
+                signs signer time also b signed s,
               ),
             )
       ]
@@ -219,21 +262,10 @@ two_signers_find_each_chain keeper signer algorithm time ds dnskey signers zone 
     mine its a all_a b all_b keys signed d in_ds =
     let first = all_a d in_ds in
     let second = all_b d in_ds in
-    let third = served keeper time keeps in
-    let h = held-cached keeper.entries keeper.network time keeps.network keeps.reports
-    keeps.moments a.version keys.version third.0 a.held keys.held third.1 in
-    let own = (held-each keeper.entries h.0 (keeper.network.position Ds a.version)
-    (keeper.network.position Dnskey keys.version) (keeper.network.position ZoneSigners third.0)
-    h.2 h.3 h.4 keeper.calls (each-holds keeper.name keeper.calls keeper.entries keeps.run
-    keeps.plain mine.whole h.0 h.1) first.0 first.1).0 in
-    let at = now signer time also in
-    let of = cached signer time also at.0 Ds b.version b.held in
-    let by = cached signer time also at.0 ZoneSigners signed.version signed.held in
-    let z : ℕ = by.at in
-    let s = steady-each signer.name signer.calls signer.entries also.run also.plain
-    at.0.0 at.0.1 of.at z of.cached by.cached second.0
-    (subst (λ (set : CachedSet). Contains set.0 second.0) (sym of.same) second.1) its.whole in
-    let k = own.0 in let l = s.0.0 in (
+    let own = (own_each keeper time keeps a keys mine.whole first.0 first.1).0 in
+    let k = own.0 in
+    let s = zone_key_like signer time also b signed its.whole second.0 second.1 in
+    let l = s.0.0 in (
       (
         keeper.public k,
         mine.same k ∙ own.1 ∙ sym (mine.same first.0) ∙ first.2,
@@ -244,8 +276,8 @@ two_signers_find_each_chain keeper signer algorithm time ds dnskey signers zone 
       (
         signer.public l,
         its.same l ∙ s.1 ∙ sym (its.same second.0) ∙ second.2,
-        carried keeper signer time dnskey signers also kept keys at z s.0,
-        signed.has l (subst (λ (set : CachedSet). Contains set.0 l) by.same s.0.2),
+        carried keeper signer time dnskey signers also kept keys (now signer time also) _ s.0,
+        signs signer time also b signed s.0,
       ),
     )
 

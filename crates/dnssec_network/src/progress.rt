@@ -1,11 +1,13 @@
 //! How far notes have come: the newest version of each kind.
-ghost use Rattle.std.specs.Prelude.{◌≡◌};
+ghost use Rattle.std.specs.Prelude.{◌≡◌, if◌then◌else◌};
 ghost use Rattle.dnssec_run.specs.Moments.{moment_of_call};
+ghost use Rattle.dnssec_run.specs.Safe.{kind_of};
+ghost use Rattle.dnssec_network.specs.Facts.{same_kind};
 ghost use Rattle.dnssec_network.specs.Notes.{fall, first_newest, first_progress, newest_after};
 ghost use Rattle.dnssec_network.specs.Notes.{newest_of, news_refusal, progress_after};
 ghost use Rattle.dnssec_network.specs.Notes.{version_refusal};
 
-use crate::fact::{News, NoteFault};
+use crate::fact::{Fact, News, NoteFault};
 use dnssec_keyset::UnixTime;
 use dnssec_run::{Moments, SetKind};
 use std::time::Duration;
@@ -57,6 +59,18 @@ impl Newest {
                 published: self.published,
                 seen: moment,
             },
+        }
+    }
+
+    /// The newest version of `kind` after a fact.
+    fn after_fact(self, fact: &Fact, kind: SetKind) -> Self
+        ensures { result ≡ (if same_kind (kind_of fact.now.kind) (kind_of kind)
+            then newest_after fact.now.news self else self) }
+    {
+        if fact.is_of(kind) {
+            self.after(fact.news)
+        } else {
+            self
         }
     }
 
@@ -125,22 +139,11 @@ impl Progress {
     pub(crate) fn after(&self, kind: SetKind, news: &News) -> Self
         ensures { result ≡ progress_after self.now (record { kind = kind; news = news.now }) }
     {
-        match kind {
-            SetKind::Ds => Progress {
-                ds: self.ds.after(*news),
-                dnskey: self.dnskey,
-                zone: self.zone,
-            },
-            SetKind::Dnskey => Progress {
-                ds: self.ds,
-                dnskey: self.dnskey.after(*news),
-                zone: self.zone,
-            },
-            SetKind::ZoneSigners => Progress {
-                ds: self.ds,
-                dnskey: self.dnskey,
-                zone: self.zone.after(*news),
-            },
+        let fact = Fact { kind, news: *news };
+        Progress {
+            ds: self.ds.after_fact(&fact, SetKind::Ds),
+            dnskey: self.dnskey.after_fact(&fact, SetKind::Dnskey),
+            zone: self.zone.after_fact(&fact, SetKind::ZoneSigners),
         }
     }
 

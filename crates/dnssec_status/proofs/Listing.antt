@@ -1,5 +1,5 @@
 -- Listings in the order of their references: those of a key stand together.
-use Rattle.std.proofs.Common.{◌≡◌, ◌≢◌, ℕ, ◌+◌, ◌<◌, ◌++◌, List, Bool, true, false, ap, sym, refl}
+use Rattle.std.proofs.Common.{◌≡◌, ℕ, ◌+◌, ◌<◌, ◌++◌, List, Bool, true, false, ap, sym, refl}
 use Rattle.std.proofs.Common.{◌∙◌, arith, length, take, drop, take-append-drop, subst, length-drop}
 use Rattle.std.proofs.Common.{length-take}
 use Rattle.std.proofs.lemmas.List.Folds.{list_any-append, list_any_none}
@@ -7,7 +7,7 @@ use Rattle.std.proofs.lemmas.Bool.{true≢false}
 use Rattle.std.proofs.lemmas.List.Sorted.{IsNonDecreasingBy-take, IsPartitionedBy-leb}
 use Rattle.std.proofs.lemmas.List.Sorted.{IsPartitionedBy-ltb, IsPermutation-sym}
 use Rattle.std.proofs.lemmas.List.Sorted.{list_any-IsPermutation, searchable_from_sorted}
-use Rattle.std.specs.List.{All, AllWithin, filter, list_any}
+use Rattle.std.specs.List.{AllWithin, filter, list_any}
 use Rattle.std.proofs.lemmas.{List.get_or-drop, List.get_or-take, Map.Text.is_eq-slice_cmp}
 use Rattle.std.specs.Cmp.Lexicographic.{nat_list_cmp_total, slice_cmp}
 use Rattle.std.specs.List.Sorted.{IsNonDecreasingBy, IsPartitionPoint, IsPartitionedBy}
@@ -16,10 +16,9 @@ use Rattle.std.specs.Prelude.{IsPermutation, IsSortedByKey, leb, ltb, ◌&&◌, 
 use Rattle.std.specs.Str.{bytes_eq}
 use Rattle.std.specs.declared.cmp.Ordering.{Ordering, TheVariants.Equal, TheVariants.Greater}
 use Rattle.std.specs.declared.cmp.Ordering.TheVariants.{Less}
-use Rattle.dnssec_key.specs.declared.{kind.KeyType.KeyType, roll.RollType.RollType}
+use Rattle.dnssec_key.specs.declared.{kind.KeyType.KeyType}
 use Rattle.dnssec_record.specs.Courses.{Listed}
 use Rattle.dnssec_zone.specs.declared.lists.Part.{Part, TheVariants.New, TheVariants.Old}
-use Rattle.dnssec_status.specs.{Json.array_json, Json.flag_json, Names.roll_json}
 use Rattle.dnssec_run.specs.InOrder.{entry_of}
 use Rattle.dnssec_status.specs.Inner.Entries.{entry_json}
 use Rattle.dnssec_status.specs.Keys.{end_json, front_json, has_listed, rolls_of}

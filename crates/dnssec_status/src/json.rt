@@ -1,6 +1,7 @@
 //! Pieces of JSON, written after what is there. A value comes with the piece before it.
-ghost use Rattle.std.specs.Prelude.{◌≡◌, ◌++◌, ◌<◌, OnOk, codes, decimal};
-ghost use Rattle.dnssec_status.specs.Json.{escaped, flag_json, hex_digit, text_json};
+ghost use Rattle.std.specs.Prelude.{◌≡◌, ◌++◌, ◌<◌, ℕ, List, OnOk, codes, decimal};
+ghost use Rattle.dnssec_status.specs.Json.{array_json, escaped, flag_json, further_json};
+ghost use Rattle.dnssec_status.specs.Json.{hex_digit, text_json};
 
 use std::alloc::{AllocError, Global};
 
@@ -86,4 +87,52 @@ pub(crate) fn push_flag(out: &mut Vec<u8>, before: &[u8], flag: bool) -> Result<
     } else {
         push_bytes(out, b"false")
     }
+}
+
+/// What writes the elements of an array.
+pub(crate) trait Writer<T> {
+    // The text of an element.
+    ghost json: { Self → T → List ℕ };
+
+    /// Writes an element.
+    fn push(&self, out: &mut Vec<u8>, element: &T) -> Result<(), AllocError>
+        ensures { OnOk result (out.new.items ≡ out.old.items ++ json self.now element.now) };
+}
+
+/// Writes an array.
+#[tactic(auto, unfolding(crate::specs::Json::array_json))]
+pub(crate) fn push_array<T, W: Writer<T>>(
+    out: &mut Vec<u8>,
+    writer: &W,
+    elements: &[T],
+) -> Result<(), AllocError>
+    ensures { OnOk result (out.new.items ≡ out.old.items
+        ++ array_json (W.json writer.now) elements.now) }
+{
+    match elements.split_first() {
+        None => push_bytes(out, b"[]"),
+        Some((first, rest)) => {
+            push_bytes(out, b"[")?;
+            writer.push(out, first)?;
+            push_further(out, writer, rest)?;
+            push_bytes(out, b"]")
+        }
+    }
+}
+
+/// Writes further elements, each after a comma.
+#[tactic(auto, unfolding(crate::specs::Json::further_json))]
+fn push_further<T, W: Writer<T>>(
+    out: &mut Vec<u8>,
+    writer: &W,
+    elements: &[T],
+) -> Result<(), AllocError>
+    ensures { OnOk result (out.new.items ≡ out.old.items
+        ++ further_json (W.json writer.now) elements.now) }
+{
+    for element in elements {
+        push_bytes(out, b",")?;
+        writer.push(out, element)?;
+    }
+    Ok(())
 }

@@ -6,73 +6,35 @@ ghost use Rattle.dnssec_key.specs.declared.kind.KeyType.TheVariants as KeyType;
 ghost use Rattle.dnssec_key.specs.State.{is_active_ksk, is_active_zsk, is_future, is_leaving};
 ghost use Rattle.dnssec_key.specs.State.{is_used};
 ghost use Rattle.dnssec_status.specs.Inner.Entries.{entry_json};
-ghost use Rattle.dnssec_status.specs.Json.{array_json, further_json, option_json, text_json};
-ghost use Rattle.dnssec_status.specs.Keys.{end_json, flags_json, front_json, key_json};
+ghost use Rattle.dnssec_status.specs.Json.{array_json, option_json, text_json};
+ghost use Rattle.dnssec_status.specs.Keys.{end_json, flags_json, front_json};
 ghost use Rattle.dnssec_status.specs.Keys.{is_listed_by_some, kind_json, may_come_in, role_json};
 ghost use Rattle.dnssec_status.specs.Keys.{rolls_of, seconds, stamps_json, state_word, traits_json};
 ghost use Rattle.dnssec_status.specs.Names.{roll_json};
 
-use crate::json::{push_bytes, push_flag, push_null, push_number, push_text};
+use crate::json::{Writer, push_array, push_bytes, push_flag, push_null, push_number, push_text};
 use crate::listed::{Listings, rolls_of};
-use crate::names::push_roll_names;
+use crate::names::Names;
 use dnssec_keyset::{Key, KeyState, KeyTimestamps, KeyType, UnixTime};
 use dnssec_record::Part;
 use std::alloc::{AllocError, Global};
 use std::time::Duration;
 
-/// Writes the keys.
-#[tactic(auto, unfolding(crate::specs::Json::array_json))]
-pub(crate) fn push_keys(
-    alloc: Global,
-    out: &mut Vec<u8>,
-    listings: &Listings<'_>,
-    entries: &[(&String, &Key)],
-) -> Result<(), AllocError>
-    ensures { OnOk result (out.new.items ≡ out.old.items
-        ++ array_json (entry_json listings.now) entries.now) }
-{
-    match entries.split_first() {
-        None => push_bytes(out, b"[]"),
-        Some((first, rest)) => {
-            push_bytes(out, b"[")?;
-            push_key(alloc, out, listings, first.0, first.1)?;
-            push_further(alloc, out, listings, rest)?;
-            push_bytes(out, b"]")
-        }
-    }
+/// What writes keys at their references, with the rolls in progress that listed them.
+#[derive(Drop)]
+pub(crate) struct Keys<'a> {
+    pub(crate) alloc: Global,
+    pub(crate) listings: &'a Listings<'a>,
 }
 
-/// Writes further keys, each after a comma.
-#[tactic(auto, unfolding(crate::specs::Json::further_json))]
-fn push_further(
-    alloc: Global,
-    out: &mut Vec<u8>,
-    listings: &Listings<'_>,
-    entries: &[(&String, &Key)],
-) -> Result<(), AllocError>
-    ensures { OnOk result (out.new.items ≡ out.old.items
-        ++ further_json (entry_json listings.now) entries.now) }
-{
-    for entry in entries {
-        push_bytes(out, b",")?;
-        push_key(alloc, out, listings, entry.0, entry.1)?;
-    }
-    Ok(())
-}
+impl<'a, 'b> Writer<(&'b String, &'b Key)> for Keys<'a> {
+    ghost json = { λ keys entry. entry_json keys.listings.now entry };
 
-/// Writes a key at its reference.
-fn push_key(
-    alloc: Global,
-    out: &mut Vec<u8>,
-    listings: &Listings<'_>,
-    reference: &String,
-    key: &Key,
-) -> Result<(), AllocError>
-    ensures { OnOk result (out.new.items ≡ out.old.items
-        ++ key_json listings.now (string_bytes reference.now, key.now)) }
-{
-    push_front(alloc, out, reference, key)?;
-    push_end(alloc, out, listings, reference, key)
+    /// Writes a key at its reference.
+    fn push(&self, out: &mut Vec<u8>, entry: &(&'b String, &'b Key)) -> Result<(), AllocError> {
+        push_front(self.alloc, out, entry.0, entry.1)?;
+        push_end(self.alloc, out, self.listings, entry.0, entry.1)
+    }
 }
 
 /// Writes what the key itself says.
@@ -143,7 +105,7 @@ fn push_rolls_of(
         (rolls_of part (string_bytes reference.now) listings.now)) }
 {
     let rolls = rolls_of(alloc, listings, part, reference)?;
-    push_roll_names(out, &rolls)
+    push_array(out, &Names, &rolls)
 }
 
 /// Writes what an add says of the key.

@@ -18,10 +18,10 @@ mod names;
 mod rolls;
 mod sets;
 
-use crate::json::{push_bytes, push_text};
-use crate::keys::push_keys;
+use crate::json::{push_array, push_bytes, push_text};
+use crate::keys::Keys;
 use crate::listed::Listings;
-use crate::rolls::{RollInProgress, in_progress, push_ended, push_rolls};
+use crate::rolls::{Ended, Going, RollInProgress, in_progress};
 use crate::sets::{push_chain, push_sets};
 use dnssec_keyset::{Key, RollType};
 use dnssec_record::{Broken, Published, Session};
@@ -115,10 +115,10 @@ fn push_rest(
         ++ codes ",\"ended\":" ++ array_json ended_json ended.now ++ codes "}\n")) }
 {
     push_bytes(out, b",\"keys\":")?;
-    push_keys(alloc, out, listings, keys)?;
+    push_array(out, &Keys { alloc, listings }, keys)?;
     push_bytes(out, b",\"rolls\":")?;
-    push_rolls(alloc, out, rolls)?;
+    push_array(out, &Going { alloc }, rolls)?;
     push_bytes(out, b",\"ended\":")?;
-    push_ended(out, ended)?;
+    push_array(out, &Ended, ended)?;
     push_bytes(out, b"}\n")
 }

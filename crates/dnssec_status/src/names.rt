@@ -1,86 +1,47 @@
 //! The names of rolls and actions.
-ghost use Rattle.std.specs.Prelude.{◌≡◌, ◌++◌, OnOk};
-ghost use Rattle.dnssec_status.specs.Json.{array_json, further_json};
+ghost use Rattle.std.specs.Prelude.{◌≡◌, ◌++◌, OnOk, codes};
 ghost use Rattle.dnssec_status.specs.Names.{action_json, roll_json};
 
-use crate::json::push_bytes;
+use crate::json::{Writer, push_bytes};
 use dnssec_key::roll_name;
 use dnssec_keyset::{Action, RollType};
 use dnssec_record::action_name;
 use std::alloc::AllocError;
+
+/// Writes a name between quotes.
+fn push_name(out: &mut Vec<u8>, name: &str) -> Result<(), AllocError>
+    ensures { OnOk result (out.new.items ≡ out.old.items
+        ++ (codes "\"" ++ name.now ++ codes "\"")) }
+{
+    push_bytes(out, b"\"")?;
+    push_bytes(out, name.as_bytes())?;
+    push_bytes(out, b"\"")
+}
 
 /// Writes the name of a roll.
 #[tactic(auto, unfolding(crate::specs::Names::roll_json))]
 pub(crate) fn push_roll_name(out: &mut Vec<u8>, roll: RollType) -> Result<(), AllocError>
     ensures { OnOk result (out.new.items ≡ out.old.items ++ roll_json roll) }
 {
-    push_bytes(out, b"\"")?;
-    push_bytes(out, roll_name(roll).as_bytes())?;
-    push_bytes(out, b"\"")
+    push_name(out, roll_name(roll))
 }
 
-/// Writes an array of names of rolls.
-#[tactic(auto, unfolding(crate::specs::Json::array_json))]
-pub(crate) fn push_roll_names(out: &mut Vec<u8>, rolls: &[RollType]) -> Result<(), AllocError>
-    ensures { OnOk result (out.new.items ≡ out.old.items ++ array_json roll_json rolls.now) }
-{
-    match rolls.split_first() {
-        None => push_bytes(out, b"[]"),
-        Some((first, rest)) => {
-            push_bytes(out, b"[")?;
-            push_roll_name(out, *first)?;
-            push_further_rolls(out, rest)?;
-            push_bytes(out, b"]")
-        }
+/// What writes names of rolls, or of actions.
+#[derive(Drop)]
+pub(crate) struct Names;
+
+impl Writer<RollType> for Names {
+    ghost json = { λ _ roll. roll_json roll };
+
+    fn push(&self, out: &mut Vec<u8>, roll: &RollType) -> Result<(), AllocError> {
+        push_roll_name(out, *roll)
     }
 }
 
-/// Writes further rolls, each after a comma.
-#[tactic(auto, unfolding(crate::specs::Json::further_json))]
-fn push_further_rolls(out: &mut Vec<u8>, rolls: &[RollType]) -> Result<(), AllocError>
-    ensures { OnOk result (out.new.items ≡ out.old.items ++ further_json roll_json rolls.now) }
-{
-    for roll in rolls {
-        push_bytes(out, b",")?;
-        push_roll_name(out, *roll)?;
-    }
-    Ok(())
-}
+impl Writer<Action> for Names {
+    ghost json = { λ _ action. action_json action };
 
-/// Writes an array of actions.
-#[tactic(auto, unfolding(crate::specs::Json::array_json))]
-pub(crate) fn push_actions(out: &mut Vec<u8>, actions: &[Action]) -> Result<(), AllocError>
-    ensures { OnOk result (out.new.items ≡ out.old.items ++ array_json action_json actions.now) }
-{
-    match actions.split_first() {
-        None => push_bytes(out, b"[]"),
-        Some((first, rest)) => {
-            push_bytes(out, b"[")?;
-            push_action(out, *first)?;
-            push_further_actions(out, rest)?;
-            push_bytes(out, b"]")
-        }
+    fn push(&self, out: &mut Vec<u8>, action: &Action) -> Result<(), AllocError> {
+        push_name(out, action_name(*action))
     }
-}
-
-/// Writes further actions, each after a comma.
-#[tactic(auto, unfolding(crate::specs::Json::further_json))]
-fn push_further_actions(out: &mut Vec<u8>, actions: &[Action]) -> Result<(), AllocError>
-    ensures { OnOk result (out.new.items ≡ out.old.items
-        ++ further_json action_json actions.now) }
-{
-    for action in actions {
-        push_bytes(out, b",")?;
-        push_action(out, *action)?;
-    }
-    Ok(())
-}
-
-/// Writes the name of an action.
-fn push_action(out: &mut Vec<u8>, action: Action) -> Result<(), AllocError>
-    ensures { OnOk result (out.new.items ≡ out.old.items ++ action_json action) }
-{
-    push_bytes(out, b"\"")?;
-    push_bytes(out, action_name(action).as_bytes())?;
-    push_bytes(out, b"\"")
 }

@@ -2,16 +2,15 @@
 ghost use Rattle.std.specs.Prelude.{◌≡◌, ◌++◌, IfOk, OnOk, codes, decimal, map};
 ghost use Rattle.std.specs.List.{All, list_any};
 ghost use Rattle.dnssec_keyset.specs.WaitEnd.{TellsEnd};
-ghost use Rattle.dnssec_status.specs.Json.{array_json, further_json};
 ghost use Rattle.dnssec_status.specs.Rolls.{end_json, ended_json, going_json};
 ghost use Rattle.dnssec_status.specs.Rolls.{is_for_parent, parts_json, phase_json};
 ghost use Rattle.dnssec_status.specs.Rolls.{phase_pair, rolls_in_progress, waits_for};
-ghost use Rattle.dnssec_status.specs.Rolls.{second_json, with_its_phase};
+ghost use Rattle.dnssec_status.specs.Rolls.{with_its_phase};
 ghost use Rattle.dnssec_status.specs.declared.rolls.RollInProgress.{RollInProgress as AnyRoll};
 ghost use Rattle.dnssec_zone.specs.Rolls.{phase_of};
 
-use crate::json::{push_bytes, push_null, push_number};
-use crate::names::{push_actions, push_roll_name};
+use crate::json::{Writer, push_array, push_bytes, push_null, push_number};
+use crate::names::{Names, push_roll_name};
 use dnssec_keyset::{Action, KeySet, RollState, RollType, WaitEnd};
 use dnssec_zone::all_rolls;
 use std::alloc::{AllocError, Global};
@@ -62,49 +61,21 @@ fn note(rolls: &mut Vec<RollInProgress>, keyset: &KeySet, roll: RollType) -> Res
     }
 }
 
-/// Writes the rolls in progress.
-#[tactic(auto, unfolding(crate::specs::Json::array_json))]
-pub(crate) fn push_rolls(
-    alloc: Global,
-    out: &mut Vec<u8>,
-    rolls: &[RollInProgress],
-) -> Result<(), AllocError>
-    ensures { OnOk result (out.new.items ≡ out.old.items ++ array_json going_json rolls.now) }
-{
-    match rolls.split_first() {
-        None => push_bytes(out, b"[]"),
-        Some((first, rest)) => {
-            push_bytes(out, b"[")?;
-            push_roll(alloc, out, first)?;
-            push_further(alloc, out, rest)?;
-            push_bytes(out, b"]")
-        }
-    }
+/// What writes rolls in progress.
+#[derive(Drop)]
+pub(crate) struct Going {
+    pub(crate) alloc: Global,
 }
 
-/// Writes further rolls, each after a comma.
-#[tactic(auto, unfolding(crate::specs::Json::further_json))]
-fn push_further(
-    alloc: Global,
-    out: &mut Vec<u8>,
-    rolls: &[RollInProgress],
-) -> Result<(), AllocError>
-    ensures { OnOk result (out.new.items ≡ out.old.items ++ further_json going_json rolls.now) }
-{
-    for roll in rolls {
-        push_bytes(out, b",")?;
-        push_roll(alloc, out, roll)?;
-    }
-    Ok(())
-}
+impl Writer<RollInProgress> for Going {
+    ghost json = { λ _ going. going_json going };
 
-/// Writes a roll in progress, with what is due.
-#[tactic(auto, unfolding(crate::specs::Rolls::going_json))]
-fn push_roll(alloc: Global, out: &mut Vec<u8>, going: &RollInProgress) -> Result<(), AllocError>
-    ensures { OnOk result (out.new.items ≡ out.old.items ++ going_json going.now) }
-{
-    let due = going.roll.actions_in(going.phase);
-    push_parts(alloc, out, going.roll, going.phase, going.end, due)
+    /// Writes a roll in progress, with what is due.
+    #[tactic(auto, unfolding(crate::specs::Rolls::going_json))]
+    fn push(&self, out: &mut Vec<u8>, going: &RollInProgress) -> Result<(), AllocError> {
+        let due = going.roll.actions_in(going.phase);
+        push_parts(self.alloc, out, going.roll, going.phase, going.end, due)
+    }
 }
 
 /// Writes a roll in progress by its parts.
@@ -126,7 +97,7 @@ fn push_parts(
     push_bytes(out, b",\"waits_for\":")?;
     push_waits_for(out, phase, due)?;
     push_bytes(out, b",\"due\":")?;
-    push_actions(out, due)?;
+    push_array(out, &Names, due)?;
     push_bytes(out, b"}")?;
     Ok(())
 }
@@ -177,7 +148,7 @@ fn push_ttl(
 }
 
 /// Writes the first whole second from which a wait is accepted.
-#[tactic(auto, unfolding(crate::specs::Rolls::end_json))]
+#[tactic(auto, unfolding(crate::specs::Rolls::end_json, crate::specs::Rolls::second_json))]
 fn push_end(
     alloc: Global,
     out: &mut Vec<u8>,
@@ -191,25 +162,14 @@ fn push_end(
         Some(WaitEnd::PastTime) => push_past_time(out, before),
         Some(WaitEnd::At(moment)) => {
             let nanos = Duration::from(*moment).as_nanos();
-            push_second(alloc, out, before, (nanos + 999_999_999) / 1_000_000_000)
+            let second = (nanos + 999_999_999) / 1_000_000_000;
+            // A call names seconds by 64 bits.
+            if second <= 18_446_744_073_709_551_615 {
+                push_number(alloc, out, before, second)
+            } else {
+                push_past_time(out, before)
+            }
         }
-    }
-}
-
-/// Writes a second, or that no call can name it.
-#[tactic(auto, unfolding(crate::specs::Rolls::second_json))]
-fn push_second(
-    alloc: Global,
-    out: &mut Vec<u8>,
-    before: &[u8],
-    second: u128,
-) -> Result<(), AllocError>
-    ensures { OnOk result (out.new.items ≡ (out.old.items ++ before.now) ++ second_json second) }
-{
-    if second <= 18_446_744_073_709_551_615 {
-        push_number(alloc, out, before, second)
-    } else {
-        push_past_time(out, before)
     }
 }
 
@@ -253,42 +213,20 @@ fn is_for_parent(action: Action) -> bool
     matches!(action, Action::UpdateDsRrset)
 }
 
-/// Writes the rolls that were ended early.
-#[tactic(auto, unfolding(crate::specs::Json::array_json))]
-pub(crate) fn push_ended(out: &mut Vec<u8>, rolls: &[RollType]) -> Result<(), AllocError>
-    ensures { OnOk result (out.new.items ≡ out.old.items ++ array_json ended_json rolls.now) }
-{
-    match rolls.split_first() {
-        None => push_bytes(out, b"[]"),
-        Some((first, rest)) => {
-            push_bytes(out, b"[")?;
-            push_end_of(out, *first)?;
-            push_further_ended(out, rest)?;
-            push_bytes(out, b"]")
-        }
-    }
-}
+/// What writes rolls that were ended early.
+#[derive(Drop)]
+pub(crate) struct Ended;
 
-/// Writes further early ends, each after a comma.
-#[tactic(auto, unfolding(crate::specs::Json::further_json))]
-fn push_further_ended(out: &mut Vec<u8>, rolls: &[RollType]) -> Result<(), AllocError>
-    ensures { OnOk result (out.new.items ≡ out.old.items ++ further_json ended_json rolls.now) }
-{
-    for roll in rolls {
-        push_bytes(out, b",")?;
-        push_end_of(out, *roll)?;
-    }
-    Ok(())
-}
+impl Writer<RollType> for Ended {
+    ghost json = { λ _ roll. ended_json roll };
 
-/// Writes a roll that was ended early, with what its end asked for.
-#[tactic(auto, unfolding(crate::specs::Rolls::ended_json))]
-fn push_end_of(out: &mut Vec<u8>, roll: RollType) -> Result<(), AllocError>
-    ensures { OnOk result (out.new.items ≡ out.old.items ++ ended_json roll) }
-{
-    push_bytes(out, b"{\"roll\":")?;
-    push_roll_name(out, roll)?;
-    push_bytes(out, b",\"asked\":")?;
-    push_actions(out, roll.asks_at_early_end())?;
-    push_bytes(out, b"}")
+    /// Writes a roll that was ended early, with what its end asked for.
+    #[tactic(auto, unfolding(crate::specs::Rolls::ended_json))]
+    fn push(&self, out: &mut Vec<u8>, roll: &RollType) -> Result<(), AllocError> {
+        push_bytes(out, b"{\"roll\":")?;
+        push_roll_name(out, *roll)?;
+        push_bytes(out, b",\"asked\":")?;
+        push_array(out, &Names, roll.asks_at_early_end())?;
+        push_bytes(out, b"}")
+    }
 }

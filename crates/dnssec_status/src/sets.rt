@@ -1,9 +1,9 @@
 //! The published sets and the verdict of a status.
 ghost use Rattle.std.specs.Prelude.{◌≡◌, ◌++◌, Some, OnOk};
-ghost use Rattle.dnssec_status.specs.Json.{array_json, further_json, text_json};
+ghost use Rattle.dnssec_status.specs.Json.{array_json};
 ghost use Rattle.dnssec_status.specs.Sets.{chain_json, published_json, sets_json};
 
-use crate::json::{push_bytes, push_number, push_text};
+use crate::json::{Writer, push_array, push_bytes, push_number, push_text};
 use dnssec_record::{Broken, Published, PublishedKey};
 use std::alloc::{AllocError, Global};
 
@@ -21,32 +21,24 @@ pub(crate) fn push_sets(out: &mut Vec<u8>, sets: &Published) -> Result<(), Alloc
 }
 
 /// Writes a set after a piece, by its references.
-#[tactic(auto, unfolding(crate::specs::Json::array_json))]
 fn push_set(out: &mut Vec<u8>, before: &[u8], keys: &[PublishedKey]) -> Result<(), AllocError>
     ensures { OnOk result (out.new.items ≡ out.old.items
         ++ (before.now ++ array_json published_json keys.now)) }
 {
     push_bytes(out, before)?;
-    match keys.split_first() {
-        None => push_bytes(out, b"[]"),
-        Some((first, rest)) => {
-            push_text(out, b"[", first.reference.as_bytes())?;
-            push_further(out, rest)?;
-            push_bytes(out, b"]")
-        }
-    }
+    push_array(out, &References, keys)
 }
 
-/// Writes further references, each after a comma.
-#[tactic(auto, unfolding(crate::specs::Json::further_json))]
-fn push_further(out: &mut Vec<u8>, keys: &[PublishedKey]) -> Result<(), AllocError>
-    ensures { OnOk result (out.new.items ≡ out.old.items
-        ++ further_json published_json keys.now) }
-{
-    for key in keys {
-        push_text(out, b",", key.reference.as_bytes())?;
+/// What writes the references of keys.
+#[derive(Drop)]
+struct References;
+
+impl Writer<PublishedKey> for References {
+    ghost json = { λ _ key. published_json key };
+
+    fn push(&self, out: &mut Vec<u8>, key: &PublishedKey) -> Result<(), AllocError> {
+        push_text(out, b"", key.reference.as_bytes())
     }
-    Ok(())
 }
 
 /// Writes the verdict.

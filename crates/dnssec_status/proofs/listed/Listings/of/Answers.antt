@@ -1,5 +1,5 @@
 -- Sorting leaves the listings the same.
-use Rattle.std.proofs.Common.{Bor, List, ap, map, rules, subst, sym, ◌∙◌, ℕ}
+use Rattle.std.proofs.Common.{Bor, ap, map, rules, subst, sym, ◌∙◌}
 use Rattle.std.proofs.lemmas.{Fn.always_returns_same, List.Sorted.IsPermutation-map}
 use Rattle.std.proofs.lemmas.List.Sorted.{ranks_by}
 use Rattle.std.specs.Cmp.Lexicographic.{nat_list_cmp_total, slice_cmp}

@@ -1,6 +1,6 @@
 -- The listings of the key stand between those of lesser references and those of greater ones.
 use Rattle.std.proofs.Common.{Bor, List, ap, drop, rules, string_bytes, subst, sym, take, ◌∙◌, ◌≡◌}
-use Rattle.std.proofs.Common.{ℕ, true, false}
+use Rattle.std.proofs.Common.{true, false}
 use Rattle.std.proofs.lemmas.List.{take_rest}
 use Rattle.std.proofs.lemmas.List.Sorted.{IsPartitionPoint-from_clause}
 use Rattle.std.specs.Cmp.Lexicographic.{slice_cmp}

@@ -1,8 +1,0 @@
--- What was written so far.
-use Rattle.std.proofs.Common.{◌≡◌, ◌++◌, take}
-use Rattle.dnssec_status.specs.{Json.further_json, Rolls.ended_json}
-use Rattle.dnssec_status.proofs.rolls.push_further_ended.Given as goal
-
-abbrev pub invariant-loop-roll : goal.invariant-loop-roll
-invariant-loop-roll l =
-    l.out.items ≡ l.initial.out.items ++ further_json ended_json (take l.roll-index l.rolls)
