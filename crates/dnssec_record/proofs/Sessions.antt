@@ -9,7 +9,7 @@ use Rattle.dnssec_run.specs.declared.record.{Entry.Entry, Outcome.Outcome, Publi
 use Rattle.dnssec_run.specs.declared.record.Reply.{Reply}
 use Rattle.std.specs.Prelude.{codes}
 use Rattle.dnssec_judge.specs.Judge.{ComesNext, KeepsLast, Knows}
-use Rattle.dnssec_record.specs.Courses.{Listed, as_listed, ended_after, ended_by, listed_after}
+use Rattle.dnssec_record.specs.Courses.{Listing, as_listed, ended_after, ended_by, listed_after}
 use Rattle.dnssec_record.specs.Courses.{listed_by, turn_after, turn_of, turns}
 use Rattle.dnssec_record.specs.Inner.Statement.{TakesOn}
 use Rattle.dnssec_record.specs.Output.{reply_text}
@@ -71,7 +71,7 @@ advances name calls entries old new outcome news so m handed judged turn is list
         records = follows.records;
         knows = follows.knows;
         shown = follows.shown;
-        listed = listed ∙ ap (λ (ls : List Listed). listed_after ls turn) so.listed
+        listed = listed ∙ ap (λ (ls : List Listing). listed_after ls turn) so.listed
             ∙ ap (listed_after (listed_by calls entries)) is
             ∙ sym (folded_more listed_after [] calls entries m.call e so.records.run.count);
         ended = ended ∙ ap (λ (rs : List RollType). ended_after rs turn) so.ended

@@ -12,7 +12,7 @@ use Rattle.dnssec_run.specs.declared.call.Call.TheVariants.{AbortRoll}
 use Rattle.dnssec_run.specs.declared.record.Entry.{Entry}
 use Rattle.dnssec_run.specs.declared.record.Reply.{Reply}
 use Rattle.dnssec_run.specs.Record.{is_accepted}
-use Rattle.dnssec_record.specs.declared.courses.Listed as code
+use Rattle.dnssec_record.specs.declared.courses.Listing as code
 use Rattle.dnssec_zone.specs.declared.lists.Part.{Part}
 use Rattle.dnssec_zone.specs.declared.lists.Part.TheVariants.{Old, New}
 use Rattle.dnssec_record.specs.declared.courses.Turn.{Turn}
@@ -42,28 +42,28 @@ turns _ _ = []
 -- ---- the keys of a roll
 
 -- a key that the start of a roll listed, old or new
-pub record Listed : Type 0 where
+pub record Listing : Type 0 where
   pub roll : RollType
   pub part : Part
   pub reference : List ℕ
 
-abbrev pub as_listed : code.Listed → Listed
+abbrev pub as_listed : code.Listing → Listing
 as_listed l = record { roll = l.roll; part = l.part; reference = string_bytes l.reference }
 
 -- these references, for a roll
-abbrev pub listings : RollType → Part → List (List ℕ) → List Listed
+abbrev pub listings : RollType → Part → List (List ℕ) → List Listing
 listings roll part = map (λ q. record { roll = roll; part = part; reference = q })
 
 -- it is not of this roll
-abbrev pub is_of_other : RollType → Listed → Bool
+abbrev pub is_of_other : RollType → Listing → Bool
 is_of_other roll l = not (same_roll roll l.roll)
 
 -- it is not of the key at this reference
-abbrev pub is_another : List ℕ → Listed → Bool
+abbrev pub is_another : List ℕ → Listing → Bool
 is_another reference l = not (bytes_eq reference l.reference)
 
 -- a start lists keys; they are listed until the roll ends, or until they are deleted
-abbrev pub listed_after : List Listed → Turn → List Listed
+abbrev pub listed_after : List Listing → Turn → List Listing
 listed_after ls (Starts roll old new) =
     ls ++ listings roll Old (texts old.now) ++ listings roll New (texts new.now)
 listed_after ls (Ends roll) = filter (is_of_other roll) ls
@@ -72,7 +72,7 @@ listed_after ls (Deletes reference) = filter (is_another reference.now) ls
 listed_after ls GoesOn = ls
 
 -- the keys of the rolls that are in progress after these calls
-abbrev pub listed_by : List Call → List Entry → List Listed
+abbrev pub listed_by : List Call → List Entry → List Listing
 listed_by calls entries = fold listed_after [] (turns calls entries)
 
 -- ---- early ends

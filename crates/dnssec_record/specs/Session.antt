@@ -19,10 +19,10 @@ use Rattle.dnssec_record.specs.declared.fault.ScriptFault.{ScriptFault}
 use Rattle.dnssec_record.specs.declared.fault.ScriptFault.TheVariants.{Malformed, Device}
 use Rattle.dnssec_record.specs.declared.fault.ScriptFault.TheVariants.{OutOfMemory}
 use Rattle.dnssec_record.specs.declared.session.Session.{Session}
-use Rattle.dnssec_record.specs.declared.session.Told.{Told}
-use Rattle.dnssec_record.specs.declared.session.Told.TheVariants as told
-use Rattle.dnssec_record.specs.declared.session.Tried.{Tried}
-use Rattle.dnssec_record.specs.declared.session.Tried.TheVariants as tried
+use Rattle.dnssec_record.specs.declared.session.Response.{Response}
+use Rattle.dnssec_record.specs.declared.session.Response.TheVariants as response
+use Rattle.dnssec_record.specs.declared.session.Attempt.{Attempt}
+use Rattle.dnssec_record.specs.declared.session.Attempt.TheVariants as attempt
 
 -- ---- calls
 
@@ -91,21 +91,21 @@ FaultOfZone line Device = ⊥
 FaultOfZone line OutOfMemory = NamesZone line
 
 -- what comes of a line: an answer, or nothing if it makes no call
-abbrev pub Takes : Session → List ℕ → Session → Told → Type 0
-Takes old line new (told.Answered text) =
+abbrev pub Takes : Session → List ℕ → Session → Response → Type 0
+Takes old line new (response.Answered text) =
     (lines : List (List ℕ)) (entries : List Entry) → Stands lines entries old →
     GoesOn lines entries line new (string_bytes text)
-Takes old line new told.Malformed = (new ≡ old) × (says line ≡ None)
+Takes old line new response.Malformed = (new ≡ old) × (says line ≡ None)
 
 -- what comes of a line whose call is made only if it is accepted
-abbrev pub Tries : Session → List ℕ → Session → Tried → Type 0
-Tries old line new (tried.Accepted number text) =
+abbrev pub Tries : Session → List ℕ → Session → Attempt → Type 0
+Tries old line new (attempt.Accepted number text) =
     (lines : List (List ℕ)) (entries : List Entry) → Stands lines entries old →
     (number ≡ length entries + 1) × Accepts lines entries line new (string_bytes text)
-Tries old line new (tried.Refused text) = (new ≡ old) ×
+Tries old line new (attempt.Refused text) = (new ≡ old) ×
     ((lines : List (List ℕ)) (entries : List Entry) → Stands lines entries old →
     Refuses lines entries line (string_bytes text))
-Tries old line new tried.Malformed = (new ≡ old) × (says line ≡ None)
+Tries old line new attempt.Malformed = (new ≡ old) × (says line ≡ None)
 
 -- ---- the end
 

@@ -11,7 +11,7 @@ use std::alloc::{AllocError, Global};
 
 /// A key that the start of a roll listed, while the roll is in progress.
 #[derive(Debug, Drop, PartialEq)]
-pub struct Listed {
+pub struct Listing {
     pub roll: RollType,
     pub part: Part,
     pub reference: String,
@@ -69,7 +69,7 @@ impl<'a> Turn<'a> {
 #[derive(Drop)]
 pub(crate) struct Courses {
     /// The keys of rolls in progress.
-    listed: Vec<Listed>,
+    listed: Vec<Listing>,
     /// The rolls that were ended early, until a roll starts that may not go beside them.
     ended: Vec<RollType>,
 }
@@ -94,7 +94,7 @@ impl Courses {
     {
         let mut listed = Vec::new(alloc);
         for key in &self.listed {
-            listed.push(Listed {
+            listed.push(Listing {
                 roll: key.roll,
                 part: key.part,
                 reference: key.reference.clone()?,
@@ -148,7 +148,7 @@ impl Courses {
     {
         self.listed.reserve_exact(references.len())?;
         for reference in references {
-            self.listed.push(Listed {
+            self.listed.push(Listing {
                 roll,
                 part,
                 reference: String::from_str(alloc, reference)?,
@@ -186,7 +186,7 @@ impl Courses {
     }
 
     /// The keys of rolls in progress.
-    pub(crate) fn listed(&self) -> &[Listed]
+    pub(crate) fn listed(&self) -> &[Listing]
         ensures { result.now ≡ self.now.listed.items }
     {
         &self.listed

@@ -10,7 +10,7 @@ mod script;
 mod session;
 
 pub use answers::action_name;
-pub use courses::Listed;
+pub use courses::Listing;
 pub use device::{DeviceFault, Sink, Source, Std};
 pub use dnssec_judge::{
     Broken, Judge, audit, audit_window, plain_runs_pass, records_have_one_verdict, runs_stay_safe,
@@ -23,4 +23,4 @@ pub use dnssec_script::{Fields, all_lines};
 pub use dnssec_zone::Part;
 pub use fault::{CallFault, ScriptFault};
 pub use script::{record_script, run_script};
-pub use session::{Session, Told, Tried};
+pub use session::{Attempt, Response, Session};

@@ -16,7 +16,7 @@ ghost use Rattle.dnssec_run.specs.declared.record.Entry.{Entry};
 ghost use Rattle.dnssec_run.specs.declared.record.Reply.TheVariants.{Refused};
 
 use crate::answers::{answer_line, is_accepted, push_answer, push_chain_line, push_published};
-use crate::courses::{Courses, Listed, Turn};
+use crate::courses::{Courses, Listing, Turn};
 use crate::fault::{CallFault, ScriptFault};
 use dnssec_base::Name;
 use dnssec_judge::{Broken, Judge};
@@ -34,7 +34,7 @@ const ANSWER: usize = 96;
 
 /// What came of a line that was handed to a session.
 #[derive(Drop)]
-pub enum Told {
+pub enum Response {
     /// Its call was made: the line of its answer with its line feed.
     Answered(String),
     /// It makes no call. The session is as it was.
@@ -44,7 +44,7 @@ pub enum Told {
 /// What came of a line whose call is made only if it is accepted. A text is the line of the answer
 /// with its line feed.
 #[derive(Drop)]
-pub enum Tried {
+pub enum Attempt {
     /// The call is made, and this is its number: how many calls the session has made.
     Accepted { number: usize, answer: String },
     /// The call is refused. The session is as it was, so the call has no number.
@@ -63,8 +63,8 @@ pub enum Tried {
 /// ```rust
 /// let mut session = Session::open(alloc, b"zone example.com")?;
 /// match session.call(alloc, b"start zsk-roll Z1 Z2 1700000000") {
-///     Ok(Told::Answered(answer)) => perform(&answer),
-///     Ok(Told::Malformed) => {}
+///     Ok(Response::Answered(answer)) => perform(&answer),
+///     Ok(Response::Malformed) => {}
 ///     // It may be made again.
 ///     Err(CallFault::OutOfMemory) => {}
 ///     // The session is of no more use.
@@ -174,7 +174,7 @@ impl Session {
     ///   was.
     /// - `Lost` if memory runs out while the call is made. The session is then of no more use.
     #[tactic(auto, using(crate::proofs::Sessions::speaks))]
-    pub fn call(&mut self, alloc: Global, line: &[u8]) -> Result<Told, CallFault>
+    pub fn call(&mut self, alloc: Global, line: &[u8]) -> Result<Response, CallFault>
         ensures ok { IfOk result (Takes self.old line.now self.new) }
         ensures kept { IfErr result (λ fault. fault ≡ CallFault.OutOfMemory →
             self.new ≡ self.old) }
@@ -184,7 +184,7 @@ impl Session {
             return Err(CallFault::OutOfMemory);
         };
         let Some(statement) = read else {
-            return Ok(Told::Malformed);
+            return Ok(Response::Malformed);
         };
         let Ok(mut answer) = String::with_capacity(alloc, ANSWER) else {
             return Err(CallFault::OutOfMemory);
@@ -195,7 +195,7 @@ impl Session {
         let Ok(()) = push_answer(&mut answer, &reply) else {
             return Err(CallFault::Lost);
         };
-        Ok(Told::Answered(answer))
+        Ok(Response::Answered(answer))
     }
 
     /// Makes the call of the line if it is accepted, and answers it with a line. So the calls that
@@ -207,13 +207,13 @@ impl Session {
     /// `AllocError` if there is no memory, for the call too. The session is then as it was, and the
     /// line is one that makes a call.
     #[tactic(auto, using(crate::proofs::Sessions::speaks))]
-    pub fn accept(&mut self, alloc: Global, line: &[u8]) -> Result<Tried, AllocError>
+    pub fn accept(&mut self, alloc: Global, line: &[u8]) -> Result<Attempt, AllocError>
         ensures ok { IfOk result (Tries self.old line.now self.new) }
         ensures kept { IfErr result (λ _. self.new ≡ self.old) }
         ensures memory { IfErr result (λ _. IsSome (says line.now)) }
     {
         let Some(statement) = read_line(alloc, line)? else {
-            return Ok(Tried::Malformed);
+            return Ok(Attempt::Malformed);
         };
         let mut next = self.try_clone(alloc)?;
         let reply = next.take(alloc, statement)?;
@@ -222,10 +222,10 @@ impl Session {
         }
         let answer = answer_line(alloc, &reply)?;
         if !is_accepted(&reply) {
-            return Ok(Tried::Refused(answer));
+            return Ok(Attempt::Refused(answer));
         }
         *self = next;
-        Ok(Tried::Accepted {
+        Ok(Attempt::Accepted {
             number: self.calls(),
             answer,
         })
@@ -328,7 +328,7 @@ impl Session {
     /// The keys that the starts of the rolls in progress listed: for each roll the old ones, then
     /// the new ones. A key that was deleted since is left out.
     #[tactic(auto, using(std::proofs::lemmas::Grind::common_steps))]
-    pub fn listed(&self) -> &[Listed]
+    pub fn listed(&self) -> &[Listing]
         ensures { (name : List ℕ) (calls : List Call) (entries : List Entry) →
             StandsAfter name calls entries self.now →
             map as_listed result.now ≡ listed_by calls entries }

@@ -17,7 +17,7 @@ use Rattle.std.specs.Str.{bytes_eq}
 use Rattle.std.specs.declared.cmp.Ordering.{Ordering, TheVariants.Equal, TheVariants.Greater}
 use Rattle.std.specs.declared.cmp.Ordering.TheVariants.{Less}
 use Rattle.dnssec_key.specs.declared.{kind.KeyType.KeyType}
-use Rattle.dnssec_record.specs.Courses.{Listed}
+use Rattle.dnssec_record.specs.Courses.{Listing}
 use Rattle.dnssec_zone.specs.declared.lists.Part.{Part, TheVariants.New, TheVariants.Old}
 use Rattle.dnssec_run.specs.InOrder.{entry_of}
 use Rattle.dnssec_status.specs.Inner.Entries.{entry_json}
@@ -26,18 +26,18 @@ use Rattle.dnssec_zone.specs.Rolls.{all_rolls}
 
 -- ---- the order makes no difference
 
-same_rolls : (ls ms : List Listed) → IsPermutation ls ms → (part : Part) (q : List ℕ)
+same_rolls : (ls ms : List Listing) → IsPermutation ls ms → (part : Part) (q : List ℕ)
     → rolls_of part q ls ≡ rolls_of part q ms
 unfolding rolls_of
 same_rolls ls ms moved part q = λ i.
     filter (λ roll. list_any-IsPermutation (has_listed roll part q) ls ms moved i) all_rolls
 
-same_end : (ls ms : List Listed) → IsPermutation ls ms → (q : List ℕ) (k : KeyType)
+same_end : (ls ms : List Listing) → IsPermutation ls ms → (q : List ℕ) (k : KeyType)
     → end_json ls q k ≡ end_json ms q k
 unfolding end_json
 same_end ls ms moved q k = rw (same_rolls ls ms moved Old q, same_rolls ls ms moved New q) refl
 
-pub same_entries : {Y : Type 0} (ls ms : List Listed) → IsPermutation ms ls
+pub same_entries : {Y : Type 0} (ls ms : List Listing) → IsPermutation ms ls
     → entry_json {Y = Y} ls ≡ entry_json ms
 same_entries ls ms moved = λ i e.
     front_json (entry_of e).0 (entry_of e).1

@@ -14,7 +14,7 @@ use Rattle.dnssec_key.specs.State.{is_leaving, is_stale}
 use Rattle.dnssec_zone.specs.Lists.{same_part}
 use Rattle.dnssec_zone.specs.Rolls.{all_rolls, same_roll}
 use Rattle.dnssec_zone.specs.Start.{lists_kind}
-use Rattle.dnssec_record.specs.Courses.{Listed}
+use Rattle.dnssec_record.specs.Courses.{Listing}
 use Rattle.dnssec_zone.specs.declared.lists.Part.{Part}
 use Rattle.dnssec_zone.specs.declared.lists.Part.TheVariants.{Old, New}
 use Rattle.dnssec_status.specs.Json.{array_json, flag_json, option_json, text_json}
@@ -67,12 +67,12 @@ kind_json (Include s) = codes "\"public\",\"roles\":[" ++ public_json s ++ codes
 -- ---- the rolls of a key
 
 -- the roll's start listed the key at a reference as this
-abbrev pub has_listed : RollType → Part → List ℕ → Listed → Bool
+abbrev pub has_listed : RollType → Part → List ℕ → Listing → Bool
 has_listed roll part reference l =
     same_roll roll l.roll && same_part part l.part && bytes_eq reference l.reference
 
 -- the rolls in progress whose starts listed the key at a reference as this, in the order of kinds
-unfoldable pub rolls_of : Part → List ℕ → List Listed → List RollType
+unfoldable pub rolls_of : Part → List ℕ → List Listing → List RollType
 rolls_of part reference ls =
     filter (λ roll. list_any (has_listed roll part reference) ls) all_rolls
 
@@ -114,7 +114,7 @@ front_json reference k =
     ++ traits_json k ++ stamps_json k.timestamps
 
 -- whether it may come in by a roll, whether it may be deleted, and its part in rolls
-unfoldable pub end_json : List Listed → List ℕ → KeyType → List ℕ
+unfoldable pub end_json : List Listing → List ℕ → KeyType → List ℕ
 end_json listed reference k =
     codes ",\"may_come_in\":" ++ flag_json (may_come_in k)
     ++ codes ",\"may_be_deleted\":" ++ flag_json (all_states is_stale k)
@@ -122,5 +122,5 @@ end_json listed reference k =
     ++ codes ",\"new_in\":" ++ array_json roll_json (rolls_of New reference listed) ++ codes "}"
 
 -- a key at its reference
-abbrev pub key_json : List Listed → List ℕ × KeyParts → List ℕ
+abbrev pub key_json : List Listing → List ℕ × KeyParts → List ℕ
 key_json listed e = front_json e.0 e.1 ++ end_json listed e.0 e.1.keytype

@@ -13,7 +13,7 @@ use Rattle.dnssec_run.specs.Published.{IsPublished, World}
 use Rattle.dnssec_run.specs.Record.{world_at}
 use Rattle.dnssec_judge.specs.declared.verdict.Broken.{Broken}
 use Rattle.dnssec_judge.specs.Verdict.{IsVerdict}
-use Rattle.dnssec_record.specs.Courses.{Listed, ended_by, listed_by}
+use Rattle.dnssec_record.specs.Courses.{Listing, ended_by, listed_by}
 use Rattle.dnssec_status.specs.Json.{array_json, text_json}
 use Rattle.dnssec_status.specs.Keys.{key_json}
 use Rattle.dnssec_status.specs.Rolls.{AreGoing, ended_json, going_json}
@@ -27,14 +27,14 @@ zone_json name verdict sets =
     ++ codes ",\"published\":" ++ sets_json sets
 
 -- the keys, in the order of their references' bytes, and the rolls
-unfoldable pub state_json : List Listed → Keys → List RollInProgress → List RollType → List ℕ
+unfoldable pub state_json : List Listing → Keys → List RollInProgress → List RollType → List ℕ
 state_json listed keys rolls ended =
     codes ",\"keys\":" ++ array_json (key_json listed) (map.entries keys)
     ++ codes ",\"rolls\":" ++ array_json going_json rolls
     ++ codes ",\"ended\":" ++ array_json ended_json ended ++ codes "}\n"
 
 -- the whole
-unfoldable pub status_text : KeySetParts → Option Broken → Published → List Listed
+unfoldable pub status_text : KeySetParts → Option Broken → Published → List Listing
     → List RollInProgress → List RollType → List ℕ
 status_text set verdict sets listed rolls ended =
     zone_json set.name verdict sets ++ state_json listed set.keys rolls ended

@@ -9,7 +9,7 @@ ghost use Rattle.dnssec_status.specs.Inner.Entries.{lists, roll_if_listed};
 ghost use Rattle.dnssec_status.specs.Keys.{has_listed, rolls_of};
 
 use dnssec_keyset::RollType;
-use dnssec_record::{Listed, Part};
+use dnssec_record::{Listing, Part};
 use dnssec_zone::{all_rolls, same_part};
 use std::alloc::{AllocError, Global};
 use std::marker::Model;
@@ -18,7 +18,7 @@ use std::marker::Model;
 /// a key are found without a walk over all.
 #[derive(Drop)]
 pub(crate) struct Listings<'a> {
-    ordered: Vec<&'a Listed>,
+    ordered: Vec<&'a Listing>,
 }
 
 impl<'a> Model for Listings<'a> {
@@ -26,10 +26,10 @@ impl<'a> Model for Listings<'a> {
     ghost use Rattle.std.specs.Prelude.{IsSortedByKey};
     ghost use Rattle.std.specs.Cmp.Lexicographic.{slice_cmp};
     ghost use Rattle.std.specs.Ordering.{nat_cmp};
-    ghost use Rattle.dnssec_record.specs.Courses.{Listed as AnyListed};
+    ghost use Rattle.dnssec_record.specs.Courses.{Listing as AnyListing};
     ghost use Rattle.dnssec_status.specs.Inner.Entries.{listing_of, reference_of};
 
-    ghost Value = { List AnyListed };
+    ghost Value = { List AnyListing };
 
     ghost view = { λ listings. map listing_of listings.ordered.items };
 
@@ -39,7 +39,7 @@ impl<'a> Model for Listings<'a> {
 
 impl<'a> Listings<'a> {
     /// The listings in order.
-    pub(crate) fn of(alloc: Global, listed: &'a [Listed]) -> Result<Self, AllocError>
+    pub(crate) fn of(alloc: Global, listed: &'a [Listing]) -> Result<Self, AllocError>
         ensures { IfOk result (λ listings. IsPermutation (map as_listed listed.now) listings) }
     {
         let mut ordered = lent(alloc, listed)?;
@@ -48,7 +48,7 @@ impl<'a> Listings<'a> {
     }
 
     /// Those of the key at a reference.
-    fn of_key(&self, reference: &String) -> &[&'a Listed]
+    fn of_key(&self, reference: &String) -> &[&'a Listing]
         ensures { (roll : AnyRoll) (part : AnyPart) →
             list_any (lists roll part (string_bytes reference.now)) result.now
             ≡ list_any (has_listed roll part (string_bytes reference.now)) self.now }
@@ -63,7 +63,7 @@ impl<'a> Listings<'a> {
 }
 
 /// The listings, as they are lent.
-fn lent(alloc: Global, listed: &[Listed]) -> Result<Vec<&Listed>, AllocError>
+fn lent(alloc: Global, listed: &[Listing]) -> Result<Vec<&Listing>, AllocError>
     ensures { IfOk result (λ lent. map now lent.items ≡ listed.now) }
 {
     listed.iter().collect(alloc)
@@ -90,7 +90,7 @@ pub(crate) fn rolls_of(
 /// Notes the roll, if it listed a key as this.
 fn note(
     rolls: &mut Vec<RollType>,
-    listed: &[&Listed],
+    listed: &[&Listing],
     roll: RollType,
     part: Part,
     reference: &String,
@@ -105,14 +105,14 @@ fn note(
 }
 
 /// Whether the roll listed a key as this.
-fn is_listed(listed: &[&Listed], roll: RollType, part: Part, reference: &String) -> bool
+fn is_listed(listed: &[&Listing], roll: RollType, part: Part, reference: &String) -> bool
     ensures { result ≡ list_any (lists roll part (string_bytes reference.now)) listed.now }
 {
     listed.iter().any(|key| lists(key, roll, part, reference))
 }
 
 /// Whether this is a listing of the key for the roll and as this part.
-fn lists(listed: &Listed, roll: RollType, part: Part, reference: &String) -> bool
+fn lists(listed: &Listing, roll: RollType, part: Part, reference: &String) -> bool
     ensures { result ≡ has_listed roll part (string_bytes reference.now) (as_listed listed.now) }
 {
     roll == listed.roll && same_part(part, listed.part) && *reference == listed.reference

@@ -13,7 +13,7 @@ use crate::answered::{
     ANSWERED, Answered, LOST, MALFORMED, OUT_OF_MEMORY, REFUSED, fault, hand_out, refused,
 };
 use crate::kept::Kept;
-use dnssec_record::{CallFault, Session, Told, Tried};
+use dnssec_record::{Attempt, CallFault, Response, Session};
 use dnssec_status::status;
 use std::alloc::{AllocError, Global};
 
@@ -29,11 +29,11 @@ pub(crate) fn call(alloc: Global, kept: &mut Kept, line: &[u8]) -> u32
     ensures open { result ≢ 5 }
 {
     match kept.session.call(alloc, line) {
-        Ok(Told::Answered(answer)) => {
+        Ok(Response::Answered(answer)) => {
             kept.answer = answer;
             ANSWERED
         }
-        Ok(Told::Malformed) => MALFORMED,
+        Ok(Response::Malformed) => MALFORMED,
         Err(CallFault::OutOfMemory) => OUT_OF_MEMORY,
         Err(CallFault::Lost) => LOST,
     }
@@ -93,15 +93,15 @@ pub(crate) fn accept(alloc: Global, kept: &mut Kept, line: &[u8]) -> u32
     ensures open { result ≢ 5 }
 {
     match kept.session.accept(alloc, line) {
-        Ok(Tried::Accepted { answer, .. }) => {
+        Ok(Attempt::Accepted { answer, .. }) => {
             kept.answer = answer;
             ANSWERED
         }
-        Ok(Tried::Refused(answer)) => {
+        Ok(Attempt::Refused(answer)) => {
             kept.answer = answer;
             REFUSED
         }
-        Ok(Tried::Malformed) => MALFORMED,
+        Ok(Attempt::Malformed) => MALFORMED,
         Err(_) => OUT_OF_MEMORY,
     }
 }

@@ -4,7 +4,7 @@ use Rattle.dnssec_base.specs.NameText.{name_text}
 use Rattle.dnssec_keyset.specs.KeySet.{KeySetParts}
 use Rattle.dnssec_run.specs.Record.{world_at}
 use Rattle.std.specs.Prelude.{IsPermutation}
-use Rattle.dnssec_record.specs.Courses.{Listed, listed_by}
+use Rattle.dnssec_record.specs.Courses.{Listing, listed_by}
 use Rattle.dnssec_status.specs.Status.{state_json, status_text, zone_json}
 use Rattle.dnssec_run.specs.InOrder.{entry_of}
 use Rattle.dnssec_status.specs.{Inner.Entries.entry_json, Json.array_json}
@@ -25,7 +25,7 @@ returns c name calls entries stands =
     c.in_ok-zone.ensures.ok
     ∙ ap name_text (c.name.ensures ∙ ap (λ (k : KeySetParts). k.name) set) in
     let listed : entry_json c.in_ok-listings.listings ≡ entry_json (listed_by calls entries) =
-    same_entries _ _ (subst (λ (ls : List Listed). IsPermutation ls c.in_ok-listings.listings)
+    same_entries _ _ (subst (λ (ls : List Listing). IsPermutation ls c.in_ok-listings.listings)
     (c.listed.ensures name calls entries stands) c.in_ok-listings.ensures) in
     let keys : array_json (entry_json c.in_ok-listings.listings) c.deref.result.now
     ≡ array_json (key_json (listed_by calls entries)) (fin.entries s.recorder.keyset.keys) =

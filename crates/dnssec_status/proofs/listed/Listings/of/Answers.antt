@@ -6,7 +6,7 @@ use Rattle.std.specs.Cmp.Lexicographic.{nat_list_cmp_total, slice_cmp}
 use Rattle.std.specs.Ordering.{is_lt, nat_cmp}
 use Rattle.std.specs.Prelude.{IsPermutation}
 use Rattle.dnssec_record.specs.Courses.{as_listed}
-use Rattle.dnssec_record.specs.declared.courses.Listed as code
+use Rattle.dnssec_record.specs.declared.courses.Listing as code
 use Rattle.dnssec_status.specs.Inner.Entries.{listing_of, reference_of}
 use denote.Bor.{now}
 use mathlib.Core.List.{map-map}
@@ -21,6 +21,6 @@ returns c =
 
 pub invariant_of-result : goal.invariant_of-result
 invariant_of-result c = c.sort_unstable_by.ensures.sorted
-    (λ (x y : Bor code.Listed). is_lt (slice_cmp nat_cmp (reference_of x) (reference_of y)))
+    (λ (x y : Bor code.Listing). is_lt (slice_cmp nat_cmp (reference_of x) (reference_of y)))
     (ranks_by nat_list_cmp_total reference_of)
     (always_returns_same _ _ _ (λ a r f k. (search rules, search rules)))

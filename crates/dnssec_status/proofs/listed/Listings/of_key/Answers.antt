@@ -7,7 +7,7 @@ use Rattle.std.specs.Cmp.Lexicographic.{slice_cmp}
 use Rattle.std.specs.List.{list_any}
 use Rattle.std.specs.List.Sorted.{IsPartitionPoint, IsPartitionedBy}
 use Rattle.std.specs.Ordering.{is_le, is_lt, nat_cmp}
-use Rattle.dnssec_record.specs.declared.courses.Listed as code
+use Rattle.dnssec_record.specs.declared.courses.Listing as code
 use Rattle.dnssec_status.proofs.Listing.{between, of_no_other, parted_le, parted_lt}
 use Rattle.dnssec_status.specs.Inner.Entries.{listing_of, lists, reference_of}
 use Rattle.dnssec_status.specs.Keys.{has_listed}
@@ -16,7 +16,7 @@ use Rattle.dnssec_zone.specs.{Lists.same_part, Rolls.same_roll}
 use Rattle.dnssec_status.proofs.listed.Listings.of_key.Goals as goal
 
 abbrev Lent : Type 0
-Lent = List (Bor code.Listed)
+Lent = List (Bor code.Listing)
 
 pub returns : goal.returns
 returns c roll part =
@@ -24,8 +24,8 @@ returns c roll part =
     let q = string_bytes c.args.reference.now in
     let end = c.partition_point-end.result in
     let begin = c.partition_point-begin.result in
-    let le = λ (x : Bor code.Listed). is_le (slice_cmp nat_cmp (reference_of x) q) in
-    let lt = λ (x : Bor code.Listed). is_lt (slice_cmp nat_cmp (reference_of x) q) in
+    let le = λ (x : Bor code.Listing). is_le (slice_cmp nat_cmp (reference_of x) q) in
+    let lt = λ (x : Bor code.Listing). is_lt (slice_cmp nat_cmp (reference_of x) q) in
     let after : IsPartitionPoint (λ x. le x ≡ true) (λ x. le x ≡ false) xs end =
     subst (λ (ls : Lent). IsPartitionPoint (λ x. le x ≡ true) (λ x. le x ≡ false) ls end)
     c.deref.ensures.value
