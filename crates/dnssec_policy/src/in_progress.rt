@@ -7,7 +7,7 @@ ghost use Rattle.dnssec_zone.specs.Rolls.{phase_of};
 ghost use Rattle.dnssec_policy.specs.Code.{end_of, last_of, todo_of, view_of};
 ghost use Rattle.dnssec_policy.specs.InProgress.{awaited, end_next, ends_with, is_wait_for};
 ghost use Rattle.dnssec_policy.specs.InProgress.{later, once_settled, once_there, report_next};
-ghost use Rattle.dnssec_policy.specs.InProgress.{report_or, report_with, wait_next};
+ghost use Rattle.dnssec_policy.specs.InProgress.{report_or, report_with, roll_next, wait_next};
 ghost use Rattle.dnssec_policy.specs.Next.{phase_next, rolls_next};
 
 use crate::state::{Ends, State};
@@ -205,6 +205,20 @@ fn end_next<'a>(state: &State<'a>, roll: RollType) -> Next<'a>
 
 // ---- by their phases
 
+/// A roll in this phase.
+fn roll_next<'a>(state: &State<'a>, ends: &Ends, roll: RollType, phase: RollState) -> Next<'a>
+    ensures { todo_of state.now.moment result
+        ≡ roll_next (view_of state.now (end_of ends.now)) roll phase }
+{
+    match phase {
+        RollState::Propagation1 => report_next(state, roll, Half::First),
+        RollState::CacheExpire1(_) => wait_next(state, roll, Half::First, &ends.of(roll)),
+        RollState::Propagation2 => report_next(state, roll, Half::Second),
+        RollState::CacheExpire2(_) => wait_next(state, roll, Half::Second, &ends.of(roll)),
+        RollState::Done => end_next(state, roll),
+    }
+}
+
 /// A roll in its phase; nothing if it isn't in progress.
 pub(crate) fn phase_next<'a>(state: &State<'a>, ends: &Ends, roll: RollType) -> Next<'a>
     ensures { todo_of state.now.moment result
@@ -213,11 +227,7 @@ pub(crate) fn phase_next<'a>(state: &State<'a>, ends: &Ends, roll: RollType) -> 
 {
     match state.keyset.rollstates().get(&roll) {
         None => Next::Rest,
-        Some(RollState::Propagation1) => report_next(state, roll, Half::First),
-        Some(RollState::CacheExpire1(_)) => wait_next(state, roll, Half::First, &ends.of(roll)),
-        Some(RollState::Propagation2) => report_next(state, roll, Half::Second),
-        Some(RollState::CacheExpire2(_)) => wait_next(state, roll, Half::Second, &ends.of(roll)),
-        Some(RollState::Done) => end_next(state, roll),
+        Some(phase) => roll_next(state, ends, roll, *phase),
     }
 }
 

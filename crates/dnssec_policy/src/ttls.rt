@@ -60,18 +60,15 @@ impl HighestTtls {
         match kind {
             SetKind::Ds => HighestTtls {
                 ds: self.ds.max(ttl),
-                dnskey: self.dnskey,
-                zone: self.zone,
+                ..self
             },
             SetKind::Dnskey => HighestTtls {
-                ds: self.ds,
                 dnskey: self.dnskey.max(ttl),
-                zone: self.zone,
+                ..self
             },
             SetKind::ZoneSigners => HighestTtls {
-                ds: self.ds,
-                dnskey: self.dnskey,
                 zone: self.zone.max(ttl),
+                ..self
             },
         }
     }

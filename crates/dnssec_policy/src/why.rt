@@ -44,33 +44,19 @@ impl fmt::Display for Why {
     /// Writes what a program shows its user, as `ksk-roll may not begin beside the rolls in
     /// progress`.
     fn fmt<W: fmt::Write>(&self, f: &mut fmt::Formatter<W>) -> fmt::Result {
-        match self {
-            Why::NoStep { roll } => {
-                let name = roll_name(*roll);
-                write!(f, "the last step of {name} isn't known")
+        let (before, roll, after) = match self {
+            Why::NoStep { roll } => ("the last step of ", roll, " isn't known"),
+            Why::TtlTooLong { roll } => ("", roll, " has to report a TTL of more than 32 bits"),
+            Why::NoStamp { roll } => ("a key lacks the stamp for the wait of ", roll, ""),
+            Why::PastTime { roll } => ("the wait of ", roll, " ends after all time"),
+            Why::NoLastWait { roll } => ("the second wait of ", roll, " isn't known"),
+            Why::Barred { roll } => ("", roll, " may not begin beside the rolls in progress"),
+            Why::OldKeyInUse => {
+                return f.write_str("a key is on its way out, and no roll takes it out");
             }
-            Why::TtlTooLong { roll } => {
-                let name = roll_name(*roll);
-                write!(f, "{name} has to report a TTL of more than 32 bits")
-            }
-            Why::NoStamp { roll } => {
-                let name = roll_name(*roll);
-                write!(f, "a key lacks the stamp for the wait of {name}")
-            }
-            Why::PastTime { roll } => {
-                let name = roll_name(*roll);
-                write!(f, "the wait of {name} ends after all time")
-            }
-            Why::NoLastWait { roll } => {
-                let name = roll_name(*roll);
-                write!(f, "the second wait of {name} isn't known")
-            }
-            Why::Barred { roll } => {
-                let name = roll_name(*roll);
-                write!(f, "{name} may not begin beside the rolls in progress")
-            }
-            Why::OldKeyInUse => f.write_str("a key is on its way out, and no roll takes it out"),
-            Why::ByHand { at } => write!(f, "call {at} was made by hand"),
-        }
+            Why::ByHand { at } => return write!(f, "call {at} was made by hand"),
+        };
+        let name = roll_name(*roll);
+        write!(f, "{before}{name}{after}")
     }
 }

@@ -279,14 +279,12 @@ impl PolicyDraft {
     {
         match role {
             KeyRole::Zsk => PolicyDraft {
-                ksk: self.ksk,
                 zsk: *renewal,
-                delete_after: self.delete_after,
+                ..*self
             },
             KeyRole::Ksk | KeyRole::Csk => PolicyDraft {
                 ksk: *renewal,
-                zsk: self.zsk,
-                delete_after: self.delete_after,
+                ..*self
             },
         }
     }
