@@ -67,6 +67,12 @@ pub record RefusesCall (before : Kept) (line : List ℕ) (after : Kept) : Type 0
 
 -- ---- questions
 
+-- it is open, and this is so of what it keeps
+pub record Keeps (Is : Kept → Type 0) (old : Option Kept) : Type 0 where
+  pub kept : Kept
+  pub is : old ≡ Some kept
+  pub so : Is kept
+
 -- how many calls it has made
 abbrev pub HasMade : Option Kept → ℕ → Type 0
 HasMade None n = n ≡ 0
@@ -74,30 +80,24 @@ HasMade (Some kept) n = (lines : List (List ℕ)) (entries : List Entry) →
     Stands lines entries kept.session → n ≡ length entries
 
 -- the text is the last answer that it gave
-pub record Repeats (old : Option Kept) (text : List ℕ) : Type 0 where
-  pub kept : Kept
-  pub is : old ≡ Some kept
-  pub tells : string_bytes kept.answer ≡ text
+abbrev pub Repeats : Option Kept → List ℕ → Type 0
+Repeats old text = Keeps (λ kept. string_bytes kept.answer ≡ text) old
 
 -- the text is the last two lines of the answers to the calls of this session so far
 abbrev pub IsClosingOf : Session → List ℕ → Type 0
 IsClosingOf session text = (name : List ℕ) (calls : List Call) (entries : List Entry) →
     StandsAfter name calls entries session → Closes entries text
 
-pub record ClosesWith (old : Option Kept) (text : List ℕ) : Type 0 where
-  pub kept : Kept
-  pub is : old ≡ Some kept
-  pub closes : IsClosingOf kept.session text
+abbrev pub ClosesWith : Option Kept → List ℕ → Type 0
+ClosesWith old text = Keeps (λ kept. IsClosingOf kept.session text) old
 
 -- the text is the status after the calls of this session so far
 abbrev pub IsStatusOf : Session → List ℕ → Type 0
 IsStatusOf session text = (name : List ℕ) (calls : List Call) (entries : List Entry) →
     StandsAfter name calls entries session → IsStatus name calls entries text
 
-pub record ShowsStatus (old : Option Kept) (text : List ℕ) : Type 0 where
-  pub kept : Kept
-  pub is : old ≡ Some kept
-  pub shows : IsStatusOf kept.session text
+abbrev pub ShowsStatus : Option Kept → List ℕ → Type 0
+ShowsStatus old text = Keeps (λ kept. IsStatusOf kept.session text) old
 
 -- ---- notes
 
@@ -128,10 +128,8 @@ pub record RefusesLine (kept : Kept) (line : List ℕ) (status : ℕ) : Type 0 w
       StandsAfter name calls entries kept.session →
       IsTakeFault (moments_of entries) kept.notes line fault
 
-pub record RefusesNote (old : Option Kept) (line : List ℕ) (status : ℕ) : Type 0 where
-  pub kept : Kept
-  pub is : old ≡ Some kept
-  pub refuses : RefusesLine kept line status
+abbrev pub RefusesNote : Option Kept → List ℕ → ℕ → Type 0
+RefusesNote old line status = Keeps (λ kept. RefusesLine kept line status) old
 
 -- the text has the reports that are due at this second, as `answer_due` answers them of the
 -- session's lines and of its notes
@@ -140,16 +138,12 @@ IsDueOf seconds kept text = (lines notes : List (List ℕ)) (entries : List Entr
     Stands lines entries kept.session → HasTaken (moments_of entries) notes kept.notes →
     IsDueAfter lines notes entries seconds text
 
-pub record ShowsDue (seconds : ℕ) (old : Option Kept) (text : List ℕ) : Type 0 where
-  pub kept : Kept
-  pub is : old ≡ Some kept
-  pub due : IsDueOf seconds kept text
+abbrev pub ShowsDue : ℕ → Option Kept → List ℕ → Type 0
+ShowsDue seconds old text = Keeps (λ kept. IsDueOf seconds kept text) old
 
 -- it has no notes
-pub record LacksNotes (old : Option Kept) : Type 0 where
-  pub kept : Kept
-  pub is : old ≡ Some kept
-  pub none : kept.notes ≡ None
+abbrev pub LacksNotes : Option Kept → Type 0
+LacksNotes = Keeps (λ kept. kept.notes ≡ None)
 
 -- the other one stands after the same calls, gives the same answer to the last, and has the same
 -- notes

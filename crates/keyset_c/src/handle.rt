@@ -1,5 +1,6 @@
 //! What C holds of a session.
 ghost use Rattle.std.specs.Prelude.{◌≡◌, Some, None, IfNone, IfSome, is_some};
+ghost use Rattle.std.specs.Borrow.{sem};
 ghost use Rattle.keyset_c.specs.Handles.{IsWhole, kept_by};
 
 use crate::box_parts::BoxParts;
@@ -12,17 +13,33 @@ use std::mem;
 #[repr(C)]
 #[derive(Drop)]
 pub struct Handle {
-    pub(crate) pointer: Pointer,
+    pointer: Pointer,
     is_open: bool,
 }
 
 impl Handle {
+    ghost use Rattle.keyset_c.specs.Lent.{lends_if_open};
+
     /// Whether it keeps a session.
     pub(crate) fn is_open(&self) -> bool
         requires { IsWhole self.now }
         ensures { result ≡ is_some (kept_by self.now) }
     {
         self.is_open
+    }
+
+    /// What an open session keeps, lent.
+    pub(crate) fn look(&mut self) -> Option<&mut Kept>
+        requires { IsWhole self.old }
+        ensures* writes_back { sem 𝓛 (lends_if_open self.entry result) }
+        ensures value { IfSome result (λ kept. kept_by self.old ≡ Some kept.now) }
+        ensures none { IfNone result (kept_by self.old ≡ None) }
+    {
+        if self.is_open {
+            Some(self.pointer.look())
+        } else {
+            None
+        }
     }
 
     /// Takes out what an open session keeps, and leaves it closed.

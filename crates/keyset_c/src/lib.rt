@@ -225,12 +225,10 @@ pub extern "C" fn keyset_accept(alloc: Global, session: &mut Handle, line: &[u8]
     ensures unchanged { result ≢ 0 → result ≢ 10 → kept_by session.new ≡ kept_by session.old }
     ensures status { (result ≡ 0) ⊎ (result ≡ 1) ⊎ (result ≡ 3) ⊎ (result ≡ 5) ⊎ (result ≡ 10) }
 {
-    let Some(mut kept) = session.take(alloc) else {
-        return CLOSED;
-    };
-    let status = accept(alloc, &mut *kept, line);
-    session.put(kept);
-    status
+    match session.look() {
+        Some(kept) => accept(alloc, kept, line),
+        None => CLOSED,
+    }
 }
 
 /// Takes the next line of the notes beside a session, after the calls that it has made so far.
@@ -250,12 +248,10 @@ pub extern "C" fn keyset_note(alloc: Global, session: &mut Handle, line: &[u8]) 
     ensures closed { (result ≡ 5) ↔ (kept_by session.old ≡ None) }
     ensures unchanged { result ≢ 0 → kept_by session.new ≡ kept_by session.old }
 {
-    let Some(mut kept) = session.take(alloc) else {
-        return CLOSED;
-    };
-    let status = note(alloc, &mut *kept, line);
-    session.put(kept);
-    status
+    match session.look() {
+        Some(kept) => note(alloc, kept, line),
+        None => CLOSED,
+    }
 }
 
 /// Closes a session, and frees what it keeps. A closed session stays closed.

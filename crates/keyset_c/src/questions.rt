@@ -19,11 +19,10 @@ pub extern "C" fn keyset_calls(session: &mut Handle) -> usize
     ensures same { kept_by session.new ≡ kept_by session.old }
     ensures made { HasMade (kept_by session.old) result }
 {
-    if !session.is_open() {
-        return 0;
+    match session.look() {
+        Some(kept) => kept.session.calls(),
+        None => 0,
     }
-    let kept = session.pointer.look();
-    kept.session.calls()
 }
 
 /// Writes the answer to the last line again.
@@ -38,11 +37,10 @@ pub extern "C" fn keyset_told(session: &mut Handle, out: &mut [u8]) -> Answered
     ensures status { (result.status ≡ 0) ⊎ (result.status ≡ 4) ⊎ (result.status ≡ 5) }
     ensures handed { Hands result.status result.length result.line out.old out.new }
 {
-    if !session.is_open() {
-        return fault(CLOSED);
+    match session.look() {
+        Some(kept) => hand_out(kept.answer.as_bytes(), out),
+        None => fault(CLOSED),
     }
-    let kept = session.pointer.look();
-    hand_out(kept.answer.as_bytes(), out)
 }
 
 /// Writes the last two lines of the answers so far: the sets that are published after the last
@@ -61,11 +59,10 @@ pub extern "C" fn keyset_closing(alloc: Global, session: &mut Handle, out: &mut 
         ⊎ (result.status ≡ 5) }
     ensures handed { Hands result.status result.length result.line out.old out.new }
 {
-    if !session.is_open() {
-        return fault(CLOSED);
+    match session.look() {
+        Some(kept) => tell_closing(alloc, &kept.session, out),
+        None => fault(CLOSED),
     }
-    let kept = session.pointer.look();
-    tell_closing(alloc, &kept.session, out)
 }
 
 /// Writes the status of the zone after the calls so far, as one line of JSON.
@@ -83,11 +80,10 @@ pub extern "C" fn keyset_status(alloc: Global, session: &mut Handle, out: &mut [
         ⊎ (result.status ≡ 5) }
     ensures handed { Hands result.status result.length result.line out.old out.new }
 {
-    if !session.is_open() {
-        return fault(CLOSED);
+    match session.look() {
+        Some(kept) => tell_status(alloc, &kept.session, out),
+        None => fault(CLOSED),
     }
-    let kept = session.pointer.look();
-    tell_status(alloc, &kept.session, out)
 }
 
 /// Writes the reports that are due at this second since 1970, by the notes beside the session. 1 if
@@ -113,11 +109,10 @@ pub extern "C" fn keyset_due(
         ⊎ (result.status ≡ 4) ⊎ (result.status ≡ 5) }
     ensures handed { Hands result.status result.length result.line out.old out.new }
 {
-    if !session.is_open() {
-        return fault(CLOSED);
+    match session.look() {
+        Some(kept) => tell_due(alloc, kept, seconds, out),
+        None => fault(CLOSED),
     }
-    let kept = session.pointer.look();
-    tell_due(alloc, kept, seconds, out)
 }
 
 /// Opens another session after the same calls, to try one: 0, or 3 for lack of memory, 5 if the
@@ -138,10 +133,9 @@ pub extern "C" fn keyset_copy(alloc: Global, session: &mut Handle, copy: &mut Ha
     if copy.is_open() {
         return IS_OPEN;
     }
-    if !session.is_open() {
+    let Some(kept) = session.look() else {
         return CLOSED;
-    }
-    let kept = session.pointer.look();
+    };
     match copy_of(alloc, kept) {
         Ok(made) => {
             copy.put(made);

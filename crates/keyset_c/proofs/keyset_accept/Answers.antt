@@ -1,20 +1,10 @@
 -- What made the call, or didn't, is what the session keeps.
+use Rattle.std.proofs.Common.{refl}
+use Rattle.keyset_c.proofs.Opened.{if_open}
 use Rattle.keyset_c.proofs.keyset_accept.Goals as goal
 
-pub returns-clause-accepted : goal.returns-clause-accepted
-returns-clause-accepted c = λ accepted. record {
-  before = c.in-Some.kept.value;
-  is_before = c.in-Some.ensures.taken;
-  after = c.accept-status.new.kept;
-  is_after = c.put.ensures.kept;
-  comes = rw (← c.deref_mut.ensures.value) (c.accept-status.ensures.accepted accepted);
-}
+pub returns-in-Some-clause-accepted : goal.returns-in-Some-clause-accepted
+returns-in-Some-clause-accepted c = if_open c.in-Some.ensures.value refl c.accept.ensures.accepted
 
-pub returns-clause-refused : goal.returns-clause-refused
-returns-clause-refused c = λ refused. record {
-  before = c.in-Some.kept.value;
-  is_before = c.in-Some.ensures.taken;
-  after = c.accept-status.new.kept;
-  is_after = c.put.ensures.kept;
-  comes = rw (← c.deref_mut.ensures.value) (c.accept-status.ensures.refused refused);
-}
+pub returns-in-Some-clause-refused : goal.returns-in-Some-clause-refused
+returns-in-Some-clause-refused c = if_open c.in-Some.ensures.value refl c.accept.ensures.refused

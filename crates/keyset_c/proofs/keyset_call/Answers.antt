@@ -1,39 +1,22 @@
 -- What made the call is what the session keeps, with its answer.
-use Rattle.std.proofs.Common.{ap, arith, length, refl, string_bytes, sym, ◌∙◌, ◌≡◌}
+use Rattle.std.proofs.Common.{ap, arith, length, refl, string_bytes, sym, ◌∙◌}
+use Rattle.keyset_c.proofs.Opened.{calls}
 use Rattle.keyset_c.proofs.keyset_call.Goals as goal
 
 pub returns-clause-answered : goal.returns-clause-answered
 returns-clause-answered c = λ answered.
-    let text : string_bytes c.call-status.new.kept.answer ≡ c.as_bytes.result.now =
-    cc (c.as_bytes.ensures.value, c.deref.ensures) in
-    record {
-      called = record {
-        before = c.in-Some.kept.value;
-        is_before = c.in-Some.ensures.taken;
-        after = c.call-status.new.kept;
-        is_after = c.put-2.ensures.kept;
-        comes = rw (← c.deref_mut.ensures.value) (c.call-status.ensures.called (omega arith));
-      };
-      tells = text ∙ sym (c.hand_out-answered.ensures.written answered);
-    }
+    calls c.in-Some.ensures.taken c.put-2.ensures.kept
+    (rw (← c.deref_mut.ensures.value) (c.call-status.ensures.called (omega arith)))
+    (cc (c.as_bytes.ensures.value, c.deref.ensures, c.hand_out-answered.ensures.written answered))
 
 pub returns-clause-needed : goal.returns-clause-needed
-returns-clause-needed c = λ short.
-    let text : string_bytes c.call-status.new.kept.answer ≡ c.as_bytes.result.now =
-    cc (c.as_bytes.ensures.value, c.deref.ensures) in (
-      string_bytes c.call-status.new.kept.answer,
-      record {
-        called = record {
-          before = c.in-Some.kept.value;
-          is_before = c.in-Some.ensures.taken;
-          after = c.call-status.new.kept;
-          is_after = c.put-2.ensures.kept;
-          comes = rw (← c.deref_mut.ensures.value) (c.call-status.ensures.called (omega arith));
-        };
-        tells = refl;
-      },
-      ap length text ∙ sym c.hand_out-answered.ensures.length,
-    )
+returns-clause-needed c = λ short. (
+  string_bytes c.call-status.new.kept.answer,
+  calls c.in-Some.ensures.taken c.put-2.ensures.kept
+      (rw (← c.deref_mut.ensures.value) (c.call-status.ensures.called (omega arith))) refl,
+  ap length (cc (c.as_bytes.ensures.value, c.deref.ensures))
+      ∙ sym c.hand_out-answered.ensures.length,
+)
 
 pub returns-clause-malformed : goal.returns-clause-malformed
 returns-clause-malformed c = λ malformed.

@@ -1,18 +1,11 @@
 -- The notes that took the line, or didn't, are those of the session.
+use Rattle.std.proofs.Common.{refl}
+use Rattle.keyset_c.proofs.Opened.{if_open, keeps}
 use Rattle.keyset_c.proofs.keyset_note.Goals as goal
 
-pub returns-clause-noted : goal.returns-clause-noted
-returns-clause-noted c = λ noted. record {
-  before = c.in-Some.kept.value;
-  is_before = c.in-Some.ensures.taken;
-  after = c.note-status.new.kept;
-  is_after = c.put.ensures.kept;
-  comes = rw (← c.deref_mut.ensures.value) (c.note-status.ensures.noted noted);
-}
+pub returns-in-Some-clause-noted : goal.returns-in-Some-clause-noted
+returns-in-Some-clause-noted c = if_open c.in-Some.ensures.value refl c.note.ensures.noted
 
-pub returns-clause-refused : goal.returns-clause-refused
-returns-clause-refused c = λ other still. record {
-  kept = c.in-Some.kept.value;
-  is = c.in-Some.ensures.taken;
-  refuses = rw (← c.deref_mut.ensures.value) (c.note-status.ensures.refused other);
-}
+pub returns-in-Some-clause-refused : goal.returns-in-Some-clause-refused
+returns-in-Some-clause-refused c = λ other still.
+    keeps c.in-Some.ensures.value (c.note.ensures.refused other)

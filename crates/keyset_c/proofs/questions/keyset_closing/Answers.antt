@@ -1,22 +1,9 @@
 -- The last two lines of the answers are those of what it keeps.
-use Rattle.std.proofs.Common.{sym}
+use Rattle.keyset_c.proofs.Opened.{keeps_at, keeps_if}
 use Rattle.keyset_c.proofs.questions.keyset_closing.Goals as goal
 
-pub returns-clause-told : goal.returns-clause-told
-returns-clause-told c = λ answered. record {
-  kept = c.look-kept.result.now;
-  is = sym c.look-kept.ensures.value;
-  closes = c.tell_closing.ensures.told answered;
-}
+pub returns-in-Some-clause-told : goal.returns-in-Some-clause-told
+returns-in-Some-clause-told c = keeps_if c.in-Some.ensures.value c.tell_closing.ensures.told
 
-pub returns-clause-needed : goal.returns-clause-needed
-returns-clause-needed c = λ short.
-    let at = c.tell_closing.ensures.needed short in (
-      at.0,
-      record {
-        kept = c.look-kept.result.now;
-        is = sym c.look-kept.ensures.value;
-        closes = at.1;
-      },
-      at.2,
-    )
+pub returns-in-Some-clause-needed : goal.returns-in-Some-clause-needed
+returns-in-Some-clause-needed c = keeps_at c.in-Some.ensures.value c.tell_closing.ensures.needed
