@@ -22,12 +22,12 @@ use std::time::Duration;
 
 /// What writes keys at their references, with the rolls in progress that listed them.
 #[derive(Drop)]
-pub(crate) struct Keys<'a> {
+pub(crate) struct KeyWriter<'a> {
     pub(crate) alloc: Global,
     pub(crate) listings: &'a Listings<'a>,
 }
 
-impl<'a, 'b> Writer<(&'b String, &'b Key)> for Keys<'a> {
+impl<'a, 'b> Writer<(&'b String, &'b Key)> for KeyWriter<'a> {
     ghost json = { λ keys entry. entry_json keys.listings.now entry };
 
     /// Writes a key at its reference.

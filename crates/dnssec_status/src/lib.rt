@@ -19,7 +19,7 @@ mod rolls;
 mod sets;
 
 use crate::json::{push_array, push_bytes, push_text};
-use crate::keys::Keys;
+use crate::keys::KeyWriter;
 use crate::listed::Listings;
 use crate::rolls::{Ended, Going, RollInProgress, in_progress};
 use crate::sets::{push_chain, push_sets};
@@ -115,7 +115,7 @@ fn push_rest(
         ++ codes ",\"ended\":" ++ array_json ended_json ended.now ++ codes "}\n")) }
 {
     push_bytes(out, b",\"keys\":")?;
-    push_array(out, &Keys { alloc, listings }, keys)?;
+    push_array(out, &KeyWriter { alloc, listings }, keys)?;
     push_bytes(out, b",\"rolls\":")?;
     push_array(out, &Going { alloc }, rolls)?;
     push_bytes(out, b",\"ended\":")?;
