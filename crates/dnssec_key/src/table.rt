@@ -5,7 +5,8 @@
 
 ghost use Rattle.std.specs.Prelude.{◌≡◌};
 ghost use Rattle.dnssec_key.specs.RollTable.{column, half_of, actions_of};
-ghost use Rattle.dnssec_key.specs.declared.roll.Half.TheVariants.{First as TheFirst, Second as TheSecond};
+ghost use Rattle.dnssec_key.specs.declared.roll.Half.TheVariants.{First as TheFirst};
+ghost use Rattle.dnssec_key.specs.declared.roll.Half.TheVariants.{Second as TheSecond};
 ghost use Rattle.dnssec_key.specs.Sides.{side_of, wants, may_change_algorithms, wait_moves_kept};
 ghost use Rattle.dnssec_key.specs.Texts.{roll_name, NamesRoll};
 ghost use Rattle.dnssec_key.specs.Inner.Columns.{half_roll_of, column_of};

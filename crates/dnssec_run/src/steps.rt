@@ -34,7 +34,7 @@ pub struct LastStep {
 /// ```rust
 /// let outcome = recorder.advance(alloc, call)?;
 /// at += 1;
-/// steps = steps.after(outcome.mark, at, origins);
+/// steps.note(outcome.mark, at, origins);
 /// ```
 #[derive(Clone, Copy, Debug)]
 pub struct Steps {
@@ -140,7 +140,7 @@ impl Steps {
         let mut origins = Origins::first();
         for (index, entry) in entries.iter().enumerate() {
             origins = origins.after(entries, index, index + 1);
-            steps = steps.after(entry.mark, index + 1, origins);
+            steps.note(entry.mark, index + 1, origins);
         }
         steps
     }
@@ -152,18 +152,14 @@ impl Steps {
         self.by_roll[roll as usize]
     }
 
-    /// The last steps after a call with this mark at the position, and the origins of the sets
-    /// that are published there.
-    pub fn after(mut self, mark: Mark, at: usize, origins: Origins) -> Self
-        ensures { (roll : RollType) → step_of result roll ≡ (if is_step roll mark
-            then Some (record { at = at; origins = origins }) else step_of self roll) }
+    /// Notes a call with this mark at the position, and the origins of the sets that are published
+    /// there.
+    pub fn note(&mut self, mark: Mark, at: usize, origins: Origins)
+        ensures { (roll : RollType) → step_of self.new roll ≡ (if is_step roll mark
+            then Some (record { at = at; origins = origins }) else step_of self.old roll) }
     {
-        match mark {
-            Mark::Step(roll) => {
-                self.by_roll[roll as usize] = Some(LastStep { at, origins });
-                self
-            }
-            _ => self,
+        if let Mark::Step(roll) = mark {
+            self.by_roll[roll as usize] = Some(LastStep { at, origins });
         }
     }
 }

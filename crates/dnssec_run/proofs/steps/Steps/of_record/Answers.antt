@@ -53,7 +53,7 @@ loop-index-preserved c =
     ∙ came es kind i (i + 1) (origin_in c.loop-index.origins kind) (omega arith)
     (ap (λ (o : Origins). origin_in o kind) c.loop-index.invariant.1 ∙ origin-of es i kind)) in (
       λ roll.
-          c.after-steps.ensures roll
+          c.note.ensures roll
           ∙ more es roll i (i + 1) e c.after-origins.result (step_of c.loop-index.steps roll)
           (slice_get-get_or es i e c.loop-index-test.true
           ∙ ap Some (sym c.index-entries-index.is))
