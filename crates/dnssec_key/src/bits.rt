@@ -1,6 +1,6 @@
 //! Sets of numbers as bits in words of 64, which take no memory of the allocator; and the tags in
 //! use, as such a set of its own on the heap.
-ghost use Rattle.std.specs.Prelude.{◌≡◌, ◌<◌, ◌/◌, ℕ, length, nat_eq, true, false};
+ghost use Rattle.std.specs.Prelude.{◌≡◌, ◌<◌, ◌/◌, ℕ, length, nat_eq, false};
 ghost use Rattle.std.specs.Prelude.{None, Some, is_none, if◌then◌else◌, IfOk, IsOkUnless};
 ghost use Rattle.std.specs.Option.{option_map};
 ghost use Rattle.dnssec_base.specs.declared.error.Error.TheVariants.{OutOfMemory};
@@ -26,26 +26,20 @@ pub fn is_set(words: &[u64], number: u16) -> bool
     }
 }
 
-/// Puts a number into a set that has a bit for it.
-pub fn set(words: &mut [u64], number: u16)
+/// Puts a number into a set that has a bit for it, or takes it out.
+pub fn set(words: &mut [u64], number: u16, is_in: bool)
     requires { number / 64 < length words.old }
     ensures len { length words.new ≡ length words.old }
     ensures put { (n : ℕ) → is_set words.new n
-        ≡ (if nat_eq number n then true else is_set words.old n) }
+        ≡ (if nat_eq number n then is_in else is_set words.old n) }
 {
     let at = usize::from(number / 64);
-    words[at] |= 1u64 << (number % 64);
-}
-
-/// Takes a number out of a set that has a bit for it.
-pub(crate) fn clear(words: &mut [u64], number: u16)
-    requires { number / 64 < length words.old }
-    ensures len { length words.new ≡ length words.old }
-    ensures out { (n : ℕ) → is_set words.new n
-        ≡ (if nat_eq number n then false else is_set words.old n) }
-{
-    let at = usize::from(number / 64);
-    words[at] &= !(1u64 << (number % 64));
+    let bit = 1u64 << (number % 64);
+    words[at] = if is_in {
+        words[at] | bit
+    } else {
+        words[at] & !bit
+    };
 }
 
 /// The tags in use, a bit for each; or no index, if there are so few keys that each is asked.
@@ -101,25 +95,14 @@ impl TagIndex {
         }
     }
 
-    /// Notes a tag that comes into use, if there is an index.
-    pub fn put(&mut self, key_tag: u16)
+    /// Notes that a tag is in use from now on, or no longer, if there is an index.
+    pub fn note(&mut self, key_tag: u16, in_use: bool)
         ensures { (t : ℕ) → has self.new t ≡ option_map
-            (λ b. if nat_eq key_tag t then true else b) (has self.old t) }
+            (λ b. if nat_eq key_tag t then in_use else b) (has self.old t) }
     {
         match &mut self.tags {
             None => {}
-            Some(tags) => set(&mut **tags, key_tag),
-        }
-    }
-
-    /// Notes a tag that is no longer in use, if there is an index.
-    pub fn remove(&mut self, key_tag: u16)
-        ensures { (t : ℕ) → has self.new t ≡ option_map
-            (λ b. if nat_eq key_tag t then false else b) (has self.old t) }
-    {
-        match &mut self.tags {
-            None => {}
-            Some(tags) => clear(&mut **tags, key_tag),
+            Some(tags) => set(&mut **tags, key_tag, in_use),
         }
     }
 }

@@ -53,7 +53,8 @@ impl NewKeys {
         if is_taken || !key.is_fresh() {
             return Err(Error::WrongKeyState);
         }
-        set(&mut self.algorithms, u16::from(key.algorithm().to_int()));
+        let algorithm = u16::from(key.algorithm().to_int());
+        set(&mut self.algorithms, algorithm, true);
         match key.keytype() {
             KeyType::Ksk(_) => self.ksk = true,
             KeyType::Zsk(_) => self.zsk = true,
@@ -136,7 +137,7 @@ impl Keys {
             → HasListed tags.new self.now (λ q. listed q || bytes_eq reference.now q) }
     {
         if let Some(key) = self.get(reference) {
-            set(tags, key.key_tag());
+            set(tags, key.key_tag(), true);
         }
     }
 
@@ -150,7 +151,7 @@ impl Keys {
         let mut algorithms = [0; 4];
         for reference in old {
             let key = self.listed_key(roll, reference)?;
-            set(&mut algorithms, u16::from(key.algorithm().to_int()));
+            set(&mut algorithms, u16::from(key.algorithm().to_int()), true);
         }
         Ok(algorithms)
     }

@@ -202,7 +202,7 @@ impl Derived {
         ensures waits { (keys : AnyKeys) → AreKnown self.new.waits keys }
     {
         self.waits.forget();
-        self.tags.put(key_tag);
+        self.tags.note(key_tag, true);
         self.counts.count(keytype, Counting::OneMore);
     }
 
@@ -213,7 +213,7 @@ impl Derived {
         ensures counts { self.new.counts ≡ self.old.counts }
         ensures waits { self.new.waits ≡ self.old.waits }
     {
-        self.tags.remove(key_tag);
+        self.tags.note(key_tag, false);
     }
 
     /// Changes a key by hand. What is known of a wait stays if the wait sees no change.
@@ -308,7 +308,7 @@ fn index_of(alloc: Global, keys: &KeyMap) -> Result<TagIndex, Error>
 {
     let mut index = TagIndex::empty(alloc)?;
     for key in keys.values() {
-        index.put(key.key_tag());
+        index.note(key.key_tag(), true);
     }
     Ok(index)
 }

@@ -184,7 +184,7 @@ impl Lists {
         let mut tags = [0; 1024];
         for entry in self.entries.iter() {
             if entry.is_of(roll, part) {
-                set(&mut tags, entry.key_tag());
+                set(&mut tags, entry.key_tag(), true);
             }
         }
         tags

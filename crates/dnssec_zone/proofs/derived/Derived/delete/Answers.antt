@@ -2,4 +2,4 @@
 use Rattle.dnssec_zone.proofs.derived.Derived.delete.Goals as goal
 
 pub returns-clause-tags : goal.returns-clause-tags
-returns-clause-tags c = c.remove.ensures
+returns-clause-tags c = c.note.ensures
