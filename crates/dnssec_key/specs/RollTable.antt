@@ -137,9 +137,10 @@ pub record Column : Type 0 where
   pub second : HalfRoll
   pub asks_last : List Action  -- the actions due after the second wait
 
+-- the column of each roll
+unfoldable pub column : RollType → Column
 -- Double-Signature KSK roll: both sign the DNSKEY set, then the DS moves (RFC 6781, section 4.1.2)
-abbrev pub ksk_double_signature : Column
-ksk_double_signature = record {
+column KskRoll = record {
   comes = at_ksk comes_in_signing;
   writes = record writes_nothing { published = every_key };
   asks = UpdateDnskeyRrset ∷ ReportDnskeyPropagated ∷ [];
@@ -163,10 +164,8 @@ ksk_double_signature = record {
   };
   asks_last = RemoveCdsRrset ∷ UpdateDnskeyRrset ∷ WaitDnskeyPropagated ∷ [];
 }
-
 -- Double-DS KSK roll: both keys have a DS, then the keys change places (RFC 6781, section 4.1.2)
-abbrev pub ksk_double_ds : Column
-ksk_double_ds = record {
+column KskDoubleDsRoll = record {
   comes = at_ksk ds_comes_in;
   writes = writes_nothing;
   asks = CreateCdsRrset ∷ UpdateDsRrset ∷ ReportDsPropagated ∷ [];
@@ -190,10 +189,8 @@ ksk_double_ds = record {
   };
   asks_last = CreateCdsRrset ∷ UpdateDsRrset ∷ WaitDsPropagated ∷ [];
 }
-
 -- Pre-Publish ZSK roll: the new key is published before it signs (RFC 6781, section 4.1.1.1)
-abbrev pub zsk_pre_publish : Column
-zsk_pre_publish = record {
+column ZskRoll = record {
   comes = at_zsk comes_in;
   writes = record writes_nothing { published = every_key };
   asks = UpdateDnskeyRrset ∷ ReportDnskeyPropagated ∷ [];
@@ -217,10 +214,8 @@ zsk_pre_publish = record {
   };
   asks_last = UpdateDnskeyRrset ∷ WaitDnskeyPropagated ∷ [];
 }
-
 -- Double-Signature ZSK roll: both keys sign the zone for a while (RFC 6781, section 4.1.1.2)
-abbrev pub zsk_double_signature : Column
-zsk_double_signature = record {
+column ZskDoubleSignatureRoll = record {
   comes = at_zsk comes_in_signing;
   writes = record writes_nothing { published = every_key };
   asks = UpdateDnskeyRrset ∷ UpdateRrsig ∷ ReportDnskeyPropagated ∷ ReportRrsigPropagated ∷ [];
@@ -245,10 +240,8 @@ zsk_double_signature = record {
   };
   asks_last = [];
 }
-
 -- CSK roll: the DNSKEY set, then DS and signatures (RFC 6781, section 4.1.3, has no roll like it)
-abbrev pub csk_roll : Column
-csk_roll = record {
+column CskRoll = record {
   comes = at_roles comes_in_signing comes_in;
   writes = record writes_nothing { published = every_key };
   asks = UpdateDnskeyRrset ∷ ReportDnskeyPropagated ∷ [];
@@ -278,10 +271,8 @@ csk_roll = record {
   };
   asks_last = RemoveCdsRrset ∷ UpdateDnskeyRrset ∷ WaitDnskeyPropagated ∷ [];
 }
-
 -- algorithm roll, liberal: keys and signatures at once, then the DS (RFC 6781, section 4.1.4)
-abbrev pub algorithm_roll : Column
-algorithm_roll = record {
+column AlgorithmRoll = record {
   comes = at_each_role comes_in_signing;
   writes = record writes_nothing { published = every_key };
   asks = UpdateDnskeyRrset ∷ UpdateRrsig ∷ ReportDnskeyPropagated ∷ ReportRrsigPropagated ∷ [];
@@ -309,15 +300,6 @@ algorithm_roll = record {
   asks_last = RemoveCdsRrset ∷ UpdateDnskeyRrset ∷ UpdateRrsig ∷
       WaitDnskeyPropagated ∷ WaitRrsigPropagated ∷ [];
 }
-
--- the column of each roll
-unfoldable pub column : RollType → Column
-column KskRoll = ksk_double_signature
-column KskDoubleDsRoll = ksk_double_ds
-column ZskRoll = zsk_pre_publish
-column ZskDoubleSignatureRoll = zsk_double_signature
-column CskRoll = csk_roll
-column AlgorithmRoll = algorithm_roll
 
 -- a half of a roll, by its column
 abbrev pub half_of : RollType → Half → HalfRoll
