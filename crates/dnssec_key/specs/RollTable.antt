@@ -15,6 +15,8 @@ use Rattle.dnssec_key.specs.Key.{either, KeyParts}
 pub use Rattle.dnssec_key.specs.Stamping.{Writes, writes_nothing, stamps_after}
 use Rattle.dnssec_key.specs.declared.roll.Half.{Half}
 use Rattle.dnssec_key.specs.declared.roll.Half.TheVariants.{First, Second}
+use Rattle.dnssec_key.specs.declared.roll.PhaseEnd.{PhaseEnd}
+use Rattle.dnssec_key.specs.declared.roll.PhaseEnd.TheVariants.{Report, Wait}
 use Rattle.dnssec_key.specs.declared.roll.Action.{Action}
 use Rattle.dnssec_key.specs.declared.roll.Action.TheVariants.{ReportDnskeyPropagated, UpdateRrsig}
 use Rattle.dnssec_key.specs.declared.roll.Action.TheVariants.{ReportRrsigPropagated, RemoveCdsRrset}
@@ -350,6 +352,11 @@ after_report roll half = key_by stays (half_of roll half).report
 -- a key after an accepted wait
 abbrev pub after_wait : RollType → Half → ℕ → KeyParts → KeyParts
 after_wait roll half = key_by (half_of roll half).moves (half_of roll half).writes
+
+-- a key after either of them
+abbrev pub after_end : PhaseEnd → RollType → Half → ℕ → KeyParts → KeyParts
+after_end (Report ttl) = after_report
+after_end Wait = after_wait
 
 -- ---- phases, and what is asked in them
 

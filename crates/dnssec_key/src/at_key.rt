@@ -4,7 +4,7 @@
 ghost use Rattle.std.specs.Prelude.{◌≡◌, false};
 ghost use Rattle.std.specs.Option.{option_map_or};
 ghost use Rattle.dnssec_key.specs.RollTable.{at_roles, comes_in_signing, leaves_dnskey};
-ghost use Rattle.dnssec_key.specs.RollTable.{half_of, after_report, after_wait};
+ghost use Rattle.dnssec_key.specs.RollTable.{half_of, after_end};
 ghost use Rattle.dnssec_key.specs.RollTable.{new_at_start, old_at_start, new_at_early_end};
 ghost use Rattle.dnssec_key.specs.RollTable.{old_at_early_end};
 ghost use Rattle.dnssec_key.specs.Setters.{setting_of, set_by};
@@ -16,7 +16,7 @@ use crate::column::RoleMove::{SetAtParent, SetPresent, SetSigner, SetStale, Stay
 use crate::column::{KeyMove, KeyTest, RoleMove, RoleTest};
 use crate::key::Key;
 use crate::kind::KeyType;
-use crate::roll::{Half, RollType};
+use crate::roll::{Half, PhaseEnd, RollType};
 use crate::setting::Setting;
 use crate::state::KeyState;
 use dnssec_base::{KeyTimestamps, Stamp, UnixTime, write_stamp};
@@ -274,21 +274,20 @@ pub fn unmark_new(key: &mut Key, roll: RollType)
     roll.column().goes.at(&mut key.keytype);
 }
 
-/// A report of a roll is made.
-pub fn stamp_report(key: &mut Key, roll: RollType, half: Half, now: UnixTime)
-    ensures { key.new ≡ after_report roll half now key.old }
-{
-    let report = roll.half(half).report;
-    write_stamps(report, &key.keytype, now, &mut key.timestamps);
-}
-
-/// A wait of a roll is over.
-pub fn move_on(key: &mut Key, roll: RollType, half: Half, now: UnixTime)
-    ensures { key.new ≡ after_wait roll half now key.old }
+/// A phase of a roll ends.
+pub fn end_phase(key: &mut Key, end: PhaseEnd, roll: RollType, half: Half, now: UnixTime)
+    ensures { key.new ≡ after_end end roll half now key.old }
 {
     let half_roll = roll.half(half);
-    write_stamps(half_roll.writes, &key.keytype, now, &mut key.timestamps);
-    half_roll.moves.at(&mut key.keytype);
+    match end {
+        PhaseEnd::Report(_) => {
+            write_stamps(half_roll.report, &key.keytype, now, &mut key.timestamps);
+        }
+        PhaseEnd::Wait => {
+            write_stamps(half_roll.writes, &key.keytype, now, &mut key.timestamps);
+            half_roll.moves.at(&mut key.keytype);
+        }
+    }
 }
 
 /// Whether a wait checks the key.

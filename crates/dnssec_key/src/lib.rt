@@ -16,7 +16,7 @@ mod state;
 mod table;
 
 pub use at_key::{
-    apply_setting, is_checked, mark_new, mark_old, move_on, stamp_report, unmark_new, unmark_old,
+    apply_setting, end_phase, is_checked, mark_new, mark_old, unmark_new, unmark_old,
 };
 pub use bits::{AlgorithmSet, TagIndex, TagSet, is_set, set};
 pub use column::Column;
@@ -29,7 +29,7 @@ pub use facts_for_proofs::{
 };
 pub use key::{Key, new_key};
 pub use kind::KeyType;
-pub use roll::{Action, Half, RollState, RollType, Side, Want};
+pub use roll::{Action, Half, PhaseEnd, RollState, RollType, Side, Want};
 pub use setting::Setting;
 pub use state::{Available, KeyState, is_kept_at_parent, is_kept_present};
 pub use table::{roll_name, side_of, stamp_read, wait_moves_kept};

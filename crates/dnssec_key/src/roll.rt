@@ -69,6 +69,15 @@ pub enum Half {
     Second,
 }
 
+/// What ends a phase of a roll.
+#[derive(Clone, Copy)]
+pub enum PhaseEnd {
+    /// The report of a change, with the highest TTL, in seconds, that a cache may still have.
+    Report(u32),
+    /// The wait for the caches.
+    Wait,
+}
+
 /// What the operator has to do in a roll.
 #[derive(Clone, Copy, Debug, PartialEq, Eq, Hash)]
 pub enum Action {

@@ -8,7 +8,7 @@ ghost use Rattle.dnssec_keyset.specs.Step.{Step, StartRoll, Report, Wait, RollDo
 ghost use Rattle.dnssec_keyset.specs.Step.{reply_list, start_refusal};
 
 use crate::set::KeySet;
-use dnssec_key::{Action, Error, Half, RollState, RollType, UnixTime};
+use dnssec_key::{Action, Error, Half, PhaseEnd, RollState, RollType, UnixTime};
 use dnssec_zone::{KeyMark, may_go_over};
 use std::alloc::Global;
 
@@ -253,7 +253,8 @@ impl KeySet {
     {
         // A report takes no memory, so one step checks the phase and writes it.
         self.rolls.take_report(rolltype, half, ttl)?;
-        self.keys.report_all(rolltype, half, ttl, *now);
+        self.keys
+            .end_phase(PhaseEnd::Report(ttl), rolltype, half, *now);
         self.lists.report(rolltype, half);
         Ok(Vec::new(self.alloc))
     }
@@ -269,7 +270,7 @@ impl KeySet {
     {
         self.check_wait(rolltype, half, now)?;
         let actions = list(self.alloc, rolltype.actions_in(half.after_expiry()))?;
-        self.keys.go_on_all(rolltype, half, *now);
+        self.keys.end_phase(PhaseEnd::Wait, rolltype, half, *now);
         self.rolls.move_to(rolltype, half.after_expiry());
         Ok(actions)
     }

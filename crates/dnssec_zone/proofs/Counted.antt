@@ -5,6 +5,7 @@ use Rattle.std.specs.FinMap.{from_entries, find, get, insert, remove, entries, e
 use Rattle.std.specs.FinMap.{entries-insert, get-entries, get-insert, get-remove, get-from_entries}
 use Rattle.dnssec_zone.specs.Inner.Counts.{bit, count, count_in, share, unlisted_passes}
 use Rattle.dnssec_zone.specs.Inner.Counts.{listed_passes, passes, CountsAgree, moves_counts}
+use Rattle.dnssec_zone.specs.Inner.Counts.{end_moves_kept}
 use Rattle.dnssec_zone.proofs.Quantified.{here-found, later-found, list_any-map, second}
 use Rattle.dnssec_zone.proofs.Walks.{AreApart, apart_by_bytes, entries_permute, put_permutes}
 use Rattle.std.proofs.lemmas.Bool.{and_right, cases_Bool, cond_both}
@@ -24,9 +25,10 @@ use Rattle.std.specs.{List.list_any, List.fold, List.Sorted.IsPermutation, Optio
 use Rattle.std.specs.{Str.bytes_eq, Ordering.nat_cmp, Ordering.eq_by_cmp, FinMap.Entries.is_sorted}
 use Rattle.dnssec_key.specs.{declared.kind.KeyType.KeyType, Key.KeyParts, Key.all_states}
 use Rattle.dnssec_key.specs.declared.roll.Half.{Half}
-use Rattle.dnssec_key.specs.{RollTable.half_of, RollTable.column}
-use Rattle.dnssec_key.specs.{RollTable.after_wait, Setters.Setting, Setters.set_by}
-use Rattle.dnssec_key.specs.{declared.roll.RollType.RollType, State.is_stale, Sides.wait_moves_kept}
+use Rattle.dnssec_key.specs.RollTable.{column}
+use Rattle.dnssec_key.specs.{RollTable.after_end, Setters.Setting, Setters.set_by}
+use Rattle.dnssec_key.specs.declared.roll.PhaseEnd.{PhaseEnd}
+use Rattle.dnssec_key.specs.{declared.roll.RollType.RollType, State.is_stale}
 use Rattle.std.specs.Int.{from_bool}
 use Rattle.std.specs.FinMap as fin
 
@@ -302,29 +304,30 @@ counts-walked m unique fits w =
     rw (← values_by_bytes m.entries) (folded w (entries_by_bytes m) no_counts
     (omega (arith, none-of w, these, fits-shown m unique fits w)) ∙ omega (arith, none-of w, these))
 
--- ---- what moves no count: a wait that changes no flag that a count asks for, and a stale key
+-- ---- what moves no count: a phase's end that changes no flag that a count asks for, a stale key
 
 -- a stale key serves for nothing
 pub stale-serves : (t : KeyType) → all_states is_stale t ≡ true → (w : Want)
     → serves_as_kept w t ≡ false
 stale-serves t stale w = grind arith
 
--- a wait that moves no count leaves each key to serve as before
-kept-moves : (roll : RollType) (half : Half) (t : KeyType) (w : Want)
-    → wait_moves_kept roll half ≡ false
-    → serves_as_kept w ((half_of roll half).moves t) ≡ serves_as_kept w t
+-- the end of a phase that moves no count leaves each key to serve as before
+kept-moves : (end : PhaseEnd) (roll : RollType) (half : Half) (now : ℕ) (w : Want) (k : KeyParts)
+    → end_moves_kept end roll half ≡ false
+    → serves_as_kept w (after_end end roll half now k).keytype ≡ serves_as_kept w k.keytype
 unfolding column
-kept-moves roll half t w e = grind arith
+kept-moves end roll half now w k e = grind arith
 
--- the counts after a wait; they are counted again if the wait may change them
-pub counts-waited : {Y S : Type 0} (roll : RollType) (half : Half) (now : ℕ) (before after : Counts)
-    (m n : HashMap (String Y) KeyParts S) → IsUnique string_eq m → IsUnique string_eq n
-    → IsWalked (after_wait roll half now) m n → CountsAgree before (keys_in_map m)
-    → (wait_moves_kept roll half ≡ true → CountsAgree after (keys_in_map n))
-    → (wait_moves_kept roll half ≡ false → after ≡ before) → CountsAgree after (keys_in_map n)
-counts-waited roll half now before after m n one two walk old moved kept =
-    elim (cases_Bool (wait_moves_kept roll half)) [
+-- the counts after the end of a phase; they are counted again if it may change them
+pub counts-ended : {Y S : Type 0} (end : PhaseEnd) (roll : RollType) (half : Half) (now : ℕ)
+    (before after : Counts) (m n : HashMap (String Y) KeyParts S) → IsUnique string_eq m
+    → IsUnique string_eq n → IsWalked (after_end end roll half now) m n
+    → CountsAgree before (keys_in_map m)
+    → (end_moves_kept end roll half ≡ true → CountsAgree after (keys_in_map n))
+    → (end_moves_kept end roll half ≡ false → after ≡ before) → CountsAgree after (keys_in_map n)
+counts-ended end roll half now before after m n one two walk old moved kept =
+    elim (cases_Bool (end_moves_kept end roll half)) [
       | inl e ↦ moved e
       | inr e ↦ rw (kept e) (counts-kept m n one two walk
-          (λ w k. kept-moves roll half k.keytype w e) before old)
+          (λ w k. kept-moves end roll half now w k e) before old)
     ]

@@ -9,7 +9,7 @@
 -- | `mark` and back                  | `mark_more`                    | Marks                    |
 -- | `may_go_over`                    | `same_algorithms`              | Starts                   |
 -- | `check_suitability`              | `all_met-is`                   | Starts                   |
--- | `go_on_all`, `delete`            | `counts-waited` and the like   | Counted                  |
+-- | `end_phase`, `delete`            | `counts-ended` and the like    | Counted                  |
 -- | `Lists`: the entries             | `entries_of-at`, `filtered`    | Listing                  |
 -- | the phases of rolls              | ruleset `phases`               | Phases                   |
 -- | `over_from`                      | `walked`, `latest-is`          | Latest, Longest          |

@@ -5,8 +5,9 @@ use Rattle.std.proofs.{Common.◌∙◌, Common.arith, lemmas.Bool.Decides.nat_t
 use Rattle.std.specs.{Prelude.Option, Prelude.IfSome, Prelude.nat_eq, Prelude.if◌then◌else◌}
 use Rattle.std.specs.{Str.bytes_eq, Cmp.Lexicographic.bytes_decides, Option.option_map, FinMap.get}
 use Rattle.std.specs.{HashMap.HashMap, declared.string.String.String, Cmp.both_ways}
-use Rattle.dnssec_key.specs.{Key.KeyParts, RollTable.after_early_end, Setters.Setting}
-use Rattle.dnssec_key.specs.{Setters.set_by, declared.roll.RollType.RollType}
+use Rattle.dnssec_key.specs.{Key.KeyParts, RollTable.after_early_end, RollTable.after_end}
+use Rattle.dnssec_key.specs.declared.roll.{Half.Half, PhaseEnd.PhaseEnd}
+use Rattle.dnssec_key.specs.{Setters.Setting, Setters.set_by, declared.roll.RollType.RollType}
 use Rattle.dnssec_zone.specs.{Inner.Entries.IsThere, Inner.Tags.TagsAgree, Keys.Keys, Keys.has_tag}
 use Rattle.dnssec_zone.specs.{Keys.keys_in_map, Keys.TagsApart}
 use Rattle.dnssec_zone.proofs.Counted.{count-changed, some-alike, some_key-counted}
@@ -24,6 +25,10 @@ kept_set setting k = grind arith
 pub kept_unmarked : (roll : RollType) (as_old as_new : Bool) (k : KeyParts)
     → (after_early_end roll as_old as_new k).key_tag ≡ k.key_tag
 kept_unmarked roll as_old as_new k = grind arith
+
+pub kept_ended : (end : PhaseEnd) (roll : RollType) (half : Half) (now : ℕ) (k : KeyParts)
+    → (after_end end roll half now k).key_tag ≡ k.key_tag
+kept_ended end roll half now k = grind arith
 
 -- a value that f gives of what was there
 pub mapped : (o : Option KeyParts) (f : KeyParts → KeyParts) (l : KeyParts)

@@ -2,11 +2,13 @@
 use Rattle.std.proofs.Common.{◌≡◌, ℕ, cond, List, [], ◌∷◌, map, Some, None, refl, sym, ap, ◌∙◌}
 use Rattle.std.specs.FinMap.{find, get-from_entries, same_map, slice_cmp-IsAntisymmetric}
 use Rattle.std.specs.FinMap.{nat_cmp-IsAntisymmetric, FinMap, from_entries, entries, entries-insert}
-use Rattle.std.proofs.Common.{arith, string_bytes, Bool, false, subst}
+use Rattle.std.proofs.Common.{arith, string_bytes, Bool, true, false, subst}
 use Rattle.std.proofs.lemmas.Map.Text.{is_text, is_eq-slice_cmp, text_keys}
 use Rattle.std.proofs.lemmas.List.Sorted.{IsPermutation-refl, IsPermutation-trans}
 use Rattle.std.proofs.lemmas.List.Sorted.{IsPermutation-cons, IsPermutation-middle}
 use Rattle.std.proofs.{lemmas.Map.Made.lookup-map_values, lemmas.List.Sorted.IsPermutation-map}
+use Rattle.std.proofs.lemmas.Map.Made.{map_same_pairs}
+use Rattle.std.specs.Map.Calls.{RetainsPairs}
 use Rattle.std.proofs.{lemmas.List.Sorted.list_any-IsPermutation, lemmas.List.nil_from_length}
 use Rattle.std.proofs.{lemmas.List.Recursion.same_from_clauses, lemmas.Map.lookup-none}
 use Rattle.std.specs.FinMap.{get-entries, len-entries, len-empty}
@@ -51,6 +53,14 @@ get-shown i v q e = sym (ap (λ (w : Keys). fin.get w q) e) ∙ get-keys_shown i
 pub record IsWalked {Y S : Type 0} (step : KeyParts → KeyParts)
     (m n : HashMap (String Y) KeyParts S) : Type 0 where
   pub is : n.entries ≡ map (λ (e : String Y × KeyParts). (e.0, step e.1)) m.entries
+
+-- `retain` is such a walk if it keeps every key
+pub retained : {F Y S : Type 0} (T : F → String Y → KeyParts → Bool → KeyParts → F → Type 0)
+    {step : KeyParts → KeyParts} {f : F} {m n : HashMap (String Y) KeyParts S}
+    → ((k : String Y) (v : KeyParts) (b : Bool) (w : KeyParts) (g : F) → T f k v b w g
+    → (b ≡ true) × (w ≡ step v) × (g ≡ f)) → RetainsPairs T f m.entries n.entries
+    → IsWalked step m n
+retained T {step} {f} says kept = record { is = map_same_pairs T step f says _ _ kept }
 
 -- what the keys show afterwards
 pub get-walked : {Y S : Type 0} {step : KeyParts → KeyParts} {m n : HashMap (String Y) KeyParts S}

@@ -7,10 +7,10 @@ ghost use Rattle.std.specs.{List.fold, Option.option_map, String.string_eq};
 ghost use Rattle.std.specs.HashMap as hash;
 ghost use Rattle.dnssec_base.specs.declared.error.Error.TheVariants.{OutOfMemory};
 ghost use Rattle.dnssec_key.specs.Setters.{setting_of, set_by};
-ghost use Rattle.dnssec_key.specs.Sides.{wait_moves_kept};
 ghost use Rattle.dnssec_key.specs.Inner.TagIndex.{has};
 ghost use Rattle.dnssec_zone.specs.Inner.Counts.{CountsAgree, count_after, count_of, counts_after};
-ghost use Rattle.dnssec_zone.specs.Inner.Counts.{moves_counts, no_counts, with_key, without_key};
+ghost use Rattle.dnssec_zone.specs.Inner.Counts.{end_moves_kept, moves_counts, no_counts, with_key};
+ghost use Rattle.dnssec_zone.specs.Inner.Counts.{without_key};
 ghost use Rattle.dnssec_zone.specs.Inner.KeyMark.{marked};
 ghost use Rattle.dnssec_zone.specs.Inner.Reported.{AreKnown, known_after, over_for};
 ghost use Rattle.dnssec_zone.specs.Inner.Tags.{TagsAgree};
@@ -20,7 +20,7 @@ ghost use Rattle.dnssec_zone.specs.Refusals.{Answers, reference_refusal};
 use crate::mark::KeyMark;
 use crate::wait_end::{KeyMap, Waits};
 use dnssec_key::{
-    Error, Half, Key, KeyType, RollType, Setting, TagIndex, Want, is_kept_at_parent,
+    Error, Half, Key, KeyType, PhaseEnd, RollType, Setting, TagIndex, Want, is_kept_at_parent,
     is_kept_present, mark_new, mark_old, wait_moves_kept,
 };
 use std::alloc::Global;
@@ -264,16 +264,6 @@ impl Derived {
         self.counts = count_all(keys);
     }
 
-    /// A report has stamped the keys. Tools ask often for the wait that it begins, so what a walk
-    /// finds out about that wait is kept.
-    pub(crate) fn report(&mut self, keys: &KeyMap, roll: RollType, half: Half, ttl: u32)
-        ensures tags { self.new.tags ≡ self.old.tags }
-        ensures counts { self.new.counts ≡ self.old.counts }
-        ensures waits { AreKnown self.new.waits (keys_in_map keys.now) }
-    {
-        self.waits.report(keys, roll, half, ttl);
-    }
-
     /// A wait is asked for: what walks find out about it is kept.
     pub(crate) fn find_wait(&mut self, keys: &KeyMap, roll: RollType, half: Half, ttl: u32)
         ensures tags { self.new.tags ≡ self.old.tags }
@@ -284,18 +274,25 @@ impl Derived {
         self.waits.find(keys, roll, half, ttl);
     }
 
-    /// A wait has moved the keys on. They are counted again if that may change a count.
-    pub(crate) fn go_on(&mut self, keys: &KeyMap, roll: RollType, half: Half)
+    /// A phase has ended. Tools ask often for the wait that a report begins, so what a walk finds
+    /// out about it is kept. A wait has moved the keys on: they are counted again if that may change
+    /// a count.
+    pub(crate) fn end_phase(&mut self, keys: &KeyMap, end: PhaseEnd, roll: RollType, half: Half)
         ensures tags { self.new.tags ≡ self.old.tags }
-        ensures moved { wait_moves_kept roll half ≡ true
+        ensures moved { end_moves_kept end roll half ≡ true
             → CountsAgree self.new.counts (keys_in_map keys.now) }
-        ensures kept { wait_moves_kept roll half ≡ false
+        ensures kept { end_moves_kept end roll half ≡ false
             → self.new.counts ≡ self.old.counts }
         ensures waits { AreKnown self.new.waits (keys_in_map keys.now) }
     {
-        self.waits.go_on(keys, roll);
-        if wait_moves_kept(roll, half) {
-            self.counts = count_all(keys);
+        match end {
+            PhaseEnd::Report(ttl) => self.waits.report(keys, roll, half, ttl),
+            PhaseEnd::Wait => {
+                self.waits.go_on(keys, roll);
+                if wait_moves_kept(roll, half) {
+                    self.counts = count_all(keys);
+                }
+            }
         }
     }
 }

@@ -5,7 +5,7 @@ ghost use Rattle.std.specs.{List.list_any, Option.option_map, Str.bytes_eq, Stri
 ghost use Rattle.std.specs.FinMap as map;
 ghost use Rattle.std.specs.HashMap as hash;
 ghost use Rattle.dnssec_base.specs.declared.error.Error.TheVariants.{OutOfMemory};
-ghost use Rattle.dnssec_key.specs.RollTable.{after_report, after_wait, after_early_end};
+ghost use Rattle.dnssec_key.specs.RollTable.{after_end, after_early_end};
 ghost use Rattle.dnssec_key.specs.Setters.{setting_of, set_by};
 ghost use Rattle.dnssec_key.specs.Inner.Bits.{is_set};
 ghost use Rattle.dnssec_zone.specs.Inner.{Counts.count_in, Counts.passes, KeyMark.marked};
@@ -19,7 +19,7 @@ use crate::derived::Derived;
 use crate::mark::KeyMark;
 use crate::wait_end::{KeyMap, over_from};
 use dnssec_key::{
-    Error, Half, Key, RollType, Setting, TagSet, UnixTime, Want, is_set, move_on, stamp_report,
+    Error, Half, Key, PhaseEnd, RollType, Setting, TagSet, UnixTime, Want, end_phase, is_set,
     unmark_new, unmark_old,
 };
 use std::alloc::Global;
@@ -244,29 +244,17 @@ impl Keys {
         self.derived.recount(&self.map);
     }
 
-    /// Stamps every key that a report speaks of.
-    pub fn report_all(&mut self, roll: RollType, half: Half, ttl: u32, now: UnixTime)
+    /// Changes every key as the end of a phase does.
+    pub fn end_phase(&mut self, end: PhaseEnd, roll: RollType, half: Half, now: UnixTime)
         ensures { (q : List ℕ) → map.get self.new q
-            ≡ option_map (after_report roll half now) (map.get self.old q) }
+            ≡ option_map (after_end end roll half now) (map.get self.old q) }
     {
         // `retain` says what is written on each key; it keeps them all.
         self.map.retain(|_, key| {
-            stamp_report(key, roll, half, now);
+            end_phase(key, end, roll, half, now);
             true
         });
-        self.derived.report(&self.map, roll, half, ttl);
-    }
-
-    /// Moves every key on, once a wait is over.
-    pub fn go_on_all(&mut self, roll: RollType, half: Half, now: UnixTime)
-        ensures { (q : List ℕ) → map.get self.new q
-            ≡ option_map (after_wait roll half now) (map.get self.old q) }
-    {
-        self.map.retain(|_, key| {
-            move_on(key, roll, half, now);
-            true
-        });
-        self.derived.go_on(&self.map, roll, half);
+        self.derived.end_phase(&self.map, end, roll, half);
     }
 
     /// The nanosecond since 1970 from which a wait of `ttl` seconds is over, or `None` if a stamp

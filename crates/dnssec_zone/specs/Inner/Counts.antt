@@ -3,7 +3,10 @@ use Rattle.std.specs.Prelude.{◌≡◌, ℕ, ◌+◌, ◌-◌, min, Bool, true,
 use Rattle.std.specs.Prelude.{Some, List, [], ◌∷◌}
 use Rattle.std.specs.FinMap.{entries}
 use Rattle.dnssec_key.specs.declared.kind.KeyType.{KeyType}
-use Rattle.dnssec_key.specs.Key.{KeyParts}
+use Rattle.dnssec_key.specs.declared.roll.PhaseEnd.{PhaseEnd}
+use Rattle.dnssec_key.specs.declared.roll.PhaseEnd.TheVariants.{Report, Wait}
+use Rattle.dnssec_key.specs.declared.roll.{Half.Half, RollType.RollType}
+use Rattle.dnssec_key.specs.{Key.KeyParts, Sides.wait_moves_kept}
 use Rattle.dnssec_key.specs.Setters.{Setting, Present, AtParent, Stale}
 use Rattle.dnssec_zone.specs.Keys.{Keys}
 use Rattle.dnssec_zone.specs.declared.derived.Counts.{Counts}
@@ -91,6 +94,11 @@ moves_counts (Present value now) = true
 moves_counts (AtParent value) = true
 moves_counts Stale = true
 moves_counts _ = false
+
+-- the end of a phase may change the counts; a report changes no flag
+abbrev pub end_moves_kept : PhaseEnd → RollType → Half → Bool
+end_moves_kept (Report ttl) roll half = false
+end_moves_kept Wait roll half = wait_moves_kept roll half
 
 -- each count is that of the keys
 abbrev pub CountsAgree : Counts → Keys → Type 0

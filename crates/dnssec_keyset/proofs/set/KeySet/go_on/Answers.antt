@@ -7,7 +7,7 @@ use Rattle.dnssec_keyset.proofs.set.KeySet.go_on.Goals as goal
 
 pub invariant_of-self : goal.invariant_of-self
 invariant_of-self c = (waited c.self.invariant _ c.args.rolltype c.args.half
-    c.args.now.now c.go_on_all.ensures).0
+    c.args.now.now c.end_phase.ensures).0
 
 pub returns : goal.returns
 returns c = accepted-step c.args.self.now _
@@ -20,6 +20,6 @@ returns c = accepted-step c.args.self.now _
       name = refl;
       rolls = c.move_to.ensures;
       lists = (waited c.self.invariant _ c.args.rolltype c.args.half c.args.now.now
-          c.go_on_all.ensures).1;
-      keys = c.go_on_all.ensures;
+          c.end_phase.ensures).1;
+      keys = c.end_phase.ensures;
     })

@@ -6,7 +6,7 @@ use Rattle.dnssec_keyset.proofs.set.KeySet.report.Goals as goal
 
 pub invariant_of-self-2 : goal.invariant_of-self-2
 invariant_of-self-2 c = rw (c.report.ensures) (reported c.self.invariant _
-    c.args.rolltype c.args.half c.args.now.now c.report_all.ensures).0
+    c.args.rolltype c.args.half c.args.now.now c.end_phase.ensures).0
 
 pub returns : goal.returns
 returns c = rw (← c.self.view_is) (accepted-step (the_view c.self.inside) _
@@ -15,8 +15,8 @@ returns c = rw (← c.self.view_is) (accepted-step (the_view c.self.inside) _
       name = refl;
       rolls = c.in_ok-take_report.ensures.ok;
       lists = rw (c.report.ensures) (reported c.self.invariant _ c.args.rolltype
-          c.args.half c.args.now.now c.report_all.ensures).1;
-      keys = c.report_all.ensures;
+          c.args.half c.args.now.now c.end_phase.ensures).1;
+      keys = c.end_phase.ensures;
     }))
 
 -- the roll refuses for the report's only cause

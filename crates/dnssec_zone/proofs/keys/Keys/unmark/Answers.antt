@@ -1,16 +1,14 @@
 -- The walk undoes the start on each key that is listed; all are counted again.
-use Rattle.std.proofs.{Common.rules, lemmas.Map.Made.map_same_pairs}
+use Rattle.std.proofs.Common.{rules}
 use Rattle.dnssec_key.specs.{RollTable.after_early_end, Inner.Bits.is_set}
-use Rattle.dnssec_zone.proofs.Walks.{IsWalked, get-walked}
+use Rattle.dnssec_zone.proofs.Walks.{IsWalked, get-walked, retained}
 use Rattle.dnssec_zone.proofs.Tags.{tags-walked, kept_unmarked}
 use Rattle.dnssec_zone.proofs.keys.Keys.unmark.Goals as goal
 
 walk : (c : goal.After-recount) → IsWalked (λ k. after_early_end c.args.roll
     (is_set c.args.olds.now k.key_tag) (is_set c.args.news.now k.key_tag) k)
     c.self.inside.map c.retain.new.self
-walk c = record {
-  is = map_same_pairs _ _ _ (λ k v b w f t. search rules) _ _ c.retain.ensures.filtered;
-}
+walk c = retained _ (λ k v b w f t. search rules) c.retain.ensures.filtered
 
 pub returns : goal.returns
 returns c = get-walked (walk c) c.self.view_is
