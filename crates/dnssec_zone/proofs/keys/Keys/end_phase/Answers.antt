@@ -1,8 +1,8 @@
 -- The walk changes each key as the end of a phase does. If a count may change, all are counted.
-use Rattle.std.proofs.{Common.◌≡◌, Common.refl, Common.rules}
-use Rattle.dnssec_key.specs.{Key.KeyParts, RollTable.after_end}
-use Rattle.dnssec_zone.proofs.{Counted.counts-ended, Walks.IsWalked, Walks.get-walked}
-use Rattle.dnssec_zone.proofs.Walks.{retained}
+use Rattle.std.proofs.Common.{rules}
+use Rattle.dnssec_key.specs.RollTable.{after_end}
+use Rattle.dnssec_zone.proofs.Counted.{counts-ended}
+use Rattle.dnssec_zone.proofs.Walks.{IsWalked, get-walked, retained}
 use Rattle.dnssec_zone.proofs.Tags.{kept_ended, tags-walked}
 use Rattle.dnssec_zone.proofs.keys.Keys.end_phase.Goals as goal
 
