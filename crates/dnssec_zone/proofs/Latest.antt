@@ -5,7 +5,8 @@ use Rattle.std.proofs.Common.{sym, ◌∙◌, max, arith, not, min, None, ap, ma
 use Rattle.std.specs.Prelude.{nat_lt, Option, is_none, ◌*◌, ◌-◌, ◌&&◌, ◌||◌, if◌then◌else◌}
 use Rattle.std.specs.Prelude.{unwrap_or, IfNone, IfSome, nat_eq}
 use Rattle.std.specs.{List.list_any, List.fold, FinMap.get, FinMap.remove, FinMap.values}
-use Rattle.std.specs.{Option.option_eq, Option.option_map_or, Str.bytes_eq}
+use Rattle.std.specs.{FinMap.entries, Option.option_eq, Option.option_map_or, Option.option_map}
+use Rattle.std.specs.{Option.option_and_then, Str.bytes_eq}
 use Rattle.std.specs.HashMap.{HashMap, IsUnique, values as hash_values}
 use Rattle.std.specs.{String.string_eq, declared.string.String.String}
 use Rattle.std.specs.Cmp.Lexicographic.{bytes_decides}
@@ -20,13 +21,13 @@ use Rattle.dnssec_zone.specs.Wait.{wait_in_phase, IsOverFrom, LacksStamp}
 use Rattle.dnssec_zone.specs.{Keys.Keys, Keys.keys_in_map, Keys.some_key, Keys.TagsApart}
 use Rattle.dnssec_zone.specs.Inner.Over.{over_at, over_but, later}
 use Rattle.dnssec_zone.specs.Inner.Reported.{IsLatest, IsKnown, IsByOthers, over_for, known_after}
-use Rattle.dnssec_zone.specs.Inner.Reported.{known_beside, by_others}
-use Rattle.dnssec_zone.specs.Inner.Counts.{count_in}
+use Rattle.dnssec_zone.specs.Inner.Reported.{known_beside, by_latest, by_others, moved}
+use Rattle.dnssec_zone.specs.Inner.Counts.{count, count_in}
 use Rattle.dnssec_zone.specs.declared.wait_end.ReportedWait.{ReportedWait}
 use Rattle.dnssec_zone.specs.declared.wait_end.Others.{Others}
 use Rattle.dnssec_zone.proofs.{Walks.some_key-shown, Tests.some_or_none}
 use Rattle.dnssec_zone.proofs.Counted.{some-alike, some_key-counted, count-at, count-same}
-use Rattle.dnssec_zone.proofs.Counted.{get-without}
+use Rattle.dnssec_zone.proofs.Counted.{count-changed, get-without}
 use Rattle.dnssec_zone.proofs.Longest.{longest-by, none-left, some-left}
 
 module _ (f : KeyParts → Option ℕ) where
@@ -119,6 +120,39 @@ module _ (f : KeyParts → Option ℕ) where
       follow None h = tt
       follow (Some end) h = λ i. some-alike (past i) m n r o is (seen-past i (get m r)
           ∙ ap (λ s. nat_lt i (unwrap_or s 0)) same ∙ sym (seen-past i o)) ∙ h i
+
+-- no more keys are past a later moment
+fewer : (f : KeyParts → Option ℕ) (i b : ℕ) → i ≤ b → (es : List (List ℕ × KeyParts))
+    → count (λ q. past f b) es ≤ count (λ q. past f i) es
+fewer f i b less [] = omega arith
+fewer f i b less (e ∷ es) = grind (arith, nat_tests, fewer f i b less es)
+
+-- a key's moment changes, and the latest follows
+follows : (f : KeyParts → Option ℕ) (m n : Keys) (r : List ℕ) (k l : KeyParts) (b a end : ℕ)
+    → get m r ≡ Some k
+    → ((q : List ℕ) → get n q ≡ (if bytes_eq r q then Some l else get m q))
+    → f k ≡ Some b → f l ≡ Some a → (nat_lt b end || not (nat_lt a b)) ≡ true
+    → IsLatest f m (Some end) → IsLatest f n (Some (max end a))
+follows f m n r k l b a end found is was now known old = record {
+  lacks = some-alike (lacks f) m n r (Some l) is (grind (arith, found, was, now)) ∙ old.lacks;
+  past = λ i. grind (
+    arith,
+    nat_tests,
+    some_key-counted (past f i) m,
+    some_key-counted (past f i) n,
+    some_key-counted (past f b) m,
+    count-at (λ q. past f i) m r,
+    count-at (λ q. past f b) m r,
+    count-changed (λ q. past f i) m n r (Some l) is,
+    (λ (less : i ≤ b). fewer f i b less (entries (remove m r))),
+    found,
+    was,
+    now,
+    known,
+    old.past i,
+    old.past b,
+  );
+}
 
 -- tests that agree on each key
 some-same : (p q : KeyParts → Bool) (keys : Keys) → ((k : KeyParts) → p k ≡ q k)
@@ -294,7 +328,8 @@ pub known-after : (m n : Keys) (r : List ℕ) (k l : KeyParts) → get m r ≡ S
 known-after m n r k l found is tag apart None old = tt
 known-after m n r k l found is tag apart (Some wait) old = cond_both
     (option_eq nat_eq (over_for (Some wait) l) (over_for (Some wait) k)) (Some wait)
-    (known_beside k.key_tag (over_for (Some wait) l) wait) (λ o. IsKnown o n)
+    (known_beside k.key_tag (over_for (Some wait) k) (over_for (Some wait) l) wait)
+    (λ o. IsKnown o n)
     (λ e.
     let same : over_for (Some wait) l ≡ over_for (Some wait) k = equal _ _ e in
     known-alike m n r (Some l) is wait (ap (seen (over_for (Some wait))) found ∙ sym same)
@@ -312,12 +347,27 @@ known-after m n r k l found is tag apart (Some wait) old = cond_both
     rest t e x h = latest-alike (but wait t) m n r (Some l) is
         (ap (seen (but wait t)) found ∙ (grind (arith, nat_tests, e, tag))) x h
 
+    f : KeyParts → Option ℕ
+    f = over_for (Some wait)
+
+    -- by the latest moment so far
+    latest : (b a end : Option ℕ) → f k ≡ b → f l ≡ a → IsLatest f m end → IsKnown (option_map
+        (λ x. record wait { over = Some x; others = None }) (option_and_then (moved b a) end)) n
+    latest b a None was now old = tt
+    latest None a (Some end) was now old = tt
+    latest (Some b) None (Some end) was now old = tt
+    latest (Some b) (Some a) (Some end) was now old = cond_both (nat_lt b end || not (nat_lt a b))
+        (Some (max end a)) None
+        (λ o. IsKnown (option_map (λ x. record wait { over = Some x; others = None }) o) n)
+        (λ known. (follows f m n r k l b a end found is was now known old, tt))
+        (λ unknown. tt)
+
     beside : (x : Option Others) → wait.others ≡ x
         → IsByOthers wait.roll wait.half wait.ttl x m
-        → IsKnown (by_others k.key_tag (over_for (Some wait) l) wait x) n
-    beside None e h = tt
+        → IsKnown (by_others k.key_tag (f k) (f l) wait x) n
+    beside None e h = latest (f k) (f l) wait.over refl refl old.0
     beside (Some x) e h = cond_both (nat_eq x.but k.key_tag)
-        (Some (record wait { over = later x.over (over_for (Some wait) l) })) None
+        (Some (record wait { over = later x.over (f l) })) (by_latest (f k) (f l) wait)
         (λ o. IsKnown o n)
         (λ t.
         let is_its : x.but ≡ l.key_tag = grind (arith, nat_tests, t, tag) in
@@ -326,7 +376,7 @@ known-after m n r k l found is tag apart (Some wait) old = cond_both
               (subst (λ t. IsLatest (but wait t) n x.over) is_its kept),
           rw e kept,
         ))
-        (λ t. tt)
+        (λ t. latest (f k) (f l) wait.over refl refl old.0)
 
 -- ---- a stale key that goes
 

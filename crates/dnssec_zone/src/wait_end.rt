@@ -4,7 +4,7 @@ ghost use Rattle.std.specs.Option.{option_and_then};
 ghost use Rattle.dnssec_key.specs.Setters.{setting_of, set_by};
 ghost use Rattle.dnssec_zone.specs.Inner.Over.{over_at, over_but, later};
 ghost use Rattle.dnssec_zone.specs.Inner.Reported.{IsKnown, IsLatest, IsByOthers, AreKnown};
-ghost use Rattle.dnssec_zone.specs.Inner.Reported.{over_for, known_after, known_beside};
+ghost use Rattle.dnssec_zone.specs.Inner.Reported.{moved, over_for, known_after, known_beside};
 ghost use Rattle.dnssec_zone.specs.Keys.{Keys as AnyKeys, keys_in_map};
 
 use dnssec_key::{
@@ -56,21 +56,41 @@ impl ReportedWait {
         over_for(self.roll, self.half, self.ttl, key)
     }
 
-    /// The same wait after it saw a change in the key with a tag, if it is known by the others.
+    /// The same wait after it saw a change in the key with a tag, if it is known by the others, or
+    /// by the latest moment so far.
     #[inline(never)]
-    fn beside(&self, key_tag: u16, over: Option<u128>) -> Option<ReportedWait>
-        ensures { result ≡ known_beside key_tag over self.now }
+    fn beside(
+        &self,
+        key_tag: u16,
+        before: Option<u128>,
+        after: Option<u128>,
+    ) -> Option<ReportedWait>
+        ensures { result ≡ known_beside key_tag before after self.now }
     {
         match self.others {
             Some(others) if others.but == key_tag => Some(ReportedWait {
-                roll: self.roll,
-                half: self.half,
-                ttl: self.ttl,
-                over: later(others.over, over),
-                others: Some(others),
+                over: later(others.over, after),
+                ..*self
             }),
-            _ => None,
+            _ => Some(ReportedWait {
+                over: Some(moved(before, after, self.over?)?),
+                others: None,
+                ..*self
+            }),
         }
+    }
+}
+
+/// The latest of the moments of all keys after that of one has changed: as it was, or the new one.
+/// It isn't known if the latest of all may have become earlier.
+fn moved(before: Option<u128>, after: Option<u128>, latest: u128) -> Option<u128>
+    ensures { result ≡ moved before after latest }
+{
+    match (before, after) {
+        (Some(before), Some(after)) if before < latest || before <= after => {
+            Some(latest.max(after))
+        }
+        _ => None,
     }
 }
 
@@ -95,11 +115,16 @@ fn seen(wait: &Option<ReportedWait>, key: &Key) -> Option<u128>
 }
 
 /// What is known of a wait after it saw a change in the key with a tag.
-fn beside(wait: &Option<ReportedWait>, key_tag: u16, over: Option<u128>) -> Option<ReportedWait>
-    ensures { result ≡ option_and_then (known_beside key_tag over) wait.now }
+fn beside(
+    wait: &Option<ReportedWait>,
+    key_tag: u16,
+    before: Option<u128>,
+    after: Option<u128>,
+) -> Option<ReportedWait>
+    ensures { result ≡ option_and_then (known_beside key_tag before after) wait.now }
 {
     match wait {
-        Some(wait) => wait.beside(key_tag, over),
+        Some(wait) => wait.beside(key_tag, before, after),
         None => None,
     }
 }
@@ -107,9 +132,11 @@ fn beside(wait: &Option<ReportedWait>, key_tag: u16, over: Option<u128>) -> Opti
 /// What is known of the waits in progress. Two rolls at most go side by side, one of KSKs and one
 /// of ZSKs; a roll of both stands in the place of the KSKs.
 ///
-/// A setter costs no walk. If a wait sees a change in a key, the next refused wait walks twice, and
-/// keeps what it finds by that key and by the others; further changes of that key then cost no
-/// walk. So in the worst case stamps of two keys are set in turn, and each wait walks.
+/// A setter costs no walk. Nor does a wait after it, if the setter moved a key that isn't the last
+/// one, or moved the last one to a later moment. Else the next refused wait walks twice, and keeps
+/// what it finds by that key and by the others; further changes of that key then cost no walk. So in
+/// the worst case the last of all keys, another one each time, is moved back, and each such wait
+/// walks.
 #[derive(Clone, Copy)]
 pub(crate) struct Waits {
     pub(crate) of_ksks: Option<ReportedWait>,
@@ -189,11 +216,11 @@ impl Waits {
             ≡ known_after key_tag before.of_zsks after.of_zsks self.old.of_zsks }
     {
         if after.of_ksks != before.of_ksks {
-            self.of_ksks = beside(&self.of_ksks, key_tag, after.of_ksks);
+            self.of_ksks = beside(&self.of_ksks, key_tag, before.of_ksks, after.of_ksks);
             self.changed = Some(key_tag);
         }
         if after.of_zsks != before.of_zsks {
-            self.of_zsks = beside(&self.of_zsks, key_tag, after.of_zsks);
+            self.of_zsks = beside(&self.of_zsks, key_tag, before.of_zsks, after.of_zsks);
             self.changed = Some(key_tag);
         }
     }

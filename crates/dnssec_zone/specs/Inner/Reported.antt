@@ -1,7 +1,7 @@
 -- What is known of the waits in progress.
 use Rattle.std.specs.Prelude.{◌≡◌, Option, None, Some, IfSome, ℕ, nat_eq, nat_lt, is_none}
-use Rattle.std.specs.Prelude.{if◌then◌else◌, unwrap_or}
-use Rattle.std.specs.Option.{option_eq, option_and_then}
+use Rattle.std.specs.Prelude.{if◌then◌else◌, unwrap_or, ◌||◌, not, max}
+use Rattle.std.specs.Option.{option_eq, option_and_then, option_map}
 use Rattle.dnssec_key.specs.Key.{KeyParts}
 use Rattle.dnssec_key.specs.declared.roll.Half.{Half}
 use Rattle.dnssec_key.specs.declared.roll.RollType.{RollType}
@@ -39,18 +39,34 @@ abbrev pub over_for : Option ReportedWait → KeyParts → Option ℕ
 over_for None k = None
 over_for (Some wait) k = over_at wait.roll wait.half wait.ttl k
 
--- what is known by the others once the key with a tag has changed
-abbrev pub by_others : ℕ → Option ℕ → ReportedWait → Option Others → Option ReportedWait
-by_others tag over wait None = None
-by_others tag over wait (Some x) =
-    if nat_eq x.but tag then Some (record wait { over = later x.over over }) else None
+-- the latest moment of all keys once that of one has changed; not known if the latest may have
+-- become earlier
+abbrev pub moved : Option ℕ → Option ℕ → ℕ → Option ℕ
+moved None after latest = None
+moved (Some b) None latest = None
+moved (Some b) (Some a) latest =
+    if nat_lt b latest || not (nat_lt a b) then Some (max latest a) else None
 
-abbrev pub known_beside : ℕ → Option ℕ → ReportedWait → Option ReportedWait
-known_beside tag over wait = by_others tag over wait wait.others
+-- what is known by that alone
+abbrev pub by_latest : Option ℕ → Option ℕ → ReportedWait → Option ReportedWait
+by_latest before after wait = option_map
+    (λ latest. record wait { over = Some latest; others = None })
+    (option_and_then (moved before after) wait.over)
+
+-- what is known, by the others if it is their key, once the key with a tag has changed
+abbrev pub by_others : ℕ → Option ℕ → Option ℕ → ReportedWait → Option Others
+    → Option ReportedWait
+by_others tag before after wait None = by_latest before after wait
+by_others tag before after wait (Some x) =
+    if nat_eq x.but tag then Some (record wait { over = later x.over after })
+    else by_latest before after wait
+
+abbrev pub known_beside : ℕ → Option ℕ → Option ℕ → ReportedWait → Option ReportedWait
+known_beside tag before after wait = by_others tag before after wait wait.others
 
 -- what is known of a wait after the key with a tag has changed: as much as before, if the wait sees
 -- no change
 abbrev pub known_after : ℕ → Option ℕ → Option ℕ → Option ReportedWait → Option ReportedWait
 known_after tag before after known =
     if option_eq nat_eq after before then known
-    else option_and_then (known_beside tag after) known
+    else option_and_then (known_beside tag before after) known
