@@ -1,5 +1,6 @@
 pub mod Asked
 pub mod ByAlgorithm
+pub mod ByKind
 pub mod EarlyEnds
 pub mod Frames
 pub mod Moments

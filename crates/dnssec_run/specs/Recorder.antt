@@ -15,13 +15,13 @@ use Rattle.dnssec_key.specs.declared.kind.KeyType.{KeyType}
 use Rattle.dnssec_key.specs.Key.{KeyParts}
 use Rattle.dnssec_keyset.specs.KeySet.{KeySetParts}
 use Rattle.dnssec_keyset.specs.Step as keyset
+use Rattle.dnssec_run.specs.declared.caches.ByKind.{ByKind}
 use Rattle.dnssec_run.specs.declared.call.Call.{Call}
 use Rattle.dnssec_run.specs.declared.call.KeyChange.{KeyChange}
 use Rattle.dnssec_run.specs.declared.call.KeyChange.TheVariants.{Adds, Deletes}
 use Rattle.dnssec_run.specs.declared.record.Entry.{Entry}
 use Rattle.dnssec_run.specs.declared.record.Outcome.{Outcome}
 use Rattle.dnssec_run.specs.declared.record.Published.{Published}
-use Rattle.dnssec_run.specs.declared.record.Touched.{Touched}
 use Rattle.dnssec_run.specs.declared.sets.Renewal.{Renewal}
 use Rattle.dnssec_run.specs.declared.running.Recorder.{Recorder}
 use Rattle.dnssec_run.specs.declared.sets.Shown.{Shown}
@@ -79,12 +79,12 @@ ChangesOnly None v w = Unit {0}
 ChangesOnly (Some reference) v w = ChangesAt reference v w
 
 -- the sets of the kinds that a call doesn't touch are the same after it
-pub record Leaves (touched : Touched) (v w : World) : Type 0 where
+pub record Leaves (touched : ByKind Bool) (v w : World) : Type 0 where
   pub ds : touched.ds ≡ false → keys_where in_ds w ≡ keys_where in_ds v
   pub dnskey : touched.dnskey ≡ false → keys_where in_dnskey w ≡ keys_where in_dnskey v
   pub dnskey_signers : touched.dnskey ≡ false →
       keys_where signs_dnskey w ≡ keys_where signs_dnskey v
-  pub zone_signers : touched.zone_signers ≡ false →
+  pub zone_signers : touched.zone ≡ false →
       keys_where signs_zone w ≡ keys_where signs_zone v
 
 -- ---- the place of one key in a set

@@ -1,7 +1,8 @@
-//! What caches hold of a record, and what a report retires of it.
+//! The kinds of sets that caches hold of a record, and what a report retires of them.
 ghost use Rattle.std.specs.Prelude.{◌≡◌};
 ghost use Rattle.dnssec_key.specs.RollTable.{is_second};
 ghost use Rattle.dnssec_run.specs.Asked.{report_of};
+ghost use Rattle.dnssec_run.specs.ByKind.{at_kind};
 ghost use Rattle.dnssec_run.specs.Safe.{kind_of, retires};
 
 use dnssec_keyset::{Action, Half, RollState, RollType};
@@ -15,6 +16,43 @@ pub enum SetKind {
     Dnskey,
     /// The keys that sign the zone.
     ZoneSigners,
+}
+
+/// One value for each kind of sets.
+#[derive(Clone, Copy, Debug, Drop, PartialEq, Eq)]
+pub struct ByKind<T> {
+    pub ds: T,
+    pub dnskey: T,
+    pub zone: T,
+}
+
+impl ByKind<bool> {
+    /// No kind.
+    pub(crate) const NONE: ByKind<bool> = ByKind {
+        ds: false,
+        dnskey: false,
+        zone: false,
+    };
+
+    /// All kinds.
+    pub(crate) const ALL: ByKind<bool> = ByKind {
+        ds: true,
+        dnskey: true,
+        zone: true,
+    };
+}
+
+impl<T: Copy> ByKind<T> {
+    /// That of a kind.
+    pub fn of(self, kind: SetKind) -> T
+        ensures { result ≡ at_kind self (kind_of kind) }
+    {
+        match kind {
+            SetKind::Ds => self.ds,
+            SetKind::Dnskey => self.dnskey,
+            SetKind::ZoneSigners => self.zone,
+        }
+    }
 }
 
 /// Whether a report of the roll retires sets of this kind: those that the actions due ask to

@@ -4,11 +4,13 @@ ghost use Rattle.std.specs.Option.{option_map};
 ghost use Rattle.dnssec_base.specs.declared.error.Error.TheVariants.{OutOfMemory};
 ghost use Rattle.dnssec_keyset.specs.Step.{Step, reply_done, reply_list};
 ghost use Rattle.dnssec_run.specs.Asked.{sets_shown};
-ghost use Rattle.dnssec_run.specs.Safe.{Ds, Dnskey, ZoneSigners};
+ghost use Rattle.dnssec_run.specs.ByKind.{at_kind};
+ghost use Rattle.dnssec_run.specs.Safe.{SetKind};
 ghost use Rattle.dnssec_run.specs.Recorder.{put_by, reference_deleted, reference_set, taken_by};
 ghost use Rattle.dnssec_run.specs.Record.{call_of, mark_of, call_moment, reference_added, reply_of};
 
-use crate::record::{Mark, Reply, Touched};
+use crate::caches::ByKind;
+use crate::record::{Mark, Reply};
 use dnssec_base::SecurityAlgorithm;
 use dnssec_keyset::{Action, Available, Error, KeySet, RollType, UnixTime};
 
@@ -181,38 +183,42 @@ impl<'a> Call<'a> {
         }
     }
 
-    /// What the call sets by hand: a key, and the kinds of sets that show what it sets.
-    pub(crate) fn by_hand(&self) -> Touched<'a>
-        ensures ds { result.ds ≡ sets_shown Ds (call_of self.now) }
-        ensures dnskey { result.dnskey ≡ sets_shown Dnskey (call_of self.now) }
-        ensures zone_signers { result.zone_signers ≡ sets_shown ZoneSigners (call_of self.now) }
-        ensures only { option_map (λ r. r.now) result.only ≡ reference_set (call_of self.now) }
+    /// The kinds of sets that show what the call sets by hand.
+    pub(crate) fn sets_shown(&self) -> ByKind<bool>
+        ensures { (kind : SetKind) → at_kind result kind ≡ sets_shown kind (call_of self.now) }
     {
         match self {
-            Call::SetPresent { pubref, .. } => Touched {
+            Call::SetPresent { .. } => ByKind {
                 dnskey: true,
-                ..Touched::key(pubref)
+                ..ByKind::NONE
             },
-            Call::SetSigner { pubref, .. } => Touched {
-                dnskey: true,
-                zone_signers: true,
-                ..Touched::key(pubref)
+            Call::SetSigner { .. } => ByKind {
+                ds: false,
+                ..ByKind::ALL
             },
-            Call::SetAtParent { pubref, .. } => Touched {
+            Call::SetAtParent { .. } => ByKind {
                 ds: true,
-                ..Touched::key(pubref)
+                ..ByKind::NONE
             },
-            Call::SetStale { pubref } => Touched {
-                ds: true,
-                dnskey: true,
-                zone_signers: true,
-                ..Touched::key(pubref)
-            },
+            Call::SetStale { .. } => ByKind::ALL,
+            _ => ByKind::NONE,
+        }
+    }
+
+    /// The reference of the key that the call sets by hand, if any.
+    pub(crate) fn reference_set(&self) -> Option<&'a str>
+        ensures { option_map (λ r. r.now) result ≡ reference_set (call_of self.now) }
+    {
+        match self {
             Call::SetDecoupled { pubref, .. }
+            | Call::SetPresent { pubref, .. }
+            | Call::SetSigner { pubref, .. }
+            | Call::SetAtParent { pubref, .. }
+            | Call::SetStale { pubref }
             | Call::SetVisible { pubref, .. }
             | Call::SetDsVisible { pubref, .. }
-            | Call::SetRrsigVisible { pubref, .. } => Touched::key(pubref),
-            _ => Touched::NOTHING,
+            | Call::SetRrsigVisible { pubref, .. } => Some(pubref),
+            _ => None,
         }
     }
 

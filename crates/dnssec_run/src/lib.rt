@@ -16,7 +16,7 @@ mod running;
 mod sets;
 mod steps;
 
-pub use caches::{SetKind, retires};
+pub use caches::{ByKind, SetKind, retires};
 pub use call::Call;
 pub use frames::{Frame, Frames};
 pub use in_order::keys_in_order;

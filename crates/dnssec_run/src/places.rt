@@ -8,8 +8,9 @@ ghost use Rattle.dnssec_run.specs.Published.{IsPublished, World, id_of};
 ghost use Rattle.dnssec_run.specs.Recorder.{Agrees, ChangesAt, HasSameKeys, IsAscending, Leaves};
 ghost use Rattle.dnssec_run.specs.Recorder.{SetsPlace, position_shown, shows};
 
+use crate::caches::ByKind;
 use crate::frames::{Frame, Frames};
-use crate::record::{Published, PublishedKey, Touched};
+use crate::record::{Published, PublishedKey};
 use crate::sets::Shown;
 use dnssec_keyset::{Error, Key, KeySet};
 use std::alloc::Global;
@@ -22,14 +23,14 @@ pub(crate) fn renew_key(
     keyset: &KeySet,
     added: &BTreeMap<String, usize>,
     sets: &mut Published,
-    touched: Touched<'_>,
+    touched: ByKind<bool>,
     reference: &str,
     frames: &mut Frames,
 ) -> Result<bool, Error>
     ensures kept { IfOk result (λ changed. changed ≡ false → sets.new ≡ sets.old) }
     ensures changed { IfOk result (λ changed. changed ≡ true → ¬ HasSameKeys sets.old sets.new) }
     ensures frames { OnOk result (KeepsFrames frames.new sets.old sets.new) }
-    ensures read { OnOk result ((v w : World) → IsPublished sets.old v → Leaves touched.entry v w →
+    ensures read { OnOk result ((v w : World) → IsPublished sets.old v → Leaves touched v w →
         ChangesAt reference.now v w → Agrees keyset.now (tree.get_by_text added.now) w →
         IsPublished sets.new w) }
     ensures err { IfErr result (λ e. e ≡ OutOfMemory) }
@@ -56,7 +57,7 @@ pub(crate) fn renew_key(
     let to = position(Shown::ZoneSigners, key, at);
     let keys = &mut sets.zone_signers;
     let frame = &mut frames.zone_signers;
-    let zone = renew_place(alloc, touched.zone_signers, keys, to, reference, frame)?;
+    let zone = renew_place(alloc, touched.zone, keys, to, reference, frame)?;
     Ok(ds | dnskey | signers | zone)
 }
 

@@ -1,13 +1,14 @@
 //! What a run leaves: its entries, with what was published at each position. And which sets a call
-//! has touched.
-ghost use Rattle.std.specs.Prelude.{◌≡◌, ◌||◌, [], Some, false, map};
+//! may have changed.
+ghost use Rattle.std.specs.Prelude.{◌≡◌, ◌||◌, [], map};
 ghost use Rattle.std.specs.List.{list_any};
 ghost use Rattle.dnssec_run.specs.Asked.{asked_by, updates};
+ghost use Rattle.dnssec_run.specs.ByKind.{at_kind};
 ghost use Rattle.dnssec_run.specs.Origins.{set_in};
 ghost use Rattle.dnssec_run.specs.Published.{id_of};
-ghost use Rattle.dnssec_run.specs.Safe.{Ds, Dnskey, ZoneSigners, kind_of};
+ghost use Rattle.dnssec_run.specs.Safe.{SetKind as AnyKind, kind_of};
 
-use crate::caches::SetKind;
+use crate::caches::{ByKind, SetKind};
 use crate::frames::Frames;
 use dnssec_keyset::{Action, Error, KeySet, RollType, UnixTime};
 use std::alloc::Global;
@@ -24,56 +25,19 @@ pub enum Reply {
 }
 
 impl Reply {
-    /// What the call touched: what it set by hand, and the sets that its reply asks to publish.
-    pub(crate) fn touched<'a>(&self, by_hand: Touched<'a>) -> Touched<'a>
-        ensures ds { result.ds ≡ (by_hand.entry.ds || list_any (updates Ds) (asked_by self.now)) }
-        ensures dnskey { result.dnskey
-            ≡ (by_hand.entry.dnskey || list_any (updates Dnskey) (asked_by self.now)) }
-        ensures zone_signers { result.zone_signers
-            ≡ (by_hand.entry.zone_signers || list_any (updates ZoneSigners) (asked_by self.now)) }
-        ensures only { result.only ≡ by_hand.entry.only }
+    /// The kinds of sets that the call may have changed: those that show what it set by hand, and
+    /// those that its reply asks to publish.
+    pub(crate) fn touched(&self, by_hand: ByKind<bool>) -> ByKind<bool>
+        ensures { (kind : AnyKind) → at_kind result kind
+            ≡ (at_kind by_hand kind || list_any (updates kind) (asked_by self.now)) }
     {
         match self {
-            Reply::Actions(actions) => Touched {
+            Reply::Actions(actions) => ByKind {
                 ds: by_hand.ds || actions.contains(&Action::UpdateDsRrset),
                 dnskey: by_hand.dnskey || actions.contains(&Action::UpdateDnskeyRrset),
-                zone_signers: by_hand.zone_signers || actions.contains(&Action::UpdateRrsig),
-                only: by_hand.only,
+                zone: by_hand.zone || actions.contains(&Action::UpdateRrsig),
             },
             _ => by_hand,
-        }
-    }
-}
-
-/// What a call touches: the kinds of sets that it may change.
-#[derive(Clone, Copy)]
-pub(crate) struct Touched<'a> {
-    pub(crate) ds: bool,
-    pub(crate) dnskey: bool,
-    pub(crate) zone_signers: bool,
-    /// The reference of the one key that it changes there, if the call sets a key by hand.
-    pub(crate) only: Option<&'a str>,
-}
-
-impl<'a> Touched<'a> {
-    /// The call sets nothing by hand.
-    pub(crate) const NOTHING: Touched<'static> = Touched {
-        ds: false,
-        dnskey: false,
-        zone_signers: false,
-        only: None,
-    };
-
-    /// The call sets this key by hand, in no flag that a set shows.
-    pub(crate) fn key(reference: &'a str) -> Self
-        ensures ds { result.ds ≡ false }
-        ensures dnskey { result.dnskey ≡ false }
-        ensures zone_signers { result.zone_signers ≡ false }
-        ensures only { result.only ≡ Some reference.entry }
-    {
-        Touched {
-            only: Some(reference),
-            ..Touched::NOTHING
         }
     }
 }

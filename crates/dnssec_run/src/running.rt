@@ -125,7 +125,8 @@ impl Recorder {
         };
         let moment = call.moment();
         let mark = call.mark();
-        let by_hand = call.by_hand();
+        let by_hand = call.sets_shown();
+        let only = call.reference_set();
         let change = call.key_change()?;
         let reply = call.make(&mut self.keyset);
         self.at = at;
@@ -148,6 +149,7 @@ impl Recorder {
             &mut self.order,
             &mut self.published,
             touched,
+            only,
             &mut frames,
         )?;
         Ok(Outcome {

@@ -10,9 +10,10 @@ ghost use Rattle.dnssec_run.specs.Published.{IsPublished, World, id_of};
 ghost use Rattle.dnssec_run.specs.Recorder.{Agrees, AreFound, ChangesOnly, HasSameKeys, Leaves};
 ghost use Rattle.dnssec_run.specs.Recorder.{ids_read, shown_once, shows};
 
+use crate::caches::ByKind;
 use crate::frames::{Frame, Frames};
 use crate::places::renew_key;
-use crate::record::{Published, PublishedKey, Touched};
+use crate::record::{Published, PublishedKey};
 use dnssec_keyset::{Error, Key, KeySet, KeyType};
 use std::alloc::Global;
 use std::collections::{BTreeMap, HashMap};
@@ -279,11 +280,11 @@ fn read_sets(
     added: &BTreeMap<String, usize>,
     order: &mut WalkOrder,
     sets: &mut Published,
-    touched: Touched<'_>,
+    touched: ByKind<bool>,
     frames: &mut Frames,
 ) -> Result<(), Error>
     ensures frames { OnOk result (KeepsFrames frames.new sets.old sets.new) }
-    ensures ok { OnOk result ((v w : World) → IsPublished sets.old v → Leaves touched.entry v w →
+    ensures ok { OnOk result ((v w : World) → IsPublished sets.old v → Leaves touched v w →
         Agrees keyset.now (tree.get_by_text added.now) w → IsPublished sets.new w) }
     ensures err { IfErr result (λ e. e ≡ OutOfMemory) }
 {
@@ -292,12 +293,12 @@ fn read_sets(
         ds: Frame::of(touched.ds, sets.ds.len()),
         dnskey: Frame::of(touched.dnskey, sets.dnskey.len()),
         dnskey_signers: Frame::of(touched.dnskey, sets.dnskey_signers.len()),
-        zone_signers: Frame::of(touched.zone_signers, sets.zone_signers.len()),
+        zone_signers: Frame::of(touched.zone, sets.zone_signers.len()),
     };
     let mut ds = Renewal::new(alloc, &mut sets.ds, touched.ds);
     let mut dnskey = Renewal::new(alloc, &mut sets.dnskey, touched.dnskey);
     let mut dnskey_signers = Renewal::new(alloc, &mut sets.dnskey_signers, touched.dnskey);
-    let mut zone_signers = Renewal::new(alloc, &mut sets.zone_signers, touched.zone_signers);
+    let mut zone_signers = Renewal::new(alloc, &mut sets.zone_signers, touched.zone);
     let entries = order.walk(alloc, keys)?;
     let mut rank = 0usize;
     for (reference, position) in added.iter() {
@@ -317,40 +318,36 @@ fn read_sets(
 }
 
 /// Renews the sets that a call has touched, and says whether there are any. After a setter it looks
-/// only at that key, and says whether they have changed. Notes the frames of the changes.
+/// only at the key that was set, and says whether they have changed. Notes the frames of the
+/// changes.
 pub(crate) fn renew(
     alloc: Global,
     keyset: &KeySet,
     added: &BTreeMap<String, usize>,
     order: &mut WalkOrder,
     sets: &mut Published,
-    touched: Touched<'_>,
+    touched: ByKind<bool>,
+    only: Option<&str>,
     frames: &mut Frames,
 ) -> Result<bool, Error>
     ensures frames { IfOk result (λ changed. changed ≡ true →
         KeepsFrames frames.new sets.old sets.new) }
     ensures kept { IfOk result (λ changed. changed ≡ false → sets.new ≡ sets.old) }
-    ensures walked { IfOk result (λ changed. touched.entry.only ≡ None → changed
-        ≡ (touched.entry.ds || touched.entry.dnskey || touched.entry.zone_signers)) }
-    ensures by_hand { IfOk result (λ changed. IsSome touched.entry.only → changed ≡ true →
+    ensures walked { IfOk result (λ changed. only.entry ≡ None →
+        changed ≡ (touched.ds || touched.dnskey || touched.zone)) }
+    ensures by_hand { IfOk result (λ changed. IsSome only.entry → changed ≡ true →
         ¬ HasSameKeys sets.old sets.new) }
-    ensures read { OnOk result ((v w : World) → IsPublished sets.old v → Leaves touched.entry v w →
-        ChangesOnly (option_map (λ r. r.now) touched.entry.only) v w →
+    ensures read { OnOk result ((v w : World) → IsPublished sets.old v → Leaves touched v w →
+        ChangesOnly (option_map (λ r. r.now) only.entry) v w →
         Agrees keyset.now (tree.get_by_text added.now) w → IsPublished sets.new w) }
     ensures err { IfErr result (λ e. e ≡ OutOfMemory) }
 {
-    match touched {
-        Touched {
-            ds: false,
-            dnskey: false,
-            zone_signers: false,
-            ..
-        } => Ok(false),
-        Touched {
-            only: Some(reference),
-            ..
-        } => renew_key(alloc, keyset, added, sets, touched, reference, frames),
-        Touched { only: None, .. } => {
+    if !(touched.ds || touched.dnskey || touched.zone) {
+        return Ok(false);
+    }
+    match only {
+        Some(reference) => renew_key(alloc, keyset, added, sets, touched, reference, frames),
+        None => {
             read_sets(alloc, keyset, added, order, sets, touched, frames)?;
             Ok(true)
         }

@@ -1,7 +1,7 @@
 -- A call that sets no flag changes only what it asks to publish: for the clause `changes`. The
 -- recorder reads no other sets anew: for `advance`.
 use Rattle.std.proofs.Common.{[], ◌≡◌, ℕ, zero, suc, ◌≤◌, inl, inr, true, false, refl, sym, ◌∙◌, ap}
-use Rattle.std.proofs.Common.{arith, List, length, None, Option, Some, ◌||◌}
+use Rattle.std.proofs.Common.{arith, Bool, List, length, None, Option, Some, ◌||◌}
 use Rattle.std.proofs.lemmas.Bool.{cases_Bool, or_left, or_right}
 use Rattle.std.proofs.lemmas.Option.{slice_get_within}
 use Rattle.std.specs.{Prelude.slice_get, List.list_any, Option.option_map_or, FinMap.get}
@@ -11,6 +11,7 @@ use Rattle.dnssec_zone.specs.{Lists.listed_by, Start.is_listed}
 use Rattle.dnssec_keyset.{specs.KeySet.KeySetParts, proofs.Accepted.gone_key, proofs.Laws.no_cause}
 use Rattle.dnssec_run.specs.Asked.{asked_by, asks_to_publish, updates, sets_shown}
 use Rattle.dnssec_run.specs.Asked.{SamePublished, ChangesAsAsked}
+use Rattle.dnssec_run.specs.ByKind.{at_kind}
 use Rattle.dnssec_run.specs.Published.{Id, IsPublished, World, keys_where}
 use Rattle.dnssec_run.specs.Record.{IsRun, added_by, call_of, reply_of, is_accepted, world_at}
 use Rattle.dnssec_run.specs.Safe.{Position, SetKind, Ds, Dnskey, ZoneSigners, position_at}
@@ -20,7 +21,7 @@ use Rattle.dnssec_run.proofs.Asked.Actions.{set-stays, unset, wait-asks}
 use Rattle.dnssec_run.proofs.Effects.{accepted_step, added-free, added-same, end-kind, looked-up}
 use Rattle.dnssec_run.proofs.Effects.{moved_key, passing-moved, put_at, refused_step, start-kind}
 use Rattle.dnssec_run.proofs.Positions.{passing, same-shown, shown-none}
-use Rattle.dnssec_run.specs.declared.{call.Call.Call, record.Entry.Entry, record.Touched.Touched}
+use Rattle.dnssec_run.specs.declared.{caches.ByKind.ByKind, call.Call.Call, record.Entry.Entry}
 use Rattle.dnssec_run.specs.declared.{record.Reply.Reply, sets.Shown.Shown}
 use Rattle.dnssec_run.specs.Recorder.{Leaves, reference_set, shows}
 use Rattle.dnssec_run.proofs.Chain.Trust.{adds_blank}
@@ -39,25 +40,17 @@ pub due_by : (r : Reply) → asked_by r ≡ due (reply_of r)
 due_by r = grind arith
 
 -- after a call that sets nothing by hand only what its reply asks to publish is touched
-pub touches-asked : (c : keyset.Call) (r : Reply) (hand t : Touched) → reference_set c ≡ None
-    → hand.ds ≡ sets_shown Ds c → hand.dnskey ≡ sets_shown Dnskey c
-    → hand.zone_signers ≡ sets_shown ZoneSigners c
-    → t.ds ≡ (hand.ds || list_any (updates Ds) (asked_by r))
-    → t.dnskey ≡ (hand.dnskey || list_any (updates Dnskey) (asked_by r))
-    → t.zone_signers ≡ (hand.zone_signers || list_any (updates ZoneSigners) (asked_by r))
-    → (t.ds || t.dnskey || t.zone_signers) ≡ asks_to_publish r
-touches-asked c r hand t none ds dnskey zone is_ds is_dnskey is_zone =
-    rw (
-      is_ds,
-      is_dnskey,
-      is_zone,
-      ds,
-      dnskey,
-      zone,
-      unset Ds c none,
-      unset Dnskey c none,
-      unset ZoneSigners c none,
-    ) refl
+pub touches-asked : (c : keyset.Call) (r : Reply) (hand t : ByKind Bool) → reference_set c ≡ None
+    → ((kind : SetKind) → at_kind hand kind ≡ sets_shown kind c)
+    → ((kind : SetKind)
+    → at_kind t kind ≡ (at_kind hand kind || list_any (updates kind) (asked_by r)))
+    → (t.ds || t.dnskey || t.zone) ≡ asks_to_publish r
+touches-asked c r hand t none shown asked =
+    λ i. is Ds i || is Dnskey i || is ZoneSigners i
+  where
+    is : (kind : SetKind) → at_kind t kind ≡ list_any (updates kind) (asked_by r)
+    is kind = asked kind ∙ ap (λ b. b || list_any (updates kind) (asked_by r))
+        (shown kind ∙ unset kind c none)
 
 -- ---- one call
 
@@ -126,14 +119,13 @@ module _ (n : ℕ) (w v : World) (c : Call) (r : Reply)
   same-list s calm = same-shown (shows s) w v (keys s calm) places
 
   -- so the sets of a kind that isn't touched are the same
-  pub leaves : (touched : Touched) → (touched.ds ≡ false → Passes Ds)
-      → (touched.dnskey ≡ false → Passes Dnskey)
-      → (touched.zone_signers ≡ false → Passes ZoneSigners) → Leaves touched w v
-  leaves touched ds dnskey zone = record {
-    ds = λ no. same-list lists.Ds (ds no);
-    dnskey = λ no. same-list lists.Dnskey (dnskey no);
-    dnskey_signers = λ no. same-list lists.DnskeySigners (dnskey no);
-    zone_signers = λ no. same-list lists.ZoneSigners (zone no);
+  pub leaves : (touched : ByKind Bool)
+      → ((kind : SetKind) → at_kind touched kind ≡ false → Passes kind) → Leaves touched w v
+  leaves touched calm = record {
+    ds = λ no. same-list lists.Ds (calm Ds no);
+    dnskey = λ no. same-list lists.Dnskey (calm Dnskey no);
+    dnskey_signers = λ no. same-list lists.DnskeySigners (calm Dnskey no);
+    zone_signers = λ no. same-list lists.ZoneSigners (calm ZoneSigners no);
   }
 
 -- ---- the lists of a position

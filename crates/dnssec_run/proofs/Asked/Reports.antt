@@ -27,7 +27,7 @@ use Rattle.dnssec_keyset.specs.Step as keyset
 use Rattle.dnssec_zone.specs.Wait as waits
 
 -- the phase in which a roll last asked for something but its last actions
-abbrev opening : RollState → RollState
+abbrev pub opening : RollState → RollState
 opening Propagation1 = Propagation1
 opening (CacheExpire1 ttl) = Propagation1
 opening Propagation2 = Propagation2
@@ -35,14 +35,14 @@ opening (CacheExpire2 ttl) = Propagation2
 opening Done = Propagation2
 
 -- a call that begins or moves no roll r
-unstepped : (c : keyset.Call) (r : RollType) → is_on c r ≡ false → is_step r (mark c) ≡ false
+pub unstepped : (c : keyset.Call) (r : RollType) → is_on c r ≡ false → is_step r (mark c) ≡ false
 unstepped (keyset.StartRoll q olds news now) r d = same-sym r q ∙ d
 unstepped (keyset.Wait q First now) r d = same-sym r q ∙ d
 unstepped _ r d = refl
 
 module _ {name : List ℕ} {calls : List Call} {entries : List Entry}
     (run : IsRun name calls entries) where
-  abbrev set_at : ℕ → KeySetParts
+  abbrev pub set_at : ℕ → KeySetParts
   set_at n = (world_at name calls entries n).set
 
   abbrev marked : ℕ → Mark
@@ -50,7 +50,7 @@ module _ {name : List ℕ} {calls : List Call} {entries : List Entry}
 
   -- after position n the next report of the roll would count from this position, and this was
   -- asked there
-  abbrev Based : ℕ → RollType → RollState → Type 0
+  abbrev pub Based : ℕ → RollType → RollState → Type 0
   Based n r p = (base : ℕ) × (base_below entries r (suc n) ≡ Some base)
       × (asked_at entries base ≡ actions_of r (opening p))
 
@@ -60,7 +60,7 @@ module _ {name : List ℕ} {calls : List Call} {entries : List Entry}
   based-on n r p x same no_step h =
       (h.0, base_same entries r (suc n) no_step ∙ h.1, h.2 ∙ ap (actions_of r) (sym same))
 
-  abbrev All : ℕ → Type 0
+  abbrev pub All : ℕ → Type 0
   All n = (r : RollType) (p : RollState) → roll_now (set_at n) r ≡ Some p → Based n r p
 
   -- ---- one call
@@ -81,7 +81,7 @@ module _ {name : List ℕ} {calls : List Call} {entries : List Entry}
       based-on n q (CacheExpire2 w.0) Done refl (ap (is_step q) mk) (h q (CacheExpire2 w.0) w.1)
   own n _ v mk asked h = tt
 
-  based : (n : ℕ) → n ≤ length entries → All n
+  pub based : (n : ℕ) → n ≤ length entries → All n
   unfolding world_at
   based zero le = λ r p e. absurd (none-some p e)
   based (suc n) le =

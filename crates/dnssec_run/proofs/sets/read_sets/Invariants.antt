@@ -12,6 +12,6 @@ invariant-loop-reference l = record {
       l.added.entries l.reference-iterator l.dnskey;
   dnskey_signers : Reads signs_dnskey (hash.get_by_text l.keys) l.fn.touched.dnskey
       l.fn.sets.dnskey_signers.items l.added.entries l.reference-iterator l.dnskey_signers;
-  zone_signers : Reads signs_zone (hash.get_by_text l.keys) l.fn.touched.zone_signers
+  zone_signers : Reads signs_zone (hash.get_by_text l.keys) l.fn.touched.zone
       l.fn.sets.zone_signers.items l.added.entries l.reference-iterator l.zone_signers;
 }

@@ -1,7 +1,7 @@
 -- A call that is made adds one call and its entry to the record.
 use Rattle.std.proofs.Common.{◌≡◌, ◌∙◌, List, Bor, length, ap, refl, rules, subst, sym, true}
 use Rattle.std.proofs.Common.{arith, false, ℕ}
-use Rattle.std.{proofs.lemmas.Bool.or_parts, specs.Option.option_map, specs.Prelude.is_some}
+use Rattle.std.{proofs.lemmas.Bool.or_parts, specs.Prelude.is_some}
 use Rattle.dnssec_keyset.{proofs.After.step-after, specs.KeySet.KeySetParts}
 use Rattle.dnssec_run.specs.{Published.World, Record.call_of, Record.is_accepted, Record.reply_of}
 use Rattle.dnssec_run.specs.Record.{world_after, world_at}
@@ -42,36 +42,25 @@ returns c = record {
       (step-after _ _ (call_of x) (reply_of r) c.make-reply.ensures)
       (λ q. c.in_ok-self.ensures.ok q ∙ (λ i. positions_after n (c.in_ok-change.ensures.put i)
       (c.in_ok-change.ensures.taken i) at q)) in
-      let hand = c.by_hand-by_hand.ensures in
-      let touched = c.touched-touched.ensures in
       let left = leaves n before after x r (subst (λ (t : KeySetParts × KeySetParts).
       keyset.Step t.0 (call_of x) (reply_of r) t.1) (λ i. (so.agrees.same i, agrees.same i))
       c.make-reply.ensures) refl c.touched-touched.result
-      (λ no t. let p = or_parts _ _ (sym touched.ds ∙ no) in (sym hand.ds ∙ p.0, p.1))
-      (λ no t. let p = or_parts _ _ (sym touched.dnskey ∙ no) in (sym hand.dnskey ∙ p.0, p.1))
-      (λ no t. let p = or_parts _ _ (sym touched.zone_signers ∙ no) in
-      (sym hand.zone_signers ∙ p.0, p.1)) in
-      let only = ap (option_map (λ (r : Bor (List ℕ)). r.now)) touched.only ∙ hand.only in
+      (λ kind no t. let p = or_parts _ _ (sym (c.touched-touched.ensures kind) ∙ no) in
+      (sym (c.sets_shown-by_hand.ensures kind) ∙ p.0, p.1)) in
       let shown = c.in_ok-may_publish.ensures.read before after so.published left
-      (subst (λ o. ChangesOnly o before after) (sym only) (changes-only n before x r)) agrees in
+      (subst (λ o. ChangesOnly o before after) (sym c.reference_set-only.ensures)
+      (changes-only n before x r)) agrees in
       records-more name calls entries _ _ x _ e so tells same (omega (arith, c.in-Some.ensures))
       c.make-reply.ensures (c.mark-mark.ensures ∙ mark-accepted x r ok) c.moment-moment.ensures
       agrees shown;
   kept = c.in_ok-may_publish.ensures.kept;
-  asked = λ none.
-      let hand = c.by_hand-by_hand.ensures in
-      let touched = c.touched-touched.ensures in
-      let only = ap (option_map (λ (r : Bor (List ℕ)). r.now)) touched.only ∙ hand.only in
-      c.in_ok-may_publish.ensures.walked (map-none _ _ (only ∙ none))
-      ∙ touches-asked (call_of c.args.call) c.make-reply.result c.by_hand-by_hand.result
-      c.touched-touched.result none hand.ds hand.dnskey hand.zone_signers touched.ds touched.dnskey
-      touched.zone_signers;
-  by_hand = λ some changed.
-      let hand = c.by_hand-by_hand.ensures in
-      let only = ap (option_map (λ (r : Bor (List ℕ)). r.now)) c.touched-touched.ensures.only
-      ∙ hand.only in
-      c.in_ok-may_publish.ensures.by_hand
-      (sym (map-some (λ (r : Bor (List ℕ)). r.now) _) ∙ ap is_some only ∙ some) changed;
+  asked = λ none. c.in_ok-may_publish.ensures.walked
+      (map-none _ _ (c.reference_set-only.ensures ∙ none))
+      ∙ touches-asked (call_of c.args.call) c.make-reply.result c.sets_shown-by_hand.result
+      c.touched-touched.result none c.sets_shown-by_hand.ensures c.touched-touched.ensures;
+  by_hand = λ some changed. c.in_ok-may_publish.ensures.by_hand
+      (sym (map-some (λ (r : Bor (List ℕ)). r.now) _)
+      ∙ ap is_some c.reference_set-only.ensures ∙ some) changed;
   frames = c.in_ok-may_publish.ensures.frames;
   err = tt;
 }
