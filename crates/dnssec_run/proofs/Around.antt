@@ -1,4 +1,4 @@
--- Which keys stand around a change: for `read_sets`, for the place of one key, and for a judge.
+-- Which keys stand around a change: for `renew`, for the place of one key, and for a judge.
 use Rattle.std.proofs.Common.{◌≡◌, ◌≤◌, ◌<◌, ◌-◌, ◌∙◌, ℕ, zero, suc, List, [], ◌∷◌, ◌++◌, map}
 use Rattle.std.proofs.Common.{length, take, drop, Bool, true, false, refl, sym, ap, subst, arith}
 use Rattle.std.proofs.Common.{insert, remove, append-nil}

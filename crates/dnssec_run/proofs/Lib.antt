@@ -9,7 +9,7 @@
 -- | `run`, `exchange`         | `exchange`                    | the key set's Exchange       |
 -- | `Recorder::new`           | `agrees-new`, `published-new` | Next                         |
 -- | `Recorder::advance`, `ok` | `records-more`                | Next; the key set's After    |
--- | `read_sets`, `ok`         | `reads-all`                   | Positions                    |
+-- | `renew`, `read`           | `reads-all`                   | Positions                    |
 -- | `Recorder::advance`, `ok` | `leaves`                      | Asked                        |
 -- | `renew_key`, `read`       | `renewed`                     | OneKey                       |
 -- | `KeepsFrames`             | `keeps-with` and the like     | Around                       |

@@ -272,22 +272,38 @@ fn key_at<'a>(
     }
 }
 
-/// Reads what is published of a key set, with the positions of its keys, in one walk in the order
-/// of the references. What was published before is used again, and sets that weren't touched stay.
-fn read_sets(
+/// Renews the sets that a call has touched, and says whether there are any. After a setter it looks
+/// only at the key that was set, and says whether they have changed. After any other call it reads
+/// all keys with their positions, in one walk in the order of the references, and uses again what
+/// was published before. Notes the frames of the changes.
+pub(crate) fn renew(
     alloc: Global,
     keyset: &KeySet,
     added: &BTreeMap<String, usize>,
     order: &mut WalkOrder,
     sets: &mut Published,
     touched: ByKind<bool>,
+    only: Option<&str>,
     frames: &mut Frames,
-) -> Result<(), Error>
-    ensures frames { OnOk result (KeepsFrames frames.new sets.old sets.new) }
-    ensures ok { OnOk result ((v w : World) → IsPublished sets.old v → Leaves touched v w →
+) -> Result<bool, Error>
+    ensures frames { IfOk result (λ changed. changed ≡ true →
+        KeepsFrames frames.new sets.old sets.new) }
+    ensures kept { IfOk result (λ changed. changed ≡ false → sets.new ≡ sets.old) }
+    ensures walked { IfOk result (λ changed. only.entry ≡ None →
+        changed ≡ (touched.ds || touched.dnskey || touched.zone)) }
+    ensures by_hand { IfOk result (λ changed. IsSome only.entry → changed ≡ true →
+        ¬ HasSameKeys sets.old sets.new) }
+    ensures read { OnOk result ((v w : World) → IsPublished sets.old v → Leaves touched v w →
+        ChangesOnly (option_map (λ r. r.now) only.entry) v w →
         Agrees keyset.now (tree.get_by_text added.now) w → IsPublished sets.new w) }
     ensures err { IfErr result (λ e. e ≡ OutOfMemory) }
 {
+    if !(touched.ds || touched.dnskey || touched.zone) {
+        return Ok(false);
+    }
+    if let Some(reference) = only {
+        return renew_key(alloc, keyset, added, sets, touched, reference, frames);
+    }
     let keys = keyset.keys();
     *frames = Frames {
         ds: Frame::of(touched.ds, sets.ds.len()),
@@ -314,44 +330,7 @@ fn read_sets(
     sets.dnskey = dnskey.into_keys();
     sets.dnskey_signers = dnskey_signers.into_keys();
     sets.zone_signers = zone_signers.into_keys();
-    Ok(())
-}
-
-/// Renews the sets that a call has touched, and says whether there are any. After a setter it looks
-/// only at the key that was set, and says whether they have changed. Notes the frames of the
-/// changes.
-pub(crate) fn renew(
-    alloc: Global,
-    keyset: &KeySet,
-    added: &BTreeMap<String, usize>,
-    order: &mut WalkOrder,
-    sets: &mut Published,
-    touched: ByKind<bool>,
-    only: Option<&str>,
-    frames: &mut Frames,
-) -> Result<bool, Error>
-    ensures frames { IfOk result (λ changed. changed ≡ true →
-        KeepsFrames frames.new sets.old sets.new) }
-    ensures kept { IfOk result (λ changed. changed ≡ false → sets.new ≡ sets.old) }
-    ensures walked { IfOk result (λ changed. only.entry ≡ None →
-        changed ≡ (touched.ds || touched.dnskey || touched.zone)) }
-    ensures by_hand { IfOk result (λ changed. IsSome only.entry → changed ≡ true →
-        ¬ HasSameKeys sets.old sets.new) }
-    ensures read { OnOk result ((v w : World) → IsPublished sets.old v → Leaves touched v w →
-        ChangesOnly (option_map (λ r. r.now) only.entry) v w →
-        Agrees keyset.now (tree.get_by_text added.now) w → IsPublished sets.new w) }
-    ensures err { IfErr result (λ e. e ≡ OutOfMemory) }
-{
-    if !(touched.ds || touched.dnskey || touched.zone) {
-        return Ok(false);
-    }
-    match only {
-        Some(reference) => renew_key(alloc, keyset, added, sets, touched, reference, frames),
-        None => {
-            read_sets(alloc, keyset, added, order, sets, touched, frames)?;
-            Ok(true)
-        }
-    }
+    Ok(true)
 }
 
 /// A copy of what is published.

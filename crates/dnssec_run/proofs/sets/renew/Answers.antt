@@ -5,7 +5,7 @@ use Rattle.dnssec_key.specs.declared.kind.KeyType.{KeyType}
 use Rattle.dnssec_run.specs.Published.{in_ds, in_dnskey, signs_dnskey, signs_zone}
 use Rattle.dnssec_run.proofs.Around.{read-frame}
 use Rattle.dnssec_run.proofs.Positions.{passing-shown, reads-all, reads-begin, reads-next}
-use Rattle.dnssec_run.proofs.sets.read_sets.Goals as goal
+use Rattle.dnssec_run.proofs.sets.renew.Goals as goal
 
 pub loop-reference-init : goal.loop-reference-init
 loop-reference-init c =
@@ -25,7 +25,7 @@ loop-reference-init c =
 pub loop-reference-preserved : goal.loop-reference-preserved
 loop-reference-preserved c =
     let key = hash.get_by_text c.keys-keys.result.now in
-    let steps = c.in-Some.ensures.steps in
+    let steps = c.in-Some-2.ensures.steps in
     let inv = c.loop-reference.invariant in
     let found = c.key_at-key.ensures in
     record {
@@ -43,8 +43,8 @@ loop-reference-preserved c =
           shown.left shown.touched shown.fits inv.zone_signers;
     }
 
-pub returns-clause-ok : goal.returns-clause-ok
-returns-clause-ok c v w was leaves agrees =
+pub returns-clause-read : goal.returns-clause-read
+returns-clause-read c v w was leaves only agrees =
     let key = hash.get_by_text c.keys-keys.result.now in
     let none = c.in-None.ensures.steps.0 in
     let ordered = c.iter-reference-items.ensures.ordered in
@@ -69,7 +69,7 @@ returns-clause-ok c v w was leaves agrees =
     }
 
 pub returns-clause-frames : goal.returns-clause-frames
-returns-clause-frames c =
+returns-clause-frames c changed =
     let inv = c.loop-reference.invariant in
     let key = hash.get_by_text c.keys-keys.result.now in
     let sets = c.args.sets.now in
