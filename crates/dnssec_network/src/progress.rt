@@ -9,7 +9,7 @@ ghost use Rattle.dnssec_network.specs.Notes.{version_refusal};
 
 use crate::fact::{Fact, News, NoteFault};
 use dnssec_keyset::UnixTime;
-use dnssec_run::{Moments, SetKind};
+use dnssec_run::{ByKind, Moments, SetKind};
 use std::time::Duration;
 
 /// The newest version of a kind.
@@ -24,9 +24,7 @@ pub(crate) struct Newest {
 /// How far notes have come.
 #[derive(Clone, Copy, Debug)]
 pub(crate) struct Progress {
-    pub(crate) ds: Newest,
-    pub(crate) dnskey: Newest,
-    pub(crate) zone: Newest,
+    newest: ByKind<Newest>,
 }
 
 /// The start of 1970.
@@ -128,11 +126,12 @@ impl Progress {
     pub(crate) fn first() -> Self
         ensures { result ≡ first_progress }
     {
-        Progress {
+        let newest = ByKind {
             ds: Newest::first(),
             dnskey: Newest::first(),
             zone: Newest::first(),
-        }
+        };
+        Progress { newest }
     }
 
     /// After one more fact.
@@ -140,27 +139,19 @@ impl Progress {
         ensures { result ≡ progress_after self.now (record { kind = kind; news = news.now }) }
     {
         let fact = Fact { kind, news: *news };
-        Progress {
-            ds: self.ds.after_fact(&fact, SetKind::Ds),
-            dnskey: self.dnskey.after_fact(&fact, SetKind::Dnskey),
-            zone: self.zone.after_fact(&fact, SetKind::ZoneSigners),
-        }
-    }
-
-    fn newest(&self, kind: SetKind) -> Newest
-        ensures { result ≡ newest_of self.now kind }
-    {
-        match kind {
-            SetKind::Ds => self.ds,
-            SetKind::Dnskey => self.dnskey,
-            SetKind::ZoneSigners => self.zone,
-        }
+        let ByKind { ds, dnskey, zone } = self.newest;
+        let newest = ByKind {
+            ds: ds.after_fact(&fact, SetKind::Ds),
+            dnskey: dnskey.after_fact(&fact, SetKind::Dnskey),
+            zone: zone.after_fact(&fact, SetKind::ZoneSigners),
+        };
+        Progress { newest }
     }
 
     /// Why a fact is refused, if it is, after calls with these moments.
     pub(crate) fn refusal(&self, moments: &Moments, kind: SetKind, news: &News) -> Option<NoteFault>
         ensures { result ≡ news_refusal moments.now (newest_of self.now kind) news.now }
     {
-        self.newest(kind).refusal(moments, *news)
+        self.newest.of(kind).refusal(moments, *news)
     }
 }
