@@ -275,8 +275,8 @@ impl Derived {
     }
 
     /// A phase has ended. Tools ask often for the wait that a report begins, so what a walk finds
-    /// out about it is kept. A wait has moved the keys on: they are counted again if that may change
-    /// a count.
+    /// out about it is kept. A wait has moved the keys on. They are counted again if that may
+    /// change a count.
     pub(crate) fn end_phase(&mut self, keys: &KeyMap, end: PhaseEnd, roll: RollType, half: Half)
         ensures tags { self.new.tags ≡ self.old.tags }
         ensures moved { end_moves_kept end roll half ≡ true
