@@ -1,6 +1,6 @@
 -- A script's add names its key by a reference.
-use Rattle.std.proofs.Common.{◌≡◌, ℕ, zero, suc, inl, inr, true, List, [], ◌∷◌, Option, None, Some}
-use Rattle.std.proofs.Common.{ap, arith, string_bytes, subst}
+use Rattle.std.proofs.Common.{◌≡◌, ℕ, zero, suc, true, List, [], ◌∷◌, Option, None, Some}
+use Rattle.std.proofs.Common.{ap, arith, subst}
 use Rattle.std.proofs.lemmas.Option.{none-some, same_Some}
 use Rattle.std.specs.Prelude.{option_and_then, slice_get}
 use Rattle.std.specs.Option.{option_map}

@@ -113,7 +113,7 @@ fn is_list(text: &[u8]) -> bool
 }
 
 /// The text up to the first such byte, and what comes after it; none if it has no such byte.
-pub(crate) fn split_once(text: &[u8], byte: u8) -> (&[u8], Option<&[u8]>)
+fn split_once(text: &[u8], byte: u8) -> (&[u8], Option<&[u8]>)
     ensures { slice_split (λ b. b == byte) text.now ≡ result.0.now ∷ parts_left byte result.1 }
 {
     match text.iter().position(|other| *other == byte) {
