@@ -2,6 +2,8 @@
 -- a chain.
 use Rattle.std.specs.Prelude.{◌&&◌, ◌||◌, ℕ, Bool, List}
 use Rattle.dnssec_judge.specs.declared.sets.held.OpenSet.{OpenSet}
+use Rattle.dnssec_judge.specs.declared.window.pairs.Link.{Link}
+use Rattle.dnssec_judge.specs.declared.window.pairs.Link.TheVariants.{Named, Signed}
 use Rattle.dnssec_judge.specs.Bits.{has_none, meet, meet_three, words_of}
 
 -- bits for the keys of a set, and for its signers
@@ -24,6 +26,16 @@ keys_hold p q = has_none p.0 || meet_three p.0 q.0 q.1
 -- a key of the DNSKEY set signs the zone
 abbrev pub zone_holds : Numbered → Numbered → Bool
 zone_holds q z = meet q.0 z.0
+
+-- a key links the one set to the other
+abbrev pub linked : Link → Numbered → Numbered → Bool
+linked Named p q = meet_three p.0 q.0 q.1
+linked Signed q z = meet q.0 z.0
+
+-- the two hold in a chain
+abbrev pub holds : Link → Numbered → Numbered → Bool
+holds Named p q = keys_hold p q
+holds Signed q z = zone_holds q z
 
 -- there is no DS, or both hold
 abbrev pub sets_have_chain : Numbered → Numbered → Numbered → Bool

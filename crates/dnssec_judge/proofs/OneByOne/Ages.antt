@@ -51,13 +51,6 @@ pub record IsAs (h g : OpenSet) : Type 0 where
   pub since : g.since ≡ h.since
   pub last : h.last ≤ g.last
 
--- the first of the spans that are left, and the others
-pub left-kept : (hs : List OpenSet) (s : Span) (ss left : List Span) → ss ≡ s ∷ left
-    → All (IsKept hs) ss → IsKept hs s × All (IsKept hs) left
-left-kept hs s ss left is k =
-    let all = subst (λ (xs : List Span). All (IsKept hs) xs) is k in
-    (all 0 s (omega arith), All-tail (IsKept hs) s left all)
-
 -- spans keep their sets, if these are there
 module _ (old new : List OpenSet) (begin : ℕ) (order : AreByAge old) (now : AreByAge new)
     (there : (h : OpenSet) → Contains old h → begin ≤ h.last

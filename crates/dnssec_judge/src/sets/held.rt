@@ -2,7 +2,7 @@
 ghost use Rattle.std.specs.Prelude.{◌≡◌, ◌&&◌, ◌||◌, ℕ, false, true, IfOk, IfErr};
 ghost use Rattle.dnssec_base.specs.declared.error.Error.TheVariants.{OutOfMemory};
 ghost use Rattle.dnssec_judge.specs.Bits.{has, has_none, meet_three, words_of};
-ghost use Rattle.dnssec_judge.specs.Sets.{keys_hold, parts_of, set_of, zone_holds};
+ghost use Rattle.dnssec_judge.specs.Sets.{keys_hold, parts_of, set_of, sets_have_chain, zone_holds};
 
 use super::bits::Bits;
 use dnssec_keyset::Error;
@@ -117,5 +117,12 @@ impl OpenSet {
         ensures { result ≡ zone_holds (set_of self.now) (set_of zone.now) }
     {
         self.keys.meets(&zone.keys)
+    }
+
+    /// Whether it, as a DS set, has a chain with a DNSKEY set and zone signers.
+    pub(crate) fn has_chain(&self, dnskey: &OpenSet, zone: &OpenSet) -> bool
+        ensures { result ≡ sets_have_chain (set_of self.now) (set_of dnskey.now) (set_of zone.now) }
+    {
+        self.is_empty() || self.names_key_of(dnskey) && dnskey.holds_with_signers(zone)
     }
 }

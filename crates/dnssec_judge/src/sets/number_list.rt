@@ -36,7 +36,7 @@ impl NumberList {
         Ok(NumberList { numbers, bits })
     }
 
-    /// The same.
+    /// A copy of it.
     pub(crate) fn try_clone(&self) -> Result<Self, Error>
         ensures ok { IfOk result (λ list. list.numbers.items ≡ self.now.numbers.items) }
         ensures err { IfErr result (λ e. e ≡ OutOfMemory) }

@@ -17,7 +17,7 @@ use std::collections::HashMap;
 /// these are many.
 const FEW: usize = 4;
 
-/// So that a new set isn't compared, nor tested, with each of many.
+/// What helps with many sets, so that a new one isn't compared, nor tested, with each of them.
 #[derive(Debug, Drop)]
 pub(crate) struct Many {
     /// Keys and signers that are in each set, as a set. What holds with it holds with all.
@@ -27,7 +27,7 @@ pub(crate) struct Many {
 }
 
 impl Many {
-    /// For these sets.
+    /// What helps with these sets.
     fn of(alloc: Global, sets: &[OpenSet]) -> Result<Self, Error>
         ensures ok { IfOk result (λ many. (place : ℕ) (h : OpenSet) →
             slice_get sets.now place ≡ Some h → IsIn many.common h) }
@@ -47,7 +47,7 @@ impl Many {
         Ok(many)
     }
 
-    /// The same.
+    /// A copy, which helps with the same sets.
     pub(super) fn try_clone(&self) -> Result<Self, Error>
         ensures ok { IfOk result (λ many. set_of many.common ≡ set_of self.now.common) }
         ensures err { IfErr result (λ e. e ≡ OutOfMemory) }
@@ -58,7 +58,7 @@ impl Many {
         })
     }
 
-    /// For one set more.
+    /// Takes one set more among them.
     fn add(&mut self, set: &OpenSet) -> Result<(), Error>
         ensures new { OnOk result (IsIn self.new.common set.now) }
         ensures others { OnOk result ((h : OpenSet) → IsIn self.old.common h →

@@ -30,7 +30,7 @@ impl Last {
         }
     }
 
-    /// The same.
+    /// A copy of it.
     pub(super) fn try_clone(&self) -> Result<Self, Error>
         ensures ok { IfOk result (λ copy. IsSameLast self.now copy) }
         ensures err { IfErr result (λ e. e ≡ OutOfMemory) }

@@ -1,38 +1,65 @@
 //! Any two sets of the windows are tested once: each new set with all sets of the other kind.
 ghost use Rattle.std.specs.Prelude.{◌≡◌, ◌≤◌, ℕ, true};
 ghost use Rattle.std.specs.List.{Contains};
-ghost use Rattle.dnssec_judge.specs.Sets.{keys_hold, set_of, zone_holds};
+ghost use Rattle.dnssec_judge.specs.Sets.{holds, linked, set_of};
 ghost use Rattle.dnssec_judge.specs.declared.sets.held.OpenSet.{OpenSet};
-ghost use Rattle.dnssec_judge.specs.Inner.Window.{AllHold, AreByAge, IsOpen, Keeps};
-ghost use Rattle.dnssec_judge.specs.Inner.Window.{Tested, all_in};
+ghost use Rattle.dnssec_judge.specs.Inner.Window.{AreByAge, IsOpen, Keeps, PairsHold};
+ghost use Rattle.dnssec_judge.specs.Inner.Window.{PairsTested, all_in};
 
 use super::Window;
 use crate::sets::OpenSet;
 
-/// Whether each set that came at position `tested` or later holds with all sets of the other kind.
-pub(crate) fn new_sets_hold(ds: &Window, dnskey: &Window, zone: &Window, tested: usize) -> bool
-    ensures { (n : ℕ) → result ≡ true → Keeps n ds.now → Keeps n dnskey.now → Keeps n zone.now →
-        Tested tested ds.now dnskey.now zone.now → AllHold ds.now dnskey.now zone.now }
-{
-    for named in ds.new_sets(tested) {
-        if !dnskey.keys_hold_with(named) {
-            return false;
+/// Two kinds of sets that are neighbours in a chain.
+#[derive(Clone, Copy, Debug)]
+pub(crate) enum Link {
+    /// A DS set names a key of a DNSKEY set.
+    Named,
+    /// A key of a DNSKEY set signs the zone.
+    Signed,
+}
+
+impl Link {
+    /// Whether each set that came at position `tested` or later holds with all sets of the other
+    /// window, if the older ones do.
+    pub(crate) fn new_sets_hold(self, above: &Window, below: &Window, tested: usize) -> bool
+        ensures { (n : ℕ) → result ≡ true → Keeps n above.now → Keeps n below.now →
+            PairsTested tested (holds self) above.now below.now →
+            PairsHold (holds self) above.now below.now }
+    {
+        for one in above.new_sets(tested) {
+            if !below.hold_below(self, one) {
+                return false;
+            }
+        }
+        for other in below.new_sets(tested) {
+            if !above.hold_above(self, other) {
+                return false;
+            }
+        }
+        true
+    }
+
+    /// Whether two sets hold in a chain.
+    #[inline(always)]
+    fn holds(self, above: &OpenSet, below: &OpenSet) -> bool
+        ensures { result ≡ holds self (set_of above.now) (set_of below.now) }
+    {
+        match self {
+            Link::Named => above.holds_with_keys(below),
+            Link::Signed => above.holds_with_signers(below),
         }
     }
-    for keys in dnskey.new_sets(tested) {
-        if !ds.ds_hold_with(keys) {
-            return false;
-        }
-        if !zone.signers_hold_with(keys) {
-            return false;
-        }
-    }
-    for signers in zone.new_sets(tested) {
-        if !dnskey.keys_hold_with_signers(signers) {
-            return false;
+
+    /// Whether a key links two sets. Then they hold, and so do sets with more keys.
+    #[inline(always)]
+    fn has_key(self, above: &OpenSet, below: &OpenSet) -> bool
+        ensures { result ≡ linked self (set_of above.now) (set_of below.now) }
+    {
+        match self {
+            Link::Named => above.names_key_of(below),
+            Link::Signed => above.holds_with_signers(below),
         }
     }
-    true
 }
 
 // If there are many sets, a test with all of them first asks what is common to them. So most sets
@@ -48,55 +75,29 @@ impl Window {
         new
     }
 
-    /// Whether the DS set holds with each DNSKEY set of the window.
-    fn keys_hold_with(&self, ds: &OpenSet) -> bool
+    /// Whether a set holds with each set of the window, which is of the kind below.
+    pub(super) fn hold_below(&self, link: Link, above: &OpenSet) -> bool
         ensures { (n : ℕ) → Keeps n self.now →
-            result ≡ all_in self.now (λ q. keys_hold (set_of ds.now) q) }
+            result ≡ all_in self.now (λ q. holds link (set_of above.now) q) }
     {
         if let Some(common) = self.common() {
-            if ds.names_key_of(common) {
+            if link.has_key(above, common) {
                 return true;
             }
         }
-        self.sets.iter().all(|keys| ds.holds_with_keys(keys))
+        self.sets.iter().all(|set| link.holds(above, set))
     }
 
-    /// Whether each DS set of the window holds with the DNSKEY set.
-    fn ds_hold_with(&self, keys: &OpenSet) -> bool
+    /// Whether each set of the window holds with a set, which is of the kind below.
+    fn hold_above(&self, link: Link, below: &OpenSet) -> bool
         ensures { (n : ℕ) → Keeps n self.now →
-            result ≡ all_in self.now (λ p. keys_hold p (set_of keys.now)) }
+            result ≡ all_in self.now (λ p. holds link p (set_of below.now)) }
     {
         if let Some(common) = self.common() {
-            if common.names_key_of(keys) {
+            if link.has_key(common, below) {
                 return true;
             }
         }
-        self.sets.iter().all(|ds| ds.holds_with_keys(keys))
-    }
-
-    /// Whether the DNSKEY set holds with all zone signers of the window.
-    fn signers_hold_with(&self, keys: &OpenSet) -> bool
-        ensures { (n : ℕ) → Keeps n self.now →
-            result ≡ all_in self.now (λ z. zone_holds (set_of keys.now) z) }
-    {
-        if let Some(common) = self.common() {
-            if keys.holds_with_signers(common) {
-                return true;
-            }
-        }
-        self.sets.iter().all(|zone| keys.holds_with_signers(zone))
-    }
-
-    /// Whether each DNSKEY set of the window holds with the zone signers.
-    fn keys_hold_with_signers(&self, zone: &OpenSet) -> bool
-        ensures { (n : ℕ) → Keeps n self.now →
-            result ≡ all_in self.now (λ q. zone_holds q (set_of zone.now)) }
-    {
-        if let Some(common) = self.common() {
-            if common.holds_with_signers(zone) {
-                return true;
-            }
-        }
-        self.sets.iter().all(|keys| keys.holds_with_signers(zone))
+        self.sets.iter().all(|set| link.holds(set, below))
     }
 }

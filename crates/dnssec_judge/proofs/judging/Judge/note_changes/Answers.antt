@@ -7,7 +7,7 @@ use Rattle.dnssec_key.specs.declared.roll.RollType.{RollType}
 use Rattle.dnssec_run.specs.declared.record.{Entry.Entry, Mark.Mark}
 use Rattle.dnssec_run.specs.Safe.{IsSafe, SetKind, is_step, position_at, position_of}
 use Rattle.dnssec_run.specs.{Origins.set_at, Steps.step_of}
-use Rattle.dnssec_judge.specs.Inner.Window.{Tested, first_ds, stretches_of}
+use Rattle.dnssec_judge.specs.Inner.Window.{AllHold, Tested, first_ds, stretches_of}
 use Rattle.dnssec_judge.specs.{declared.judging.Judge.Judge, Judge.Follows, Judge.Knows}
 use Rattle.dnssec_judge.specs.Judge.{origins_of}
 use Rattle.dnssec_judge.specs.{declared.verdict.Broken.Broken, Inner.Search.IsVerdictAt}
@@ -81,15 +81,17 @@ module _ (es : List Entry) (e : Entry) (j w : Judge) (mark : Mark) (at : ℕ) (h
 
     -- or it is searched
     searched : (n tested : ℕ) (found : Option Broken) → n ≡ at
-        → tested ≤ suc (length (es ++ e ∷ [])) → Tested tested w.ds w.dnskey w.zone
-        → found ≡ first_ds n w.ds.floor (stretches_of w.ds) w.dnskey.floor (stretches_of w.dnskey)
-        w.zone.floor (stretches_of w.zone)
+        → (Follows (es ++ e ∷ []) w → (tested ≤ suc (length (es ++ e ∷ [])))
+        × Tested tested w.ds w.dnskey w.zone × (found ≡ first_ds n w.ds.floor
+        (stretches_of w.ds) w.dnskey.floor (stretches_of w.dnskey) w.zone.floor
+        (stretches_of w.zone)))
         → Knows (es ++ e ∷ []) (record w { tested = tested; found = found })
-    searched n tested found is within all first = judge-with tested found within all
-        (none-found es e j.found found none-before h.verdict
+    searched n tested found is finds =
+        let f = finds follows in
+        judge-with tested found f.0 f.1 (none-found es e j.found found none-before h.verdict
         (judged (es ++ e ∷ []) (length (es ++ e ∷ [])) (omega arith) w.numbers follows.table
         w.ds w.dnskey w.zone follows.ds follows.dnskey follows.zone found
-        (first ∙ ap (λ m. first_ds m w.ds.floor (stretches_of w.ds) w.dnskey.floor
+        (f.2 ∙ ap (λ m. first_ds m w.ds.floor (stretches_of w.ds) w.dnskey.floor
         (stretches_of w.dnskey) w.zone.floor (stretches_of w.zone))
         (is ∙ here ∙ sym (count es e)))))
 
@@ -116,39 +118,45 @@ returns-then-has_no_keys-clause-ok c es e next keep h =
     let w = c.follow.new.self in let f = c.in_ok-follow.ensures in
     let here : c.in-Some.at ≡ suc (length es) = omega (arith, h.at, c.in-Some.ensures) in
     let none = is-none w.found (sym c.is_some.ensures ∙ c.if-is_some.false) in
-    let ok = f.follows es e here h.steps next keep in
-    let g = follows es e c.args.self.now w c.args.mark c.in-Some.at h here next.has_mark
-    f.at f.found f.steps ok in
     searched es e c.args.self.now w c.args.mark c.in-Some.at h here next.has_mark
-    f.at f.found f.steps ok none c.in-Some.at w.tested w.found refl g.within g.tested
-    (none ∙ sym (none-without-ds _ c.in-Some.at w.ds w.dnskey w.zone g.ds.keeps g.dnskey.keeps
-    g.zone.keeps (sym c.has_no_keys.ensures ∙ c.if-has_no_keys.true)))
+    f.at f.found f.steps (f.follows es e here h.steps next keep) none c.in-Some.at w.tested
+    w.found refl (λ g. (
+      g.within,
+      g.tested,
+      none ∙ sym (none-without-ds _ c.in-Some.at w.ds w.dnskey w.zone g.ds.keeps g.dnskey.keeps
+          g.zone.keeps (sym c.has_no_keys.ensures ∙ c.if-has_no_keys.true)),
+    ))
 
-pub returns-then-new_sets_hold-clause-ok : goal.returns-then-new_sets_hold-clause-ok
-returns-then-new_sets_hold-clause-ok c es e next keep h =
+pub returns-then-are_signed-clause-ok : goal.returns-then-are_signed-clause-ok
+returns-then-are_signed-clause-ok c es e next keep h =
     let w = c.follow.new.self in let f = c.in_ok-follow.ensures in
     let here : c.in-Some.at ≡ suc (length es) = omega (arith, h.at, c.in-Some.ensures) in
     let none = is-none w.found (sym c.is_some.ensures ∙ c.if-is_some.false) in
-    let ok = f.follows es e here h.steps next keep in
-    let g = follows es e c.args.self.now w c.args.mark c.in-Some.at h here next.has_mark
-    f.at f.found f.steps ok in
-    let all = c.new_sets_hold.ensures _ c.if-new_sets_hold.true g.ds.keeps g.dnskey.keeps
-    g.zone.keeps g.tested in
     searched es e c.args.self.now w c.args.mark c.in-Some.at h here next.has_mark
-    f.at f.found f.steps ok none c.in-Some.at _ w.found refl
-    (omega (arith, here, count es e, c.saturating_add-self.ensures))
-    (tested-held _ w.ds w.dnskey w.zone all)
-    (none ∙ sym (none-where-held _ c.in-Some.at w.ds w.dnskey w.zone g.ds.keeps g.dnskey.keeps
-    g.zone.keeps all))
+    f.at f.found f.steps (f.follows es e here h.steps next keep) none c.in-Some.at _ w.found refl
+    (λ g. (let all : AllHold w.ds w.dnskey w.zone = record {
+      keys = c.new_sets_hold-are_named.ensures _ c.if-are_named.true g.ds.keeps
+          g.dnskey.keeps g.tested.keys;
+      zones = c.new_sets_hold-are_signed.ensures _ c.if-are_signed.true g.dnskey.keeps
+          g.zone.keeps g.tested.zones;
+    } in (
+      omega (arith, here, count es e, c.saturating_add-self.ensures),
+      tested-held _ w.ds w.dnskey w.zone all,
+      none ∙ sym (none-where-held _ c.in-Some.at w.ds w.dnskey w.zone g.ds.keeps g.dnskey.keeps
+          g.zone.keeps all),
+    )))
 
 pub returns-clause-ok : goal.returns-clause-ok
 returns-clause-ok c es e next keep h =
     let w = c.follow.new.self in let f = c.in_ok-follow.ensures in
     let here : c.in-Some.at ≡ suc (length es) = omega (arith, h.at, c.in-Some.ensures) in
     let none = is-none w.found (sym c.is_some.ensures ∙ c.if-is_some.false) in
-    let ok = f.follows es e here h.steps next keep in
-    let g = follows es e c.args.self.now w c.args.mark c.in-Some.at h here next.has_mark
-    f.at f.found f.steps ok in
     searched es e c.args.self.now w c.args.mark c.in-Some.at h here next.has_mark
-    f.at f.found f.steps ok none c.in-Some.at w.tested _ refl g.within g.tested
-    (c.in_ok-self.ensures.ok _ g.ds.keeps g.dnskey.keeps g.zone.keeps)
+    f.at f.found f.steps (f.follows es e here h.steps next keep) none c.in-Some.at w.tested
+    _ refl (λ g. (
+      g.within,
+      g.tested,
+      c.find_broken-self.ensures _ g.ds.keeps g.dnskey.keeps g.zone.keeps (λ signed.
+          c.new_sets_hold-are_signed.ensures _ signed g.dnskey.keeps g.zone.keeps
+          g.tested.zones),
+    ))

@@ -1,28 +1,58 @@
--- A search over each set once has the answer of one over all spans.
-use Rattle.std.proofs.Common.{◌∙◌, ap, List, subst, sym}
-use Rattle.dnssec_judge.specs.declared.window.search.{First.First, Signed.Signed}
-use Rattle.dnssec_judge.specs.Inner.Firsts.{AreSigned, firsts_of, signed_of}
-use Rattle.dnssec_judge.specs.Inner.Window.{first_ds, stretches_of}
-use Rattle.dnssec_judge.proofs.OneByOne.Firsts.{same-broken}
+-- The next span's set fails, or it is left out.
+use Rattle.std.proofs.Common.{◌∙◌, arith, sym, ℕ}
+use Rattle.dnssec_judge.specs.Sets.{Numbered, set_of}
+use Rattle.dnssec_judge.specs.Inner.Window.{first_keys, stretches_of}
+use Rattle.dnssec_judge.proofs.OneByOne.{Firsts.done, Firsts.hit, Firsts.miss, Firsts.past}
+use Rattle.dnssec_judge.proofs.OneByOne.Pairs.{keys-held, no-keys}
 use Rattle.dnssec_judge.proofs.window.search.find_broken.Goals as goal
 
-pub returns-clause-ok : goal.returns-clause-ok
-returns-clause-ok c n k l m =
-    let p = c.args.ds.now in let q = c.args.dnskey.now in let z = c.args.zone.now in
-    let ds = c.in_ok-ds.ds.items in let dnskey = c.in_ok-dnskey.dnskey.items in
-    let zone = c.in_ok-zone.zone.items in let signed = c.in_ok-dnskey-2.dnskey.items in
-    let s = c.in_ok-dnskey-2.ensures.ok in
-    let to-keys = c.deref.ensures.value in let to-zone = c.deref-2.ensures.value in
-    let to-ds = c.deref-3.ensures.value in let to-signed = c.deref-4.ensures.value in
-    let to-zone-again = c.deref-5.ensures.value in
-    let are = subst (λ (ks : List Signed). AreSigned (firsts_of c.deref-5.result.now) ks)
-    (sym to-signed) (subst (λ (fs : List First). AreSigned (firsts_of fs) signed)
-    (to-zone ∙ sym to-zone-again) s.1) in
-    let keys = s.0 ∙ ap (λ (fs : List First). firsts_of fs) to-keys in
-    c.find_ds.ensures are
-    ∙ (λ i. first_ds c.args.at 0 (firsts_of (to-ds i)) 0 (signed_of (to-signed i)) 0
-    (firsts_of (to-zone-again i)))
-    ∙ (λ i. first_ds c.args.at 0 (firsts_of ds) 0 (keys i) 0 (firsts_of zone))
-    ∙ same-broken c.args.at p.floor q.floor z.floor (stretches_of p) (stretches_of q)
-    (stretches_of z) (firsts_of ds) (firsts_of dnskey) (firsts_of zone)
-    (c.in_ok-ds.ensures.ok n k) (c.in_ok-dnskey.ensures.ok n l) (c.in_ok-zone.ensures.ok n m)
+pub returns-in_default : goal.returns-in_default
+returns-in_default c n k l m s =
+    let dnskey = c.args.dnskey.now in let zone = c.args.zone.now in
+    done (λ (p : ℕ) (ds : Numbered). first_keys c.args.at p ds dnskey.floor
+    (stretches_of dnskey) zone.floor (stretches_of zone)) c.args.ds.now c.loop-place.place
+    (c.loop-place.invariant n k l m s)
+    (c.in_default.ensures n k)
+
+pub loop-place-preserved-then-is_empty : goal.loop-place-preserved-then-is_empty
+loop-place-preserved-then-is_empty c n k l m s =
+    let dnskey = c.args.dnskey.now in let zone = c.args.zone.now in let f = c.in-Some.first in
+    miss (λ (p : ℕ) (ds : Numbered). first_keys c.args.at p ds dnskey.floor
+    (stretches_of dnskey) zone.floor (stretches_of zone)) c.args.ds.now c.loop-place.place
+    (c.loop-place.invariant n k l m s) f (c.in-Some.ensures n k)
+    (no-keys n c.args.at dnskey zone l m (set_of f.set.now) f.at
+    (sym c.is_empty.ensures ∙ c.if-is_empty.true))
+
+pub loop-place-preserved-then-hold_below : goal.loop-place-preserved-then-hold_below
+loop-place-preserved-then-hold_below c n k l m s =
+    let dnskey = c.args.dnskey.now in let zone = c.args.zone.now in let f = c.in-Some.first in
+    miss (λ (p : ℕ) (ds : Numbered). first_keys c.args.at p ds dnskey.floor
+    (stretches_of dnskey) zone.floor (stretches_of zone)) c.args.ds.now c.loop-place.place
+    (c.loop-place.invariant n k l m s) f (c.in-Some.ensures n k)
+    (keys-held n c.args.at dnskey zone l m (set_of f.set.now) f.at
+    (sym (c.hold_below.ensures n l) ∙ c.if-hold_below.true) (s c.if-are_signed.true))
+
+pub returns-in-Some-find_keys : goal.returns-in-Some-find_keys
+returns-in-Some-find_keys c n k l m s =
+    let dnskey = c.args.dnskey.now in let zone = c.args.zone.now in let f = c.in-Some.first in
+    hit (λ (p : ℕ) (ds : Numbered). first_keys c.args.at p ds dnskey.floor
+    (stretches_of dnskey) zone.floor (stretches_of zone)) c.args.ds.now c.loop-place.place
+    (c.loop-place.invariant n k l m s) f (c.in-Some.ensures n k)
+    c.in-Some-find_keys.broken
+    (sym (c.find_keys.ensures n l m) ∙ c.in-Some-find_keys.is)
+
+pub loop-place-preserved : goal.loop-place-preserved
+loop-place-preserved c n k l m s =
+    let dnskey = c.args.dnskey.now in let zone = c.args.zone.now in let f = c.in-Some.first in
+    miss (λ (p : ℕ) (ds : Numbered). first_keys c.args.at p ds dnskey.floor
+    (stretches_of dnskey) zone.floor (stretches_of zone)) c.args.ds.now c.loop-place.place
+    (c.loop-place.invariant n k l m s) f (c.in-Some.ensures n k)
+    (sym (c.find_keys.ensures n l m) ∙ c.in_default-find_keys.is)
+
+pub returns : goal.returns
+returns c n k l m s =
+    let dnskey = c.args.dnskey.now in let zone = c.args.zone.now in
+    past (λ (p : ℕ) (ds : Numbered). first_keys c.args.at p ds dnskey.floor
+    (stretches_of dnskey) zone.floor (stretches_of zone)) c.args.ds.now c.loop-place.place
+    (c.loop-place.invariant n k l m s)
+    (omega (arith, c.len-place-end.ensures, c.loop-place-test.false))

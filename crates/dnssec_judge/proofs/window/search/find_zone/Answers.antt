@@ -1,28 +1,33 @@
--- The first of the rest fails, or is left out.
-use Rattle.std.proofs.Common.{◌∙◌, ap, Some, None, sym}
+-- The next span's set fails, or it is left out.
+use Rattle.std.proofs.Common.{◌∙◌, ap, arith, Some, None, sym}
 use Rattle.std.specs.Prelude.{if◌then◌else◌}
-use Rattle.dnssec_judge.specs.Sets.{set_of, zone_holds}
-use Rattle.dnssec_judge.specs.Inner.{Firsts.first_of_set, Window.if_failing}
-use Rattle.dnssec_judge.proofs.OneByOne.Firsts.{done, hit, miss}
+use Rattle.dnssec_judge.specs.{Sets.set_of, Sets.sets_have_chain, Inner.Window.if_failing}
+use Rattle.dnssec_judge.proofs.OneByOne.Firsts.{done, hit, miss, past}
 use Rattle.dnssec_judge.proofs.window.search.find_zone.Goals as goal
 
-pub returns-then-not-holds_with_signers : goal.returns-then-not-holds_with_signers
-returns-then-not-holds_with_signers c =
-    let f = c.signers-item.result in
-    hit (if_failing (zone_holds (set_of c.args.keys.now))) first_of_set c.args.zone.now
-    c.loop-signers.signers-index _ c.loop-signers.invariant f c.loop-signers-test.true
-    c.signers-item.is f.at (ap (λ b. if b then None else Some f.at)
-    (sym c.holds_with_signers.ensures ∙ c.if-not-holds_with_signers.true))
+pub returns-in_default : goal.returns-in_default
+returns-in_default c n k =
+    done (if_failing (sets_have_chain (set_of c.args.ds.now) (set_of c.args.keys.now)))
+    c.args.zone.now c.loop-place.place (c.loop-place.invariant n k) (c.in_default.ensures n k)
 
-pub loop-signers-preserved : goal.loop-signers-preserved
-loop-signers-preserved c =
-    let f = c.signers-item.result in
-    miss (if_failing (zone_holds (set_of c.args.keys.now))) first_of_set c.args.zone.now
-    c.loop-signers.signers-index _ c.loop-signers.invariant f c.loop-signers-test.true
-    c.signers-item.is (ap (λ b. if b then None else Some f.at)
-    (sym c.holds_with_signers.ensures ∙ c.if-not-holds_with_signers.false))
+pub returns-then-not-has_chain : goal.returns-then-not-has_chain
+returns-then-not-has_chain c n k =
+    let f = c.in-Some.signers in
+    hit (if_failing (sets_have_chain (set_of c.args.ds.now) (set_of c.args.keys.now)))
+    c.args.zone.now c.loop-place.place (c.loop-place.invariant n k) f (c.in-Some.ensures n k) f.at
+    (ap (λ b. if b then None else Some f.at)
+    (sym c.has_chain.ensures ∙ c.if-not-has_chain.true))
+
+pub loop-place-preserved : goal.loop-place-preserved
+loop-place-preserved c n k =
+    let f = c.in-Some.signers in
+    miss (if_failing (sets_have_chain (set_of c.args.ds.now) (set_of c.args.keys.now)))
+    c.args.zone.now c.loop-place.place (c.loop-place.invariant n k) f (c.in-Some.ensures n k)
+    (ap (λ b. if b then None else Some f.at)
+    (sym c.has_chain.ensures ∙ c.if-not-has_chain.false))
 
 pub returns : goal.returns
-returns c =
-    done (if_failing (zone_holds (set_of c.args.keys.now))) first_of_set c.args.zone.now
-    c.loop-signers.signers-index _ c.loop-signers.invariant c.loop-signers-test.false
+returns c n k =
+    past (if_failing (sets_have_chain (set_of c.args.ds.now) (set_of c.args.keys.now)))
+    c.args.zone.now c.loop-place.place (c.loop-place.invariant n k)
+    (omega (arith, c.len-place-end.ensures, c.loop-place-test.false))

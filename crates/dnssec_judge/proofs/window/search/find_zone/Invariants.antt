@@ -1,10 +1,12 @@
--- The rest has the answer.
-use Rattle.std.proofs.Common.{◌≡◌, drop}
-use Rattle.dnssec_judge.specs.Sets.{set_of, zone_holds}
-use Rattle.dnssec_judge.specs.Inner.{Firsts.firsts_of, Window.first_failing}
+-- The spans from the place on have the answer.
+use Rattle.std.proofs.Common.{◌≡◌, ℕ, drop}
+use Rattle.dnssec_judge.specs.Sets.{set_of, sets_have_chain}
+use Rattle.dnssec_judge.specs.Inner.Window.{Keeps, first_failing, stretches_of}
 use Rattle.dnssec_judge.proofs.window.search.find_zone.Given as goal
 
-abbrev pub invariant-loop-signers : goal.invariant-loop-signers
-invariant-loop-signers l =
-    first_failing (zone_holds (set_of l.keys)) 0 (firsts_of (drop l.signers-index l.zone))
-    ≡ first_failing (zone_holds (set_of l.keys)) 0 (firsts_of l.zone)
+abbrev pub invariant-loop-place : goal.invariant-loop-place
+invariant-loop-place l = (n : ℕ) → Keeps n l.zone →
+    first_failing (sets_have_chain (set_of l.ds) (set_of l.keys)) l.zone.floor
+    (drop l.place (stretches_of l.zone))
+    ≡ first_failing (sets_have_chain (set_of l.ds) (set_of l.keys)) l.zone.floor
+    (stretches_of l.zone)

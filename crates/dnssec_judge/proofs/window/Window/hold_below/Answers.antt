@@ -1,0 +1,21 @@
+-- What a key links to the common set holds with each.
+use Rattle.std.proofs.Common.{ap, List, rules, sym, tests, ◌∙◌}
+use Rattle.std.specs.List.{list_all}
+use Rattle.std.proofs.lemmas.Iterator.{YieldsList-from_slice, Search.all_from_yields_List}
+use Rattle.dnssec_judge.proofs.OneByOne.Pairs.{all-from, below-common}
+use Rattle.dnssec_judge.specs.{declared.sets.held.OpenSet.OpenSet, Sets.holds, Sets.set_of}
+use Rattle.dnssec_judge.proofs.window.Window.hold_below.Goals as goal
+
+pub returns-then-has_key : goal.returns-then-has_key
+returns-then-has_key c n k =
+    let link = c.args.link in let above = set_of c.args.above.now in
+    sym (all-from (λ h. holds link above (set_of h)) c.args.self.now.sets.items
+    (λ h held. below-common link above c.in-Some.common.now h (c.in-Some.ensures n k h held)
+    (sym c.has_key.ensures ∙ c.if-has_key.true)))
+
+pub returns : goal.returns
+returns c n k =
+    let test = λ (x : OpenSet). holds c.args.link (set_of c.args.above.now) (set_of x) in
+    all_from_yields_List test _ _ _ c.all.ensures.ran (YieldsList-from_slice c.deref.result.now cc)
+    (λ x b q called. search (rules, tests))
+    ∙ ap (λ (hs : List OpenSet). list_all test hs) c.deref.ensures.value
