@@ -1,6 +1,6 @@
 -- A list that keeps a frame, and the numbers of the list of before.
 use Rattle.std.proofs.Common.{◌≡◌, ◌∙◌, ◌++◌, ◌∷◌, [], ap, arith, map, refl, sym, subst, suc, ℕ}
-use Rattle.std.proofs.Common.{List, Option, Some, append-nil, drop, length, take}
+use Rattle.std.proofs.Common.{List, Some, append-nil, drop, length, take}
 use Rattle.std.proofs.Math.Seq.{drop-append_seam, take-append_seam}
 use Rattle.std.proofs.lemmas.List.{append_cancel_left, append_cancel_right, length-append}
 use Rattle.std.proofs.lemmas.List.{length-map}
@@ -11,7 +11,7 @@ use Rattle.dnssec_run.specs.Published.{Id, id_of}
 use Rattle.dnssec_judge.specs.Numbers.{Grows, StandFor, key_at}
 use Rattle.dnssec_judge.specs.declared.sets.numbers.Numbers.{Numbers}
 use Rattle.dnssec_judge.proofs.Table.{InThree, in-three, stand-both, stand-on, stand-once}
-use Rattle.dnssec_judge.proofs.Table.{stand-three}
+use Rattle.dnssec_judge.proofs.Table.{stand-len, stand-three}
 
 -- lists that stand in one frame differ only within
 within : (front one other back : List Id) → front ++ (one ++ back) ≡ front ++ (other ++ back)
@@ -22,11 +22,6 @@ within front one other back e =
 image-len : {A B : Type 0} (f : A → B) (xs : List A) (ys : List B) → map f xs ≡ ys
     → length xs ≡ length ys
 image-len f xs ys e = sym (length-map xs f) ∙ ap length e
-
-pub stand-len : (t : Numbers) (ns : List ℕ) (ids : List Id) → StandFor t ns ids
-    → length ns ≡ length ids
-stand-len t ns ids h =
-    image-len (key_at t) ns (map Some ids) h ∙ length-map {B = Option Id} ids Some
 
 -- a list whose front is as long as the list is its front
 only-front : (front rest all : List Id) → all ≡ front ++ rest → length all ≡ length front

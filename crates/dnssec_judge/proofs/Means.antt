@@ -5,7 +5,7 @@ use Rattle.std.proofs.lemmas.Bool.Decides.{Decides-and, Decides-like, same_from_
 use Rattle.std.proofs.lemmas.List.Folds.{Any-from_list_any, list_any-from_Any}
 use Rattle.std.specs.Prelude.{IsSome, ◌&&◌, ◌||◌, nat_eq}
 use Rattle.std.proofs.lemmas.Bool.{eq-eqb, eqb-true, false_from_ne_true, false≢true, true≢false}
-use Rattle.std.proofs.lemmas.List.{get_or-map, get_or_default, length-map, Elements.Contains-get_or}
+use Rattle.std.proofs.lemmas.List.{get_or-map, get_or_default, Elements.Contains-get_or}
 use Rattle.std.{proofs.lemmas.Option.same_Some, specs.List.Contains, specs.List.list_any}
 use Rattle.dnssec_run.{specs.Origins.CachedSet, specs.Published.Id, proofs.Since.same-id}
 use Rattle.dnssec_judge.specs.Bits.{Share, ShareAll, has_bit, has_none, meet, meet_three}
@@ -13,6 +13,7 @@ use Rattle.dnssec_judge.specs.Chained.{is_in, is_none, trusts_keys, trusts_zone}
 use Rattle.dnssec_judge.specs.Numbers.{Grows, IsTable, Means, MeansSet, StandFor, key_at}
 use Rattle.dnssec_judge.{specs.Sets.Numbered, specs.Sets.sets_have_chain, proofs.Lists.any-key}
 use Rattle.dnssec_judge.{specs.declared.sets.numbers.Numbers.Numbers, proofs.Lists.in-list}
+use Rattle.dnssec_judge.proofs.Table.{stand-len}
 use Rattle.dnssec_judge.proofs.Words.{meet-decides, meet-three-decides, none-decides}
 
 -- the key of a number
@@ -43,16 +44,11 @@ means-grow t u p set grows h = (
 
 -- ---- bits of the numbers of a list
 
-same-length : (t : Numbers) (ns : List ℕ) (ks : List Id) → StandFor t ns ks
-    → length ns ≡ length ks
-same-length t ns ks h =
-    omega (arith, ap length h, length-map ns (key_at t), length-map {B = Option Id} ks Some)
-
 -- the key of the number at a place
 at-place : (t : Numbers) (ns : List ℕ) (ks : List Id) → StandFor t ns ks → (i n : ℕ) (k : Id)
     → i < length ks → key_at t (get_or ns i n) ≡ Some (get_or ks i k)
 at-place t ns ks h i n k lt =
-    sym (get_or-map (key_at t) ns i n (Some k) (omega (arith, lt, same-length t ns ks h)))
+    sym (get_or-map (key_at t) ns i n (Some k) (omega (arith, lt, stand-len t ns ks h)))
     ∙ ap (λ (os : List (Option Id)). get_or os i (Some k)) h
     ∙ get_or-map {Y = Option Id} Some ks i k (Some k) lt
 
@@ -61,10 +57,10 @@ number-stands : (t : Numbers) (ns : List ℕ) (ks : List Id) (n : ℕ) → Stand
     → list_any (λ m. nat_eq m n) ns ≡ true → (k : Id) × Contains ks k × (key_at t n ≡ Some k)
 number-stands t ns [] n h e =
     let a = Any-from_list_any (λ m. nat_eq m n) ns e in
-    absurd (omega (arith, a.2, same-length t ns [] h))
+    absurd (omega (arith, a.2, stand-len t ns [] h))
 number-stands t ns (k ∷ ks) n h e =
     let a = Any-from_list_any (λ m. nat_eq m n) ns e in
-    let lt : a.0 < length (k ∷ ks) = omega (arith, a.2, same-length t ns (k ∷ ks) h) in (
+    let lt : a.0 < length (k ∷ ks) = omega (arith, a.2, stand-len t ns (k ∷ ks) h) in (
       get_or (k ∷ ks) a.0 k,
       Contains-get_or (k ∷ ks) a.0 k lt,
       ap (key_at t) (sym (a.3 ∙ eqb-true a.1 n a.4)) ∙ at-place t ns (k ∷ ks) h a.0 a.1 k lt,
@@ -75,7 +71,7 @@ key-stands : (t : Numbers) (ns : List ℕ) (ks : List Id) (k : Id) → StandFor 
     → Contains ks k → (n : ℕ) × (list_any (λ m. nat_eq m n) ns ≡ true) × (key_at t n ≡ Some k)
 key-stands t ns ks k h c =
     let n = get_or ns c.0 0 in
-    let lt : c.0 < length ns = omega (arith, c.1, same-length t ns ks h) in (
+    let lt : c.0 < length ns = omega (arith, c.1, stand-len t ns ks h) in (
       n,
       list_any-from_Any (λ m. nat_eq m n) ns
           (c.0, n, lt, get_or_default ns c.0 n 0 lt, eq-eqb n n refl),

@@ -3,7 +3,7 @@
 use Rattle.std.proofs.Common.{drop, take-append-drop, ◌≡◌, ℕ, zero, suc, ◌<◌, true, false, refl}
 use Rattle.std.proofs.Common.{sym, ◌∙◌, ap, arith, subst, List, [], ◌∷◌, ◌++◌, length, map, take}
 use Rattle.std.proofs.Common.{Option, None, Some, inl, inr}
-use Rattle.std.proofs.lemmas.List.{take-map, drop-map, take_at, drop_at, map-append}
+use Rattle.std.proofs.lemmas.List.{take-map, drop-map, length-map, take_at, drop_at, map-append}
 use Rattle.std.specs.Prelude.{slice_get, ◌-◌, Bool, IsSome, if◌then◌else◌, nat_eq}
 use Rattle.std.proofs.lemmas.{Bool.cases_eq, Bool.cases_lt, Option.none-some, Option.same_Some}
 use Rattle.std.proofs.lemmas.Option.{slice_get-map, slice_get_past, slice_get_within}
@@ -115,6 +115,12 @@ stand-by t u (n ∷ ns) (k ∷ ks) on h =
 pub stand-on : (t u : Numbers) (ns : List ℕ) (ks : List Id) → Grows t u → StandFor t ns ks
     → StandFor u ns ks
 stand-on t u ns ks grows = stand-by t u ns ks (λ n k c. grows n k)
+
+-- as many numbers as keys
+pub stand-len : (t : Numbers) (ns : List ℕ) (ks : List Id) → StandFor t ns ks
+    → length ns ≡ length ks
+stand-len t ns ks h =
+    omega (arith, ap length h, length-map ns (key_at t), length-map {B = Option Id} ks Some)
 
 -- numbers stand for one list
 pub stand-once : (t : Numbers) (ns : List ℕ) (ks ls : List Id) → StandFor t ns ks → StandFor t ns ls

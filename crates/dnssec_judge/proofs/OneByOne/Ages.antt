@@ -1,6 +1,6 @@
 -- Sets in the order in which they came, for the judge: what spans find of them.
 use Rattle.std.proofs.Common.{◌≡◌, ℕ, ◌<◌, ◌≤◌, true, false, refl, sym, ◌∙◌, ap, arith, List, None}
-use Rattle.std.proofs.Common.{Some, subst, [], ◌∷◌, inl, inr, map, length, get_or, ltb}
+use Rattle.std.proofs.Common.{Some, [], ◌∷◌, inl, inr, map, length, get_or, ltb}
 use Rattle.std.proofs.lemmas.Bool.{ltb-true, ltb-false, cases_lt, eq-eqb, ne_eqb}
 use Rattle.std.proofs.lemmas.List.Elements.{All-tail, All-nil, All-cons, Contains-get_or}
 use Rattle.std.proofs.lemmas.List.Recursion.{found_at, found_nowhere}
@@ -84,21 +84,18 @@ non-decreasing hs order i j d le lt = elim (cases_lt i j) [
 ]
 
 -- no set came at a position, if the first that came so late didn't come then
-pub none-since : (hs items : List OpenSet) (place since : ℕ) → hs ≡ items → AreByAge items
-    → IsPartitionPoint (λ g. ltb g.since since ≡ true) (λ g. ltb g.since since ≡ false) hs place
+pub none-since : (items : List OpenSet) (place since : ℕ) → AreByAge items
+    → IsPartitionPoint (λ g. ltb g.since since ≡ true) (λ g. ltb g.since since ≡ false) items place
     → ((d : OpenSet) → place < length items → (get_or items place d).since ≡ since → ⊥)
     → came_since items since ≡ None
-none-since hs [] place since same order point none = refl
-none-since hs (g ∷ items) place since same order point none =
+none-since [] place since order point none = refl
+none-since (g ∷ items) place since order point none =
     found_nowhere (λ gs. came_since gs since) (λ h. nat_eq h.since since) (λ h. Some h) None refl
     (λ _ _. refl) (g ∷ items) g (λ k lt. ne_eqb _ _ (elim (cases_lt k place) [
       | inl less ↦ (λ e. let l = ltb-true _ _ (point.0 k g (omega arith) less) in
-          let at = ap (λ (xs : List OpenSet). (get_or xs k g).since) same in
-          omega (arith, l, e, at))
+          omega (arith, l, e))
       | inr ge ↦ (λ e. let within : place < length (g ∷ items) = omega (arith, ge, lt) in
-          let l = ltb-false _ _ (point.1 place g (omega arith)
-          (omega (arith, within, ap (λ (xs : List OpenSet). length xs) same))) in
-          let at = ap (λ (xs : List OpenSet). (get_or xs place g).since) same in
+          let l = ltb-false _ _ (point.1 place g (omega arith) within) in
           let n = non-decreasing (g ∷ items) order place k g ge lt in
-          none g within (omega (arith, l, at, n, e)))
+          none g within (omega (arith, l, n, e)))
     ]))

@@ -123,6 +123,6 @@ impl OpenSet {
     pub(crate) fn has_chain(&self, dnskey: &OpenSet, zone: &OpenSet) -> bool
         ensures { result ≡ sets_have_chain (set_of self.now) (set_of dnskey.now) (set_of zone.now) }
     {
-        self.is_empty() || self.names_key_of(dnskey) && dnskey.holds_with_signers(zone)
+        self.is_empty() || (self.names_key_of(dnskey) && dnskey.holds_with_signers(zone))
     }
 }

@@ -1,5 +1,6 @@
 //! Which sets a window holds, each once, and what helps with many.
-ghost use Rattle.std.specs.Prelude.{◌≡◌, ℕ, suc};
+ghost use Rattle.std.specs.Prelude.{◌≡◌, ◌≤◌, ℕ, suc, false, true, length, nat_lt};
+ghost use Rattle.std.specs.List.Sorted.{IsPartitionPoint};
 ghost use Rattle.std.specs.Prelude.{Option, None, Some, slice_get, IfOk, IfErr, IfSome, OnOk};
 ghost use Rattle.dnssec_base.specs.declared.error.Error.TheVariants.{OutOfMemory};
 ghost use Rattle.dnssec_judge.specs.{Sets.set_of, declared.sets.held.OpenSet.OpenSet};
@@ -160,11 +161,21 @@ impl Window {
         ensures none { result ≡ None → AreByAge self.now.sets.items →
             came_since self.now.sets.items since ≡ None }
     {
-        let place = self.sets.partition_point(|set| set.since < since);
+        let place = self.place_from(since);
         match self.sets.get(place) {
             Some(set) if set.since == since => Some(place),
             _ => None,
         }
+    }
+
+    /// The place of the first set that came at a position or later.
+    pub(super) fn place_from(&self, since: usize) -> usize
+        ensures within { result ≤ length self.now.sets.items }
+        ensures point { AreByAge self.now.sets.items →
+            IsPartitionPoint (λ h. nat_lt h.since since ≡ true)
+            (λ h. nat_lt h.since since ≡ false) self.now.sets.items result }
+    {
+        self.sets.partition_point(|set| set.since < since)
     }
 
     /// Drops the sets that have no span left.

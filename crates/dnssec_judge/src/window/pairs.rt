@@ -70,7 +70,7 @@ impl Window {
         ensures { AreByAge self.now.sets.items → (h : OpenSet) → IsOpen self.now h →
             tested ≤ h.since → Contains result.now h }
     {
-        let first = self.sets.partition_point(|set| set.since < tested);
+        let first = self.place_from(tested);
         let (_, new) = self.sets.split_at(first);
         new
     }

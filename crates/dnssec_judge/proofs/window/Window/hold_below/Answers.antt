@@ -2,16 +2,14 @@
 use Rattle.std.proofs.Common.{ap, List, rules, sym, tests, ◌∙◌}
 use Rattle.std.specs.List.{list_all}
 use Rattle.std.proofs.lemmas.Iterator.{YieldsList-from_slice, Search.all_from_yields_List}
-use Rattle.dnssec_judge.proofs.OneByOne.Pairs.{all-from, below-common}
+use Rattle.dnssec_judge.proofs.OneByOne.Pairs.{all-below}
 use Rattle.dnssec_judge.specs.{declared.sets.held.OpenSet.OpenSet, Sets.holds, Sets.set_of}
 use Rattle.dnssec_judge.proofs.window.Window.hold_below.Goals as goal
 
 pub returns-then-has_key : goal.returns-then-has_key
 returns-then-has_key c n k =
-    let link = c.args.link in let above = set_of c.args.above.now in
-    sym (all-from (λ h. holds link above (set_of h)) c.args.self.now.sets.items
-    (λ h held. below-common link above c.in-Some.common.now h (c.in-Some.ensures n k h held)
-    (sym c.has_key.ensures ∙ c.if-has_key.true)))
+    all-below c.args.link (set_of c.args.above.now) c.in-Some.common.now c.args.self.now
+    (c.in-Some.ensures n k) (sym c.has_key.ensures ∙ c.if-has_key.true)
 
 pub returns : goal.returns
 returns c n k =

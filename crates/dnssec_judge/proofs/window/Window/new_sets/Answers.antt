@@ -1,11 +1,9 @@
 -- The new sets are those from a place on.
-use Rattle.std.proofs.Common.{◌≡◌, ◌∙◌, ◌-◌, ◌+◌, ◌≤◌, ap, arith, get_or, inl, inr, List, ltb, ℕ}
-use Rattle.std.proofs.Common.{drop, rules, subst, sym}
-use Rattle.std.proofs.lemmas.List.Sorted.{IsPartitionPoint-from_clause, IsPartitionedBy-ltb}
+use Rattle.std.proofs.Common.{◌≡◌, ◌∙◌, ◌-◌, ◌+◌, ◌≤◌, ap, arith, get_or, inl, inr, List, ℕ}
+use Rattle.std.proofs.Common.{drop, subst, sym}
 use Rattle.std.specs.List.{Contains}
 use Rattle.std.proofs.lemmas.{Bool.cases_lt, Bool.ltb-true, List.get_or-drop, List.length-drop}
-use Rattle.dnssec_judge.proofs.OneByOne.Ages.{non-decreasing}
-use Rattle.dnssec_judge.specs.{declared.sets.held.OpenSet.OpenSet, Inner.Window.AreByAge}
+use Rattle.dnssec_judge.specs.declared.sets.held.OpenSet.{OpenSet}
 use Rattle.dnssec_judge.proofs.window.Window.new_sets.Goals as goal
 
 -- an item at a place or after it is in the rest
@@ -20,22 +18,16 @@ in-rest hs first h c le =
 
 pub returns : goal.returns
 returns c order h held ge =
-    let hs = c.deref.result.now in
-    let value = c.deref.ensures.value in
-    let first = c.partition_point-first.result in
-    let point = IsPartitionPoint-from_clause (λ (g : OpenSet). ltb g.since c.args.tested) _ _
-    c.partition_point-first.ensures.partitioned
-    (IsPartitionedBy-ltb (λ (g : OpenSet). g.since) hs c.args.tested
-    (non-decreasing hs (subst (λ (xs : List OpenSet). AreByAge xs) (sym value) order)))
-    (λ a r q k. search rules) in
-    let there = subst (λ (xs : List OpenSet). Contains xs h) (sym value) held in
-    let after : first ≤ there.0 = elim (cases_lt there.0 first) [
+    let first = c.place_from-first.result in
+    let after : first ≤ held.0 = elim (cases_lt held.0 first) [
       | inl lt ↦
-          let early = ltb-true _ _ (point.0 there.0 h (omega arith) lt) in
-          let got = ap (λ (x : OpenSet). x.since) there.2 in
+          let point = c.place_from-first.ensures.point order in
+          let early = ltb-true _ _ (point.0 held.0 h (omega arith) lt) in
+          let got = ap (λ (x : OpenSet). x.since) held.2 in
           absurd (omega (arith, early, got, ge))
       | inr more ↦ more
     ] in
     let back = c.split_at.ensures.back
-    ∙ ap (λ (xs : List OpenSet). drop first xs) (c.deref-2.ensures.value ∙ sym value) in
-    subst (λ (xs : List OpenSet). Contains xs h) (sym back) (in-rest hs first h there after)
+    ∙ ap (λ (xs : List OpenSet). drop first xs) c.deref.ensures.value in
+    subst (λ (xs : List OpenSet). Contains xs h) (sym back)
+    (in-rest c.args.self.now.sets.items first h held after)

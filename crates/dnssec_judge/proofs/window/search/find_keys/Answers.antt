@@ -1,23 +1,27 @@
 -- The next span's set fails, or it is left out.
-use Rattle.std.proofs.Common.{◌∙◌, ap, arith, sym}
+use Rattle.std.proofs.Common.{◌∙◌, ap, arith, Option, sym, ℕ}
 use Rattle.std.specs.Option.{option_map}
-use Rattle.dnssec_judge.specs.Sets.{set_of}
+use Rattle.dnssec_judge.specs.{Sets.Numbered, Sets.set_of, declared.verdict.Broken.Broken}
+use Rattle.dnssec_judge.specs.declared.window.{Window.Window, search.First.First}
 use Rattle.dnssec_judge.specs.Inner.Window.{broken, stretches_of, with_keys}
 use Rattle.dnssec_judge.proofs.OneByOne.{Firsts.done, Firsts.hit, Firsts.miss, Firsts.past}
 use Rattle.dnssec_judge.proofs.OneByOne.Pairs.{signers-held}
 use Rattle.dnssec_judge.proofs.window.search.find_keys.Goals as goal
 
+abbrev seek : ℕ → First → Window → ℕ → Numbered → Option Broken
+seek at d zone = with_keys at d.at (set_of d.set.now) zone.floor (stretches_of zone)
+
 pub returns-in_default : goal.returns-in_default
 returns-in_default c n k m =
     let d = c.args.ds.now in let zone = c.args.zone.now in
-    done (with_keys c.args.at d.at (set_of d.set.now) zone.floor (stretches_of zone))
-    c.args.dnskey.now c.loop-place.place (c.loop-place.invariant n k m) (c.in_default.ensures n k)
+    done (seek c.args.at d zone) c.args.dnskey.now c.loop-place.place
+    (c.loop-place.invariant n k m) (c.in_default.ensures n k)
 
 pub loop-place-preserved-then-hold_below : goal.loop-place-preserved-then-hold_below
 loop-place-preserved-then-hold_below c n k m =
     let d = c.args.ds.now in let zone = c.args.zone.now in let f = c.in-Some.keys in
-    miss (with_keys c.args.at d.at (set_of d.set.now) zone.floor (stretches_of zone))
-    c.args.dnskey.now c.loop-place.place (c.loop-place.invariant n k m) f (c.in-Some.ensures n k)
+    miss (seek c.args.at d zone) c.args.dnskey.now c.loop-place.place
+    (c.loop-place.invariant n k m) f (c.in-Some.ensures n k)
     (signers-held n c.args.at c.args.dnskey.now zone k m (set_of d.set.now) d.at f.at
     (set_of f.set.now) (sym c.holds_with_keys.ensures ∙ c.if-holds_with_keys.true)
     (sym (c.hold_below.ensures n m) ∙ c.if-hold_below.true))
@@ -25,22 +29,22 @@ loop-place-preserved-then-hold_below c n k m =
 pub returns-in-Some-find_zone : goal.returns-in-Some-find_zone
 returns-in-Some-find_zone c n k m =
     let d = c.args.ds.now in let zone = c.args.zone.now in let f = c.in-Some.keys in
-    hit (with_keys c.args.at d.at (set_of d.set.now) zone.floor (stretches_of zone))
-    c.args.dnskey.now c.loop-place.place (c.loop-place.invariant n k m) f (c.in-Some.ensures n k)
+    hit (seek c.args.at d zone) c.args.dnskey.now c.loop-place.place
+    (c.loop-place.invariant n k m) f (c.in-Some.ensures n k)
     _ (ap (option_map (broken c.args.at d.at f.at))
     (sym (c.find_zone.ensures n m) ∙ c.in-Some-find_zone.is))
 
 pub loop-place-preserved : goal.loop-place-preserved
 loop-place-preserved c n k m =
     let d = c.args.ds.now in let zone = c.args.zone.now in let f = c.in-Some.keys in
-    miss (with_keys c.args.at d.at (set_of d.set.now) zone.floor (stretches_of zone))
-    c.args.dnskey.now c.loop-place.place (c.loop-place.invariant n k m) f (c.in-Some.ensures n k)
+    miss (seek c.args.at d zone) c.args.dnskey.now c.loop-place.place
+    (c.loop-place.invariant n k m) f (c.in-Some.ensures n k)
     (ap (option_map (broken c.args.at d.at f.at))
     (sym (c.find_zone.ensures n m) ∙ c.in_default-find_zone.is))
 
 pub returns : goal.returns
 returns c n k m =
     let d = c.args.ds.now in let zone = c.args.zone.now in
-    past (with_keys c.args.at d.at (set_of d.set.now) zone.floor (stretches_of zone))
-    c.args.dnskey.now c.loop-place.place (c.loop-place.invariant n k m)
+    past (seek c.args.at d zone) c.args.dnskey.now c.loop-place.place
+    (c.loop-place.invariant n k m)
     (omega (arith, c.len-place-end.ensures, c.loop-place-test.false))

@@ -4,7 +4,7 @@ use Rattle.std.proofs.lemmas.List.{length-map}
 use Rattle.dnssec_run.proofs.Since.{same-ids}
 use Rattle.dnssec_run.specs.Published.{id_of}
 use Rattle.dnssec_judge.specs.Numbers.{StandFor}
-use Rattle.dnssec_judge.proofs.Framed.{all-front, stand-len}
+use Rattle.dnssec_judge.proofs.{Framed.all-front, Table.stand-len}
 use Rattle.dnssec_judge.proofs.sets.numbers.Numbers.read.Goals as goal
 
 pub returns-then-as_slice-list-clause-ok : goal.returns-then-as_slice-list-clause-ok

@@ -81,6 +81,20 @@ module _ (t : Numbers) (known : List ℕ) (list : List PublishedKey) (frame : Fr
       ∙ (new t known list was frame h keeps).is_two) ∙ sym keeps.splits_new in
       subst (StandFor u ns) whole (stands keeps.front keeps.back ahead after)
 
+  -- so the list is read
+  read-between : (u : Numbers) (ns after : List ℕ) → after ≡ front ++ (ns ++ back) → Grows t u
+      → StandFor u ns (map id_of changed) → (StandFor t middle (map id_of changed) → ⊥)
+      → StandFor u after (map id_of list) × (same_ids was (map id_of list) ≡ false)
+  read-between u ns after is grows stands lacks =
+      (rw is (between u ns grows stands), is-other lacks)
+
+  read-anew : (u : Numbers) (ns after : List ℕ) → after ≡ ns
+      → ((ahead after : List Id) → StandFor t front ahead
+      → StandFor t back after → StandFor u ns (ahead ++ (map id_of changed ++ after)))
+      → (StandFor t middle (map id_of changed) → ⊥)
+      → StandFor u after (map id_of list) × (same_ids was (map id_of list) ≡ false)
+  read-anew u ns after is stands lacks = (rw is (anew u ns stands), is-other lacks)
+
 pub returns-then-are-clause-ok : goal.returns-then-are-clause-ok
 returns-then-are-clause-ok c = record {
   table = λ t. t;
@@ -127,78 +141,59 @@ pub returns-then-came-eq0-clause-ok : goal.returns-then-came-eq0-clause-ok
 returns-then-came-eq0-clause-ok c = record {
   table = λ t. t;
   grows = λ t n k e. e;
-  read = λ was t h keeps. (
-    let front = c.parts.result.0.now in let back = c.parts.result.2.now in
-        let one = first-of c.parts.result.1.now c.if-left-eq1.true in
-        let all : c.args.known.now.numbers.items ≡ front ++ one.0 ∷ back =
-        sym c.as_slice.ensures ∙ c.parts.ensures.whole ∙ ap (λ m. front ++ (m ++ back)) one.1 in
-        subst (λ (ns : List ℕ). StandFor c.args.self.now ns (map id_of c.args.list.now))
-        (sym (c.remove.ensures
-        ∙ removed c.args.known.now.numbers.items front back (length front) one.0 all refl))
-        (between c.args.self.now c.args.known.now.numbers.items c.args.list.now c.args.frame
-        c.parts.result.0.now c.parts.result.1.now c.parts.result.2.now c.parts-2.result.1.now
-        (λ a b d is. c.parts.ensures.framed a b d (c.as_slice.ensures ∙ is))
-        (λ a b d is f k. (c.parts-2.ensures.framed a b d is f k).1) was h keeps
-        c.args.self.now [] (λ n k e. e)
-        (λ i. map {B = Option Id} Some
-        (map id_of (sym (none-at-all c.parts-2.result.1.now c.if-came-eq0.true) i)))),
-    is-other c.args.self.now c.args.known.now.numbers.items c.args.list.now c.args.frame
-        c.parts.result.0.now c.parts.result.1.now c.parts.result.2.now c.parts-2.result.1.now
-        (λ a b d is. c.parts.ensures.framed a b d (c.as_slice.ensures ∙ is))
-        (λ a b d is f k. (c.parts-2.ensures.framed a b d is f k).1) was h keeps
-        (c.are.ensures.no c.if-are.false),
-  );
+  read = λ was t h keeps.
+      (let front = c.parts.result.0.now in let back = c.parts.result.2.now in
+      let one = first-of c.parts.result.1.now c.if-left-eq1.true in
+      let all : c.args.known.now.numbers.items ≡ front ++ one.0 ∷ back =
+      sym c.as_slice.ensures ∙ c.parts.ensures.whole ∙ ap (λ m. front ++ (m ++ back)) one.1 in
+      read-between c.args.self.now c.args.known.now.numbers.items c.args.list.now
+      c.args.frame c.parts.result.0.now c.parts.result.1.now c.parts.result.2.now
+      c.parts-2.result.1.now
+      (λ a b d is. c.parts.ensures.framed a b d (c.as_slice.ensures ∙ is))
+      (λ a b d is f k. (c.parts-2.ensures.framed a b d is f k).1) was h keeps
+      c.args.self.now [] _ (c.remove.ensures
+      ∙ removed c.args.known.now.numbers.items front back (length front) one.0 all refl)
+      (λ n k e. e) (λ i. map {B = Option Id} Some
+      (map id_of (sym (none-at-all c.parts-2.result.1.now c.if-came-eq0.true) i)))
+      (c.are.ensures.no c.if-are.false));
 }
 
 pub returns-then-came-eq1-clause-ok : goal.returns-then-came-eq1-clause-ok
 returns-then-came-eq1-clause-ok c = record {
   table = c.in_ok-number.ensures.table;
   grows = c.in_ok-number.ensures.grows;
-  read = λ was t h keeps. (
-    let front = c.parts.result.0.now in let back = c.parts.result.2.now in
-        let key = c.index-changed-0.result in let number = c.in_ok-number.number in
-        let read = c.number_of.new.self in
-        let all : c.args.known.now.numbers.items ≡ front ++ back =
-        sym c.as_slice.ensures ∙ c.parts.ensures.whole
-        ∙ ap (λ m. front ++ (m ++ back)) (none-at-all c.parts.result.1.now c.if-left-eq0.true) in
-        let only : c.parts-2.result.1.now ≡ key ∷ [] =
-        one-only c.parts-2.result.1.now key c.if-came-eq1.true c.index-changed-0.is in
-        subst (λ (ns : List ℕ). StandFor read ns (map id_of c.args.list.now))
-        (sym (c.in_ok-insert.ensures.ok
-        ∙ inserted c.args.known.now.numbers.items front back (length front) number all refl))
-        (between c.args.self.now c.args.known.now.numbers.items c.args.list.now c.args.frame
-        c.parts.result.0.now c.parts.result.1.now c.parts.result.2.now c.parts-2.result.1.now
-        (λ a b d is. c.parts.ensures.framed a b d (c.as_slice.ensures ∙ is))
-        (λ a b d is f k. (c.parts-2.ensures.framed a b d is f k).1) was h keeps
-        read (number ∷ []) (c.in_ok-number.ensures.grows t)
-        (subst (λ (ks : List PublishedKey). StandFor read (number ∷ []) (map id_of ks)) (sym only)
-        (λ i. c.in_ok-number.ensures.ok i ∷ []))),
-    is-other c.args.self.now c.args.known.now.numbers.items c.args.list.now c.args.frame
-        c.parts.result.0.now c.parts.result.1.now c.parts.result.2.now c.parts-2.result.1.now
-        (λ a b d is. c.parts.ensures.framed a b d (c.as_slice.ensures ∙ is))
-        (λ a b d is f k. (c.parts-2.ensures.framed a b d is f k).1) was h keeps
-        (c.are.ensures.no c.if-are.false),
-  );
+  read = λ was t h keeps.
+      (let front = c.parts.result.0.now in let back = c.parts.result.2.now in
+      let key = c.index-changed-0.result in let number = c.in_ok-number.number in
+      let read = c.number_of.new.self in
+      let all : c.args.known.now.numbers.items ≡ front ++ back =
+      sym c.as_slice.ensures ∙ c.parts.ensures.whole
+      ∙ ap (λ m. front ++ (m ++ back)) (none-at-all c.parts.result.1.now c.if-left-eq0.true) in
+      let only : c.parts-2.result.1.now ≡ key ∷ [] =
+      one-only c.parts-2.result.1.now key c.if-came-eq1.true c.index-changed-0.is in
+      read-between c.args.self.now c.args.known.now.numbers.items c.args.list.now
+      c.args.frame c.parts.result.0.now c.parts.result.1.now c.parts.result.2.now
+      c.parts-2.result.1.now
+      (λ a b d is. c.parts.ensures.framed a b d (c.as_slice.ensures ∙ is))
+      (λ a b d is f k. (c.parts-2.ensures.framed a b d is f k).1) was h keeps
+      read (number ∷ []) _ (c.in_ok-insert.ensures.ok
+      ∙ inserted c.args.known.now.numbers.items front back (length front) number all refl)
+      (c.in_ok-number.ensures.grows t)
+      (subst (λ (ks : List PublishedKey). StandFor read (number ∷ []) (map id_of ks)) (sym only)
+      (λ i. c.in_ok-number.ensures.ok i ∷ [])) (c.are.ensures.no c.if-are.false));
 }
 
 pub returns-clause-ok : goal.returns-clause-ok
 returns-clause-ok c = record {
   table = c.in_ok-numbers.ensures.table;
   grows = c.in_ok-numbers.ensures.grows;
-  read = λ was t h keeps. (
-    let read = c.read_anew.new.self in
-        subst (λ (ns : List ℕ). StandFor read ns (map id_of c.args.list.now))
-        (sym c.in_ok-known.ensures.ok)
-        (anew c.args.self.now c.args.known.now.numbers.items c.args.list.now c.args.frame
-        c.parts.result.0.now c.parts.result.1.now c.parts.result.2.now c.parts-2.result.1.now
-        (λ a b d is. c.parts.ensures.framed a b d (c.as_slice.ensures ∙ is))
-        (λ a b d is f k. (c.parts-2.ensures.framed a b d is f k).1) was h keeps
-        read c.in_ok-numbers.numbers.items
-        (λ ahead after f k. c.in_ok-numbers.ensures.ok ahead after t f k)),
-    is-other c.args.self.now c.args.known.now.numbers.items c.args.list.now c.args.frame
-        c.parts.result.0.now c.parts.result.1.now c.parts.result.2.now c.parts-2.result.1.now
-        (λ a b d is. c.parts.ensures.framed a b d (c.as_slice.ensures ∙ is))
-        (λ a b d is f k. (c.parts-2.ensures.framed a b d is f k).1) was h keeps
-        (c.are.ensures.no c.if-are.false),
-  );
+  read = λ was t h keeps.
+      (read-anew c.args.self.now c.args.known.now.numbers.items c.args.list.now
+      c.args.frame c.parts.result.0.now c.parts.result.1.now c.parts.result.2.now
+      c.parts-2.result.1.now
+      (λ a b d is. c.parts.ensures.framed a b d (c.as_slice.ensures ∙ is))
+      (λ a b d is f k. (c.parts-2.ensures.framed a b d is f k).1) was h keeps
+      c.read_anew.new.self c.in_ok-numbers.numbers.items _ c.in_ok-known.ensures.ok
+      (λ ahead after f k. c.in_ok-numbers.ensures.ok ahead after t f k)
+      (c.are.ensures.no c.if-are.false));
 }
