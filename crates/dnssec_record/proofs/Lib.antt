@@ -3,8 +3,9 @@
 -- | Function and clause         | Lemma                             | Files         |
 -- |-----------------------------|-----------------------------------|---------------|
 -- | `record_script`, `resume`   | `none_made`, `one_made`           | Made          |
--- | `answer_to`                 | `one_more`, `all_answered`        | Running, Made |
--- | `Session::make`, `call`     | `advances`, `script_more`         | Sessions      |
+-- | `answer_lines`              | `one_more`, `all_answered`        | Running, Made |
+-- | `ZoneState::make`           | `goes_on`                         | Running       |
+-- | `Session::call`, `accept`   | `answered`, `script_more`         | Sessions      |
 -- | `run_script`, `well_formed` | `of_input`, `never_fault`         | Answering     |
 -- | `run_script`, `begun`       | `of_input`                        | Answering     |
 -- | `run_script`, `safe`        | `stays-safe`                      | Ending        |

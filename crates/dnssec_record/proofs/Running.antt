@@ -1,28 +1,35 @@
--- A run that goes on call by call: for `answer_to` and sessions.
-use Rattle.std.proofs.Common.{◌≡◌, ℕ, ◌+◌, ◌-◌, List, [], ◌∷◌, ◌++◌, length, map, Option, None}
+-- A run that goes on call by call: for the zones of scripts and of sessions.
+use Rattle.std.proofs.Common.{◌≡◌, ℕ, ◌-◌, List, [], ◌∷◌, ◌++◌, length, map, Option, None}
 use Rattle.std.proofs.Common.{Some, refl, sym, ◌∙◌, ap, subst, arith, append_assoc, length-append}
-use Rattle.std.proofs.Common.{Bool, true, false}
-use Rattle.std.proofs.lemmas.List.{flat_map_more, Folds.flat_map-map}
+use Rattle.std.proofs.Common.{Bool, true, false, fold}
+use Rattle.std.proofs.lemmas.List.{flat_map_more, Folds.flat_map-map, Sums.fold-append}
 use Rattle.std.specs.Prelude.{codes, slice_get, string_bytes, if◌then◌else◌}
 use Rattle.std.specs.{List.flat_map, Option.option_map}
+use Rattle.dnssec_key.specs.declared.roll.RollType.{RollType}
 use Rattle.dnssec_run.specs.Safe.{SetKind, Ds, Dnskey, ZoneSigners, position_at, position_of}
 use Rattle.dnssec_run.proofs.Recorded.{last-ds, last-dnskey, last-signers, last-zone}
 use Rattle.dnssec_run.specs.declared.{call.Call.Call, record.Entry.Entry, record.Outcome.Outcome}
 use Rattle.dnssec_run.specs.declared.record.{Published.Published, PublishedKey.PublishedKey}
-use Rattle.dnssec_run.specs.{declared.running.Recorder.Recorder, Published.Id, Published.id_of}
+use Rattle.dnssec_run.specs.declared.{record.Reply.Reply, running.Recorder.Recorder}
+use Rattle.dnssec_run.specs.{Published.Id, Published.id_of}
 use Rattle.dnssec_run.{specs.Recorder.HasSameKeys, specs.Recorder.Records, proofs.Grow.at_end}
+use Rattle.dnssec_run.specs.Recorder.{TellsOutcome}
 use Rattle.dnssec_judge.specs.Judge.{IsPublishedNext}
 use Rattle.dnssec_run.proofs.Around.{keeps-kind}
 use Rattle.dnssec_run.specs.Frames.{KeepsFrames, KeepsSet, frames_in}
 use Rattle.dnssec_run.specs.Origins.{CachedSet, set_at, set_in}
-use Rattle.dnssec_judge.specs.declared.{judging.Judge.Judge, verdict.Broken.Broken}
-use Rattle.dnssec_judge.specs.{Judge.ComesNext, Judge.KeepsLast, Judge.Knows, Verdict.IsVerdict}
-use Rattle.dnssec_script.specs.Inner.Statement.{Makes, statement_says}
+use Rattle.dnssec_judge.specs.{Judge.ComesNext, Judge.KeepsLast, Judge.Knows}
 use Rattle.dnssec_script.specs.declared.{lines.Lines.Lines, statement.Statement.Statement}
 use Rattle.dnssec_record.proofs.Made.{Finds, HasMade, all_made, one_made}
 use Rattle.dnssec_record.specs.Answer.{IsAnswerOf}
+use Rattle.dnssec_record.specs.Courses.{Listing, as_listed, ended_after, ended_by, listed_after}
+use Rattle.dnssec_record.specs.Courses.{listed_by, turn_after, turn_of, turns}
+use Rattle.dnssec_record.specs.Inner.Zone.{Comes, IsZoneAfter, TakesOn}
 use Rattle.dnssec_record.specs.Output.{answers, chain_line, published_text, reply_text, set_line}
 use Rattle.dnssec_record.specs.Output.{set_text, sets_text}
+use Rattle.dnssec_record.specs.Session.{Closes}
+use Rattle.dnssec_record.specs.declared.courses.Turn.{Turn}
+use Rattle.dnssec_record.specs.declared.{zone.Made.Made, zone.ZoneState.ZoneState}
 
 -- ---- the text of sets says no more than which keys they have
 
@@ -55,25 +62,45 @@ same_sets p q same =
     ∙ (λ i. four_text (same.ds i) (same.dnskey i) (same.dnskey_signers i) (same.zone_signers i))
     ∙ sym (by_ids q)
 
--- ---- what a recorder and a judge know
+-- ---- turns
 
--- the entries are those of the calls so far, and both know them
-pub record Follows (name : List ℕ) (calls : List Call) (entries : List Entry) (r : Recorder)
-    (j : Judge) : Type 0 where
-  pub records : Records name calls entries r
-  pub knows : Knows entries j
-  pub shown : published_text r.published ≡ set_line entries
+-- one more call makes one more turn
+turns_more : (calls : List Call) (entries : List Entry) (call : Call) (e : Entry)
+    → length entries ≡ length calls
+    → turns (calls ++ call ∷ []) (entries ++ e ∷ [])
+    ≡ turns calls entries ++ turn_after (turn_of call) e.reply ∷ []
+turns_more [] [] call e same = refl
+turns_more (c ∷ cs) (x ∷ xs) call e same =
+    ap (λ ts. turn_after (turn_of c) x.reply ∷ ts) (turns_more cs xs call e (omega arith))
+turns_more _ _ call e same = absurd (omega arith)
+
+-- what the turns have made, with one more
+folded_more : {A : Type 0} (f : A → Turn → A) (none : A) (calls : List Call) (entries : List Entry)
+    (call : Call) (e : Entry) → length entries ≡ length calls
+    → fold f none (turns (calls ++ call ∷ []) (entries ++ e ∷ []))
+    ≡ f (fold f none (turns calls entries)) (turn_after (turn_of call) e.reply)
+folded_more f none calls entries call e same =
+    ap (fold f none) (turns_more calls entries call e same)
+    ∙ fold-append f none (turns calls entries) (turn_after (turn_of call) e.reply ∷ [])
+
+-- ---- calls
 
 -- before the first call nothing is published
-pub none_follows : (name : List ℕ) (r : Recorder) (j : Judge) → Records name [] [] r → Knows [] j
-    → Follows name [] [] r j
+pub none_follows : (name : List ℕ) (zone : ZoneState) → Records name [] [] zone.recorder
+    → Knows [] zone.judge → zone.courses.listed.items ≡ [] → zone.courses.ended.items ≡ []
+    → IsZoneAfter name [] [] zone
 unfolding position_at
-none_follows name r j records knows = record {
+none_follows name zone records knows listed ended = record {
   records = records;
   knows = knows;
-  shown = by_ids r.published ∙ (λ i. four_text (sym (last-ds name [] [] r records) i)
+  shown =
+      let r = zone.recorder in
+      by_ids r.published ∙ (λ i. four_text (sym (last-ds name [] [] r records) i)
       (sym (last-dnskey name [] [] r records) i) (sym (last-signers name [] [] r records) i)
       (sym (last-zone name [] [] r records) i));
+  listed = ap (map as_listed) listed;
+  ended = ended;
+  moments = refl;
 }
 
 -- the entry after some others
@@ -148,73 +175,96 @@ next_keeps name calls entries r s outcome news so keeps handed =
     by false keeps kind = tt
 
 -- after one more call
-pub one_follows : (name : List ℕ) (calls : List Call) (entries : List Entry) {says : _}
-    (r q : Recorder) (j k : Judge) (outcome : Outcome)
-    (news : Option Published) → Follows name calls entries r j → (m : Makes says r q outcome)
-    → news ≡ (if outcome.may_publish then Some q.published else None)
+pub goes_on : (name : List ℕ) (calls : List Call) (entries : List Entry) (old next : ZoneState)
+    (call : Call) (outcome : Outcome) (news : Option Published)
+    → IsZoneAfter name calls entries old
+    → ((name : List ℕ) (calls : List Call) (entries : List Entry) (e : Entry)
+    → TellsOutcome e outcome → HasSameKeys e.published next.recorder.published
+    → Records name calls entries old.recorder
+    → Records name (calls ++ call ∷ []) (entries ++ e ∷ []) next.recorder)
+    → (outcome.may_publish ≡ false → next.recorder.published ≡ old.recorder.published)
+    → (outcome.may_publish ≡ true
+    → KeepsFrames outcome.frames old.recorder.published next.recorder.published)
+    → news ≡ (if outcome.may_publish then Some next.recorder.published else None)
     → ((entries : List Entry) (e : Entry) → ComesNext entries e outcome.mark outcome.moment news
-    → KeepsLast entries outcome.frames news → Knows entries j → Knows (entries ++ e ∷ []) k)
-    → Follows name (calls ++ m.call ∷ []) (entries ++ entry_of outcome q.published ∷ []) q k
-one_follows name calls entries r q j k outcome news so m handed judged =
-    let e = entry_of outcome q.published in
+    → KeepsLast entries outcome.frames news → Knows entries old.judge
+    → Knows (entries ++ e ∷ []) next.judge)
+    → (turn : Turn) → turn ≡ turn_after (turn_of call) outcome.reply
+    → map as_listed next.courses.listed.items
+    ≡ listed_after (map as_listed old.courses.listed.items) turn
+    → next.courses.ended.items ≡ ended_after old.courses.ended.items turn
+    → Comes name calls entries call next
+    (record { reply = outcome.reply; moment = outcome.moment })
+goes_on name calls entries old next call outcome news so records kept frames handed judged turn is
+    listed ended =
+    let r = old.recorder in let q = next.recorder in let e = entry_of outcome q.published in
     record {
-      records = m.records name calls entries e (record { reply = refl; mark = refl; moment = refl })
-          (record { ds = refl; dnskey = refl; dnskey_signers = refl; zone_signers = refl })
-          so.records;
-      knows = judged entries e
-          (next_comes name calls entries r q outcome news so.records m.kept handed)
-          (next_keeps name calls entries r q outcome news so.records m.frames handed) so.knows;
-      shown = ap sets_text (last_of entries e);
+      entry = e;
+      stands = record {
+        records = records name calls entries e
+            (record { reply = refl; mark = refl; moment = refl })
+            (record { ds = refl; dnskey = refl; dnskey_signers = refl; zone_signers = refl })
+            so.records;
+        knows = judged entries e
+            (next_comes name calls entries r q outcome news so.records kept handed)
+            (next_keeps name calls entries r q outcome news so.records frames handed) so.knows;
+        shown = ap sets_text (last_of entries e);
+        listed = listed ∙ ap (λ (ls : List Listing). listed_after ls turn) so.listed
+            ∙ ap (listed_after (listed_by calls entries)) is
+            ∙ sym (folded_more listed_after [] calls entries call e so.records.run.count);
+        ended = ended ∙ ap (λ (rs : List RollType). ended_after rs turn) so.ended
+            ∙ ap (ended_after (ended_by calls entries)) is
+            ∙ sym (folded_more ended_after [] calls entries call e so.records.run.count);
+        moments = refl;
+      };
+      is_reply = refl;
+      is_moment = refl;
     }
 
 -- ---- answers
 
 -- the calls so far have these answers
-abbrev pub Answered : List ℕ → Recorder → Judge → List ℕ → List Call → List Entry → Type 0
-Answered text r j name calls entries = Follows name calls entries r j × (text ≡ answers entries)
+abbrev pub Answered : List ℕ → ZoneState → List ℕ → List Call → List Entry → Type 0
+Answered text zone name calls entries =
+    IsZoneAfter name calls entries zone × (text ≡ answers entries)
 
 -- one more call, of the next line
 pub one_more : {script : List ℕ} {old new : Lines} {found : Option Statement} {s : Statement}
-    (text after : List ℕ) (r q : Recorder) (j k : Judge) (outcome : Outcome)
-    (news : Option Published) → HasMade script old (Answered text r j)
-    → Finds old new found → found ≡ Some s → Makes (statement_says s) r q outcome
-    → news ≡ (if outcome.may_publish then Some q.published else None)
-    → ((entries : List Entry) (e : Entry) → ComesNext entries e outcome.mark outcome.moment news
-    → KeepsLast entries outcome.frames news → Knows entries j → Knows (entries ++ e ∷ []) k)
-    → after ≡ text ++ reply_text outcome.reply ++ codes "\n"
-    → HasMade script new (Answered after q k)
-one_more text after r q j k outcome news h next some makes handed judged wrote =
-    let e = entry_of outcome q.published in
+    (text after : List ℕ) (zone next : ZoneState) (made : Made)
+    → HasMade script old (Answered text zone) → Finds old new found → found ≡ Some s
+    → TakesOn s zone next made → after ≡ text ++ reply_text made.reply ++ codes "\n"
+    → HasMade script new (Answered after next)
+one_more text after zone next made h finds some takes wrote =
+    let came = takes.comes h.name h.calls h.entries h.so.0 in let e = came.entry in
     let line = λ (e : Entry). reply_text e.reply ++ codes "\n" in
     let more : answers h.entries ++ line e ≡ answers (h.entries ++ e ∷ []) =
     flat_map_more line [] h.entries e in
     let said : after ≡ answers h.entries ++ line e =
-    wrote ∙ append_assoc text (reply_text e.reply) (codes "\n")
+    wrote ∙ append_assoc text (reply_text made.reply) (codes "\n")
+    ∙ ap (λ (r : Reply). text ++ (reply_text r ++ codes "\n")) (sym came.is_reply)
     ∙ ap (λ t. t ++ line e) h.so.1 in
-    one_made (Answered text r j) (Answered after q k) h makes.call (h.entries ++ e ∷ []) next some
-    makes.is_call (
-      one_follows h.name h.calls h.entries r q j k outcome news h.so.0 makes handed judged,
-      said ∙ more,
-    )
+    one_made (Answered text zone) (Answered after next) h takes.call (h.entries ++ e ∷ []) finds
+    some takes.is_call (came.stands, said ∙ more)
 
 -- all calls of a script, with the sets and the verdict after their answers
 pub all_answered : {script : List ℕ} {old : Lines} (new : Lines) {found : Option Statement}
-    (text sets whole : List ℕ) (r : Recorder) (j : Judge) (verdict : Option Broken)
-    → HasMade script old (Answered text r j) → Finds old new found → found ≡ None
-    → ((entries : List Entry) → Knows entries j → IsVerdict entries verdict)
-    → sets ≡ text ++ published_text r.published → whole ≡ sets ++ chain_line verdict
+    (text whole : List ℕ) (zone : ZoneState) → HasMade script old (Answered text zone)
+    → Finds old new found → found ≡ None
+    → ((name : List ℕ) (calls : List Call) (entries : List Entry)
+    → IsZoneAfter name calls entries zone → (closing : List ℕ) × Closes entries closing
+    × (whole ≡ text ++ closing))
     → IsAnswerOf script whole
-all_answered new text sets whole r j verdict h next none judged shown wrote =
-    let front : sets ≡ answers h.entries ++ set_line h.entries =
-    shown ∙ ap (λ t. t ++ published_text r.published) h.so.1
-    ∙ ap (λ l. answers h.entries ++ l) h.so.0.shown in
+all_answered new text whole zone h finds none closes =
+    let end = closes h.name h.calls h.entries h.so.0 in let verdict = end.1.verdict in
     record {
       name = h.name;
       calls = h.calls;
       entries = h.entries;
       verdict = verdict;
-      is_script = all_made (Answered text r j) new h next none;
+      is_script = all_made (Answered text zone) new h finds none;
       is_run = h.so.0.records.run;
-      is_verdict = judged h.entries h.so.0.knows;
-      is_output = wrote ∙ ap (λ t. t ++ chain_line verdict) front;
+      is_verdict = end.1.is_verdict;
+      is_output = end.2 ∙ ap (λ t. t ++ end.0) h.so.1
+          ∙ ap (λ t. answers h.entries ++ t) end.1.is_closing
+          ∙ sym (append_assoc (answers h.entries) (set_line h.entries) (chain_line verdict));
     }

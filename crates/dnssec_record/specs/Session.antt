@@ -30,11 +30,11 @@ use Rattle.dnssec_record.specs.declared.session.Attempt.TheVariants as attempt
 -- stands after the last of them
 pub record StandsAfter (name : List ℕ) (calls : List Call) (entries : List Entry) (s : Session)
     : Type 0 where
-  pub records : Records name calls entries s.recorder
-  pub knows : Knows entries s.judge
-  pub shown : published_text s.recorder.published ≡ set_line entries
-  pub listed : map as_listed s.courses.listed.items ≡ listed_by calls entries
-  pub ended : s.courses.ended.items ≡ ended_by calls entries
+  pub records : Records name calls entries s.zone.recorder
+  pub knows : Knows entries s.zone.judge
+  pub shown : published_text s.zone.recorder.published ≡ set_line entries
+  pub listed : map as_listed s.zone.courses.listed.items ≡ listed_by calls entries
+  pub ended : s.zone.courses.ended.items ≡ ended_by calls entries
   pub moments : s.moments ≡ moments_of entries
 
 -- one more call of the same run got this reply, and the session stands after it

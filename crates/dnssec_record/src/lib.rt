@@ -8,6 +8,7 @@ mod device;
 mod fault;
 mod script;
 mod session;
+mod zone;
 
 pub use answers::action_name;
 pub use courses::Listing;

@@ -1,11 +1,12 @@
 //! A zone's calls as they come: one at a time, each answered at once.
 ghost use Rattle.std.specs.Prelude.{◌≡◌, ◌∷◌, ℕ, List, [], length, map, IfOk, IfErr};
-ghost use Rattle.std.specs.Prelude.{string_bytes, ◌≢◌, IsSome};
+ghost use Rattle.std.specs.Prelude.{string_bytes, ◌≢◌, IsSome, OnOk};
+ghost use Rattle.dnssec_script.specs.Inner.Reading.{HasRead};
 ghost use Rattle.dnssec_script.specs.Script.{says};
 ghost use Rattle.dnssec_base.specs.declared.error.Error.TheVariants.{OutOfMemory};
 ghost use Rattle.dnssec_judge.specs.Verdict.{IsVerdict};
 ghost use Rattle.dnssec_record.specs.Answer.{AnswerFault};
-ghost use Rattle.dnssec_record.specs.Inner.Statement.{TakesOn};
+ghost use Rattle.dnssec_record.specs.Inner.Zone.{Comes};
 ghost use Rattle.dnssec_record.specs.Courses.{as_listed, ended_by, listed_by};
 ghost use Rattle.dnssec_record.specs.Session.{Advances, Closes, FaultOfZone, Stands, StandsAfter};
 ghost use Rattle.dnssec_record.specs.Session.{Resumes, Takes, Tries};
@@ -15,19 +16,16 @@ ghost use Rattle.dnssec_run.specs.declared.call.Call.{Call};
 ghost use Rattle.dnssec_run.specs.declared.record.Entry.{Entry};
 ghost use Rattle.dnssec_run.specs.declared.record.Reply.TheVariants.{Refused};
 
-use crate::answers::{answer_line, is_accepted, push_answer, push_chain_line, push_published};
-use crate::courses::{Courses, Listing, Turn};
+use crate::answers::{is_accepted, push_answer};
+use crate::courses::Listing;
 use crate::fault::{CallFault, ScriptFault};
+use crate::zone::{Made, ZoneState};
 use dnssec_base::Name;
-use dnssec_judge::{Broken, Judge};
+use dnssec_judge::Broken;
 use dnssec_keyset::{Error, KeySet, RollType};
-use dnssec_run::{Call, Moments, Published, Recorder, Reply, Steps};
-use dnssec_script::{Lines, Statement, read_line, read_zone};
+use dnssec_run::{Call, Moments, Published, Reply, Steps};
+use dnssec_script::{Lines, read_line, read_zone};
 use std::alloc::{AllocError, Global};
-
-/// A session of at most this many keys is fitted to them. So no call costs more for that than
-/// another.
-const FITTED_KEYS: usize = 4;
 
 /// Room for the line of an answer, so that it grows only if it is longer.
 const ANSWER: usize = 96;
@@ -73,9 +71,7 @@ pub enum Attempt {
 /// ```
 #[derive(Drop)]
 pub struct Session {
-    recorder: Recorder,
-    judge: Judge,
-    courses: Courses,
+    zone: ZoneState,
     moments: Moments,
 }
 
@@ -110,11 +106,25 @@ impl Session {
     {
         let (name, mut lines) = Lines::begin(alloc, script)?;
         let mut session = Session::new(alloc, name)?;
+        session.take_lines(alloc, &mut lines)?;
+        Ok(session)
+    }
+
+    /// Makes the calls of the lines that are left. The session has made none yet, and is of no more
+    /// use after an error.
+    fn take_lines(&mut self, alloc: Global, lines: &mut Lines<'_>) -> Result<(), ScriptFault>
+        ensures ok { OnOk result ((script name : List ℕ) → HasRead script name [] lines.old →
+            StandsAfter name [] [] self.old → Resumes script self.new) }
+        ensures err { IfErr result (λ fault. (script name : List ℕ) →
+            HasRead script name [] lines.old → StandsAfter name [] [] self.old →
+            AnswerFault script fault) }
+    {
         while let Some(statement) = lines.next(alloc)? {
-            let reply = session.take(alloc, statement)?;
+            let made = self.zone.take(alloc, statement)?;
+            let reply = self.note(alloc, made)?;
             check_memory(reply)?;
         }
-        Ok(session)
+        Ok(())
     }
 
     /// A new key set for the zone of this name.
@@ -122,19 +132,12 @@ impl Session {
     /// # Errors
     ///
     /// If there is no memory.
-    #[tactic(auto, using(crate::proofs::Running::none_follows))]
     pub fn new(alloc: Global, name: Name<Vec<u8>>) -> Result<Self, AllocError>
         ensures { IfOk result (λ session. StandsAfter name [] [] session) }
     {
-        match Judge::new(alloc) {
-            Ok(judge) => Ok(Session {
-                recorder: Recorder::new(alloc, name),
-                judge,
-                courses: Courses::new(alloc),
-                moments: Moments::new(alloc),
-            }),
-            Err(_) => Err(AllocError),
-        }
+        let moments = Moments::new(alloc);
+        let zone = ZoneState::new(alloc, name)?;
+        Ok(Session { zone, moments })
     }
 
     /// A copy after the same calls, to try a call without committing to it. It takes its memory
@@ -143,25 +146,13 @@ impl Session {
     /// # Errors
     ///
     /// If there is no memory.
-    #[tactic(auto, using(crate::proofs::Running::same_sets))]
     pub fn try_clone(&self, alloc: Global) -> Result<Self, AllocError>
         ensures { IfOk result (λ copy. (name : List ℕ) (calls : List Call) (entries : List Entry) →
             StandsAfter name calls entries self.now → StandsAfter name calls entries copy) }
     {
-        let Ok(recorder) = self.recorder.try_clone(alloc) else {
-            return Err(AllocError);
-        };
-        let Ok(judge) = self.judge.try_clone(alloc) else {
-            return Err(AllocError);
-        };
-        let courses = self.courses.try_clone(alloc)?;
         let moments = self.moments.try_clone()?;
-        Ok(Session {
-            recorder,
-            judge,
-            courses,
-            moments,
-        })
+        let zone = self.zone.try_clone(alloc)?;
+        Ok(Session { zone, moments })
     }
 
     /// Makes the call of the line, and answers it with a line. A refused call is answered too.
@@ -189,7 +180,10 @@ impl Session {
         let Ok(mut answer) = String::with_capacity(alloc, ANSWER) else {
             return Err(CallFault::OutOfMemory);
         };
-        let Ok(reply) = self.take(alloc, statement) else {
+        let Ok(made) = self.zone.take(alloc, statement) else {
+            return Err(CallFault::Lost);
+        };
+        let Ok(reply) = self.note(alloc, made) else {
             return Err(CallFault::Lost);
         };
         let Ok(()) = push_answer(&mut answer, &reply) else {
@@ -200,7 +194,9 @@ impl Session {
 
     /// Makes the call of the line if it is accepted, and answers it with a line. So the calls that
     /// the session has made are those of the lines that a caller keeps, and their numbers those of
-    /// these lines. It takes as long as a copy of the session, and a call of it.
+    /// these lines. It takes as long as the call and a copy of what the session keeps, but for the
+    /// moments of its calls. So a line costs the same however many came before it, if reports
+    /// retire what is old.
     ///
     /// # Errors
     ///
@@ -215,30 +211,18 @@ impl Session {
         let Some(statement) = read_line(alloc, line)? else {
             return Ok(Attempt::Malformed);
         };
-        let mut next = self.try_clone(alloc)?;
-        let reply = next.take(alloc, statement)?;
-        if let Reply::Refused(Error::OutOfMemory) = &reply {
-            return Err(AllocError);
-        }
-        let answer = answer_line(alloc, &reply)?;
-        if !is_accepted(&reply) {
+        let mut next = self.zone.try_clone(alloc)?;
+        let (tried, answer) = next.answer(alloc, statement)?;
+        if !is_accepted(&tried.reply) {
             return Ok(Attempt::Refused(answer));
         }
-        *self = next;
+        self.moments.take(tried.moment)?;
+        next.fit(alloc);
+        self.zone = next;
         Ok(Attempt::Accepted {
             number: self.calls(),
             answer,
         })
-    }
-
-    /// Makes the call of a statement.
-    fn take(&mut self, alloc: Global, statement: Statement<'_>) -> Result<Reply, AllocError>
-        ensures { IfOk result (TakesOn statement.entry self.old self.new) }
-    {
-        match statement {
-            Statement::Call(call) => self.make(alloc, call),
-            Statement::Start(start) => self.make(alloc, start.call()),
-        }
     }
 
     /// Makes the call, and answers its reply. A refused call counts in the record too, also one
@@ -253,45 +237,21 @@ impl Session {
             StandsAfter name calls entries self.old →
             Advances name calls entries call.entry self.new reply) }
     {
-        let turn = Turn::of(&call);
-        let Ok(outcome) = self.recorder.advance(alloc, call) else {
-            return Err(AllocError);
-        };
-        let news = self.recorder.news(&outcome);
-        let noted = self
-            .judge
-            .note_changes(alloc, outcome.mark, outcome.moment, news, &outcome.frames);
-        let Ok(()) = noted else {
-            return Err(AllocError);
-        };
-        self.courses.take(alloc, turn.after(&outcome.reply))?;
-        self.moments.take(outcome.moment)?;
-        self.fit(alloc);
-        Ok(outcome.reply)
+        let made = self.zone.make(alloc, call)?;
+        self.note(alloc, made)
     }
 
-    /// Lets go of room to spare, if there is memory for a copy without it: a map takes its first
-    /// room for nine keys, a roll leaves room, and most zones at rest have two keys or three. What
-    /// the judge keeps may be much, and stays in its place.
-    fn fit(&mut self, alloc: Global)
-        ensures { (name : List ℕ) (calls : List Call) (entries : List Entry) →
-            StandsAfter name calls entries self.old → StandsAfter name calls entries self.new }
+    /// Takes the moment of the call that the zone has made, and answers the reply to it.
+    fn note(&mut self, alloc: Global, made: Made) -> Result<Reply, AllocError>
+        ensures { IfOk result (λ reply.
+            (name : List ℕ) (calls : List Call) (entries : List Entry) (call : Call) →
+            Comes name calls entries call self.old.zone made →
+            self.old.moments ≡ moments_of entries →
+            Advances name calls entries call self.new reply) }
     {
-        if !self.has_room_to_spare() {
-            return;
-        }
-        if let Ok(fitted) = self.recorder.try_clone(alloc) {
-            self.recorder = fitted;
-        }
-    }
-
-    /// Whether it has few keys, and either room for twice as many, or room of rolls that have
-    /// ended.
-    fn has_room_to_spare(&self) -> bool {
-        let keys = self.keyset().keys();
-        let rolls = self.keyset().rollstates();
-        keys.len() <= FITTED_KEYS
-            && (keys.len() < keys.capacity() / 2 || rolls.is_empty() && rolls.capacity() > 0)
+        self.moments.take(made.moment)?;
+        self.zone.fit(alloc);
+        Ok(made.reply)
     }
 
     /// The last two lines of the answers to the lines so far: the sets that are published after the
@@ -306,23 +266,22 @@ impl Session {
             StandsAfter name calls entries self.now → Closes entries (string_bytes text)) }
     {
         let mut text = String::new(alloc);
-        push_published(&mut text, self.recorder.published())?;
-        push_chain_line(&mut text, self.judge.verdict())?;
+        self.zone.push_closing(&mut text)?;
         Ok(text)
     }
 
     /// The key set after the calls so far.
     pub fn keyset(&self) -> &KeySet
-        ensures { result.now ≡ self.now.recorder.keyset }
+        ensures { result.now ≡ self.now.zone.recorder.keyset }
     {
-        self.recorder.keyset()
+        self.zone.keyset()
     }
 
     /// What is published after the calls so far.
     pub fn published(&self) -> &Published
-        ensures { result.now ≡ self.now.recorder.published }
+        ensures { result.now ≡ self.now.zone.recorder.published }
     {
-        self.recorder.published()
+        self.zone.recorder.published()
     }
 
     /// The keys that the starts of the rolls in progress listed: for each roll the old ones, then
@@ -333,7 +292,7 @@ impl Session {
             StandsAfter name calls entries self.now →
             map as_listed result.now ≡ listed_by calls entries }
     {
-        self.courses.listed()
+        self.zone.courses.listed()
     }
 
     /// The rolls that were ended early, in the order of their ends. No call reports what such an
@@ -344,7 +303,7 @@ impl Session {
         ensures { (name : List ℕ) (calls : List Call) (entries : List Entry) →
             StandsAfter name calls entries self.now → result.now ≡ ended_by calls entries }
     {
-        self.courses.ended()
+        self.zone.courses.ended()
     }
 
     /// How many calls were made so far, also refused ones: the length of the record.
@@ -353,7 +312,7 @@ impl Session {
         ensures { (name : List ℕ) (calls : List Call) (entries : List Entry) →
             StandsAfter name calls entries self.now → result ≡ length entries }
     {
-        self.judge.taken()
+        self.zone.judge.taken()
     }
 
     /// The last step of each roll so far: what its next report counts from.
@@ -362,7 +321,7 @@ impl Session {
         ensures { (name : List ℕ) (calls : List Call) (entries : List Entry) →
             StandsAfter name calls entries self.now → AreStepsOf entries result }
     {
-        self.judge.steps()
+        self.zone.judge.steps()
     }
 
     /// The greatest moment of the calls up to each one so far.
@@ -380,7 +339,7 @@ impl Session {
         ensures { (name : List ℕ) (calls : List Call) (entries : List Entry) →
             StandsAfter name calls entries self.now → IsVerdict entries result }
     {
-        self.judge.verdict()
+        self.zone.judge.verdict()
     }
 }
 

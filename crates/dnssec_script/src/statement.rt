@@ -3,7 +3,7 @@ ghost use Rattle.std.specs.Prelude.{◌≡◌, if◌then◌else◌, IfOk, IfErr,
 ghost use Rattle.std.specs.Option.{option_map};
 ghost use Rattle.dnssec_key.specs.Key.{is_available};
 ghost use Rattle.dnssec_script.specs.Script.{call_says, said_after_word, says};
-ghost use Rattle.dnssec_script.specs.Inner.Statement.{Makes, MakesEntry, start_says};
+ghost use Rattle.dnssec_script.specs.Inner.Statement.{MakesEntry, start_says};
 ghost use Rattle.dnssec_script.specs.Inner.Statement.{adds, is_on_key, is_on_roll, statement_says};
 
 use crate::fields::Fields;
@@ -11,7 +11,7 @@ use crate::forms::{
     KeyTraits, flag, key, public_key, report, roll, signing_key, stamp, start, timed_flag, wait,
 };
 use dnssec_keyset::{Available, Error, RollType, UnixTime};
-use dnssec_run::{Call, Entry, Outcome, Recorder};
+use dnssec_run::{Call, Entry, Recorder};
 use std::alloc::{AllocError, Global};
 
 /// The words of a script.
@@ -94,17 +94,7 @@ impl<'a> Start<'a> {
 }
 
 impl<'a> Statement<'a> {
-    /// Has a recorder make the call.
-    pub fn advance(self, alloc: Global, recorder: &mut Recorder) -> Result<Outcome, Error>
-        ensures { IfOk result (Makes (statement_says self.entry) recorder.old recorder.new) }
-    {
-        match self {
-            Statement::Call(call) => recorder.advance(alloc, call),
-            Statement::Start(start) => recorder.advance(alloc, start.call()),
-        }
-    }
-
-    /// Has a recorder make the call, and answers its entry.
+    /// Has a recorder make the call, and answers its entry, as a record has it.
     pub fn make(self, alloc: Global, recorder: &mut Recorder) -> Result<Entry, Error>
         ensures { IfOk result (MakesEntry (statement_says self.entry) recorder.old recorder.new) }
     {

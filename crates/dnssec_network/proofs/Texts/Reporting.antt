@@ -14,7 +14,7 @@ use Rattle.dnssec_network.specs.Text.Reading.{AreNotes}
 pub is_due_after : (lines notes : List (List ℕ)) (entries : List Entry) (session : Session)
     (keyset : KeySetParts) (steps : Steps) (moments : List ℕ) (noted : NotesParts) (seconds : ℕ)
     (text : List ℕ)
-    → (so : Stands lines entries session) → keyset ≡ session.recorder.keyset
+    → (so : Stands lines entries session) → keyset ≡ session.zone.recorder.keyset
     → AreStepsOf entries steps → moments ≡ moments_of entries
     → AreNotes moments notes noted.before noted.facts
     → text ≡ due_text keyset.rolls (step_of steps) moments noted.before noted.facts seconds

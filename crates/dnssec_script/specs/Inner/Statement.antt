@@ -3,10 +3,8 @@ use Rattle.std.specs.Prelude.{◌≡◌, ℕ, List, [], ◌∷◌, ◌++◌, map
 use denote.Bor.{now}
 use Rattle.dnssec_run.specs.declared.call.Call.{Call}
 use Rattle.dnssec_run.specs.declared.record.Entry.{Entry}
-use Rattle.dnssec_run.specs.declared.record.Outcome.{Outcome}
 use Rattle.dnssec_run.specs.declared.running.Recorder.{Recorder}
-use Rattle.dnssec_run.specs.Frames.{KeepsFrames}
-use Rattle.dnssec_run.specs.Recorder.{HasSameKeys, Records, TellsOutcome}
+use Rattle.dnssec_run.specs.Recorder.{Records}
 use Rattle.dnssec_script.specs.Script.{Value, References, Roll, Moment, call_says, trait_values}
 use Rattle.dnssec_script.specs.declared.forms.KeyTraits.{KeyTraits}
 use Rattle.dnssec_script.specs.declared.statement.Word.{Word}
@@ -63,20 +61,7 @@ abbrev pub statement_says : Statement → Word × List Value
 statement_says (statement.Call call) = call_says call
 statement_says (statement.Start start) = start_says start
 
--- a recorder has made a call that says this, and it came to this
-pub record Makes (says : Word × List Value) (old new : Recorder) (outcome : Outcome)
-    : Type 0 where
-  pub call : Call
-  pub is_call : call_says call ≡ says
-  pub records : (name : List ℕ) (calls : List Call) (entries : List Entry) (entry : Entry) →
-      TellsOutcome entry outcome → HasSameKeys entry.published new.published →
-      Records name calls entries old →
-      Records name (calls ++ call ∷ []) (entries ++ entry ∷ []) new
-  pub kept : outcome.may_publish ≡ false → new.published ≡ old.published
-  pub frames : outcome.may_publish ≡ true →
-      KeepsFrames outcome.frames old.published new.published
-
--- the same, and this is its entry
+-- a recorder has made a call that says this, and this is its entry
 pub record MakesEntry (says : Word × List Value) (old new : Recorder) (entry : Entry)
     : Type 0 where
   pub call : Call

@@ -21,14 +21,14 @@ returns c name calls entries stands =
     let set = c.keyset-keyset.ensures in
     let same = stands.records.agrees.same in
     let ended = c.ended_early.ensures name calls entries stands in
-    let named : string_bytes c.in_ok-zone.zone ≡ name_text s.recorder.keyset.name =
+    let named : string_bytes c.in_ok-zone.zone ≡ name_text s.zone.recorder.keyset.name =
     c.in_ok-zone.ensures.ok
     ∙ ap name_text (c.name.ensures ∙ ap (λ (k : KeySetParts). k.name) set) in
     let listed : entry_json c.in_ok-listings.listings ≡ entry_json (listed_by calls entries) =
     same_entries _ _ (subst (λ (ls : List Listing). IsPermutation ls c.in_ok-listings.listings)
     (c.listed.ensures name calls entries stands) c.in_ok-listings.ensures) in
     let keys : array_json (entry_json c.in_ok-listings.listings) c.deref.result.now
-    ≡ array_json (key_json (listed_by calls entries)) (fin.entries s.recorder.keyset.keys) =
+    ≡ array_json (key_json (listed_by calls entries)) (fin.entries s.zone.recorder.keyset.keys) =
     ap (λ json. array_json json c.deref.result.now) listed
     ∙ array_read entry_of (key_json (listed_by calls entries)) c.deref.result.now
     ∙ ap (array_json (key_json (listed_by calls entries)))
@@ -39,7 +39,7 @@ returns c name calls entries stands =
       is_world = refl;
       verdict = c.verdict.result;
       is_verdict = c.verdict.ensures name calls entries stands;
-      sets = s.recorder.published;
+      sets = s.zone.recorder.published;
       are_published = stands.records.published;
       rolls = c.deref-2.result.now;
       are_rolls = subst (λ (rolls : List RollInProgress).

@@ -1,14 +1,9 @@
--- The copies know what the three knew.
+-- The copies know what the two knew.
 use Rattle.std.proofs.Common.{◌∙◌}
-use Rattle.dnssec_record.proofs.Running.{same_sets}
+use Rattle.dnssec_record.proofs.Sessions.{session_of, zone_of}
 use Rattle.dnssec_record.proofs.session.Session.try_clone.Goals as goal
 
 pub returns : goal.returns
-returns c name calls entries stands = record {
-  records = c.in-Ok.ensures.records name calls entries stands.records;
-  knows = (c.in-Ok-try_clone.ensures.same entries).0 stands.knows;
-  shown = same_sets _ _ c.in-Ok.ensures.same.published ∙ stands.shown;
-  listed = c.in_ok-courses.ensures.listed ∙ stands.listed;
-  ended = c.in_ok-courses.ensures.ended ∙ stands.ended;
-  moments = c.in_ok-moments.ensures ∙ stands.moments;
-}
+returns c name calls entries so =
+    session_of _ (c.in_ok-zone.ensures name calls entries (zone_of _ so))
+    (c.in_ok-moments.ensures ∙ so.moments)

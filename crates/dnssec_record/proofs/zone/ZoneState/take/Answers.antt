@@ -1,19 +1,19 @@
--- The session makes the call of the statement.
+-- The zone makes the call of the statement.
 use Rattle.std.proofs.Common.{◌∙◌, ap, sym}
 use Rattle.std.proofs.lemmas.Result.{IfOk-weaker}
 use Rattle.dnssec_script.specs.Inner.Statement.{statement_says}
-use Rattle.dnssec_record.proofs.session.Session.take.Goals as goal
+use Rattle.dnssec_record.proofs.zone.ZoneState.take.Goals as goal
 
 pub returns-in-Call : goal.returns-in-Call
 returns-in-Call c = IfOk-weaker c.make.result _ _ (λ m made. record {
   call = c.in-Call.call;
   is_call = ap statement_says (sym c.in-Call.is);
-  advances = made;
+  comes = made;
 }) c.make.ensures
 
 pub returns-in-Start : goal.returns-in-Start
 returns-in-Start c = IfOk-weaker c.make-in-Start.result _ _ (λ m made. record {
   call = c.call.result;
   is_call = c.call.ensures ∙ ap statement_says (sym c.in-Start.is);
-  advances = made;
+  comes = made;
 }) c.make-in-Start.ensures

@@ -1,0 +1,14 @@
+-- The recorder's copy has recorded the same, and publishes the same keys.
+use Rattle.std.proofs.Common.{◌∙◌, refl}
+use Rattle.dnssec_record.proofs.Running.{same_sets}
+use Rattle.dnssec_record.proofs.zone.ZoneState.fit.Goals as goal
+
+pub returns-in-Ok : goal.returns-in-Ok
+returns-in-Ok c name calls entries so = record {
+  records = c.in-Ok.ensures.records name calls entries so.records;
+  knows = so.knows;
+  shown = same_sets _ _ c.in-Ok.ensures.same.published ∙ so.shown;
+  listed = so.listed;
+  ended = so.ended;
+  moments = refl;
+}

@@ -1,0 +1,31 @@
+-- What a zone is after calls, and what one more of them comes to.
+use Rattle.std.specs.Prelude.{◌≡◌, ℕ, List, [], ◌∷◌, ◌++◌}
+use Rattle.dnssec_run.specs.declared.call.Call.{Call}
+use Rattle.dnssec_run.specs.declared.record.Entry.{Entry}
+use Rattle.dnssec_run.specs.Moments.{moments_of}
+use Rattle.dnssec_script.specs.Script.{call_says}
+use Rattle.dnssec_script.specs.Inner.Statement.{statement_says}
+use Rattle.dnssec_script.specs.declared.statement.Statement.{Statement}
+use Rattle.dnssec_record.specs.Session.{StandsAfter}
+use Rattle.dnssec_record.specs.declared.zone.Made.{Made}
+use Rattle.dnssec_record.specs.declared.zone.ZoneState.{ZoneState}
+
+-- a session of this zone that knows the moments of these entries stands after them
+abbrev pub IsZoneAfter : List ℕ → List Call → List Entry → ZoneState → Type 0
+IsZoneAfter name calls entries zone =
+    StandsAfter name calls entries (record { zone = zone; moments = moments_of entries })
+
+-- one more call of the same run came to this, and left the zone so
+pub record Comes (name : List ℕ) (calls : List Call) (entries : List Entry) (call : Call)
+    (next : ZoneState) (made : Made) : Type 0 where
+  pub entry : Entry
+  pub stands : IsZoneAfter name (calls ++ call ∷ []) (entries ++ entry ∷ []) next
+  pub is_reply : entry.reply ≡ made.reply
+  pub is_moment : entry.moment ≡ made.moment
+
+-- the call of this statement was made, and came to this
+pub record TakesOn (statement : Statement) (old next : ZoneState) (made : Made) : Type 0 where
+  pub call : Call
+  pub is_call : call_says call ≡ statement_says statement
+  pub comes : (name : List ℕ) (calls : List Call) (entries : List Entry) →
+      IsZoneAfter name calls entries old → Comes name calls entries call next made
