@@ -41,7 +41,7 @@ pub(crate) fn call(alloc: Global, kept: &mut Kept, line: &[u8]) -> u32
 
 /// Writes the last two lines of the answers so far.
 pub(crate) fn tell_closing(alloc: Global, session: &Session, out: &mut [u8]) -> Answered
-    ensures told { result.status ≡ 0 → IsClosingOf session.now (take result.length out.new) }
+    ensures answered { result.status ≡ 0 → IsClosingOf session.now (take result.length out.new) }
     ensures needed { result.status ≡ 4 → AtLength (IsClosingOf session.now) result.length }
     ensures status { (result.status ≡ 0) ⊎ (result.status ≡ 3) ⊎ (result.status ≡ 4) }
     ensures handed { Hands result.status result.length result.line out.old out.new }
@@ -54,7 +54,7 @@ pub(crate) fn tell_closing(alloc: Global, session: &Session, out: &mut [u8]) -> 
 
 /// Writes the status of the zone.
 pub(crate) fn tell_status(alloc: Global, session: &Session, out: &mut [u8]) -> Answered
-    ensures told { result.status ≡ 0 → IsStatusOf session.now (take result.length out.new) }
+    ensures answered { result.status ≡ 0 → IsStatusOf session.now (take result.length out.new) }
     ensures needed { result.status ≡ 4 → AtLength (IsStatusOf session.now) result.length }
     ensures status { (result.status ≡ 0) ⊎ (result.status ≡ 3) ⊎ (result.status ≡ 4) }
     ensures handed { Hands result.status result.length result.line out.old out.new }
@@ -67,7 +67,7 @@ pub(crate) fn tell_status(alloc: Global, session: &Session, out: &mut [u8]) -> A
 
 /// Writes the reports that are due at a second since 1970.
 pub(crate) fn tell_due(alloc: Global, kept: &Kept, seconds: u64, out: &mut [u8]) -> Answered
-    ensures told { result.status ≡ 0 →
+    ensures answered { result.status ≡ 0 →
         IsDueOf seconds kept.now (take result.length out.new) }
     ensures needed { result.status ≡ 4 → AtLength (IsDueOf seconds kept.now) result.length }
     ensures missing { (result.status ≡ 1) ↔ (kept.now.notes ≡ None) }
@@ -125,7 +125,7 @@ pub(crate) fn copy_of(alloc: Global, kept: &Kept) -> Result<Box<Kept>, AllocErro
         (name : List ℕ) (calls : List Call) (entries : List Entry) →
         StandsAfter name calls entries kept.now.session →
         StandsAfter name calls entries copy.value.session) }
-    ensures told { IfOk result (λ copy.
+    ensures answer { IfOk result (λ copy.
         string_bytes copy.value.answer ≡ string_bytes kept.now.answer) }
     ensures notes { IfOk result (λ copy. copy.value.notes ≡ kept.now.notes) }
 {

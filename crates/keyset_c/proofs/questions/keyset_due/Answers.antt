@@ -15,7 +15,7 @@ same_notes : (old : Option Kept) (one other : Kept) → old ≡ Some one → old
 same_notes old one other is was none = sym (ap notes_of is) ∙ ap notes_of was ∙ none
 
 pub returns-in-Some-clause-told : goal.returns-in-Some-clause-told
-returns-in-Some-clause-told c = keeps_if c.in-Some.ensures.value c.tell_due.ensures.told
+returns-in-Some-clause-told c = keeps_if c.in-Some.ensures.value c.tell_due.ensures.answered
 
 pub returns-in-Some-clause-needed : goal.returns-in-Some-clause-needed
 returns-in-Some-clause-needed c = keeps_at c.in-Some.ensures.value c.tell_due.ensures.needed

@@ -5,8 +5,8 @@ use Rattle.std.specs.declared.string.String.{String}
 use Rattle.dnssec_network.specs.Text.Due.{AnswersDue, IsDueAfter}
 use Rattle.keyset_c.proofs.sessions.tell_due.Goals as goal
 
-pub returns-in-Ok-Some-clause-told : goal.returns-in-Ok-Some-clause-told
-returns-in-Ok-Some-clause-told c = λ written lines notes entries stands taken.
+pub returns-in-Ok-Some-clause-answered : goal.returns-in-Ok-Some-clause-answered
+returns-in-Ok-Some-clause-answered c = λ written lines notes entries stands taken.
     let kept = c.args.kept.now in
     subst (IsDueAfter lines notes entries c.args.seconds)
     (sym (c.hand_out.ensures.written written ∙ c.as_bytes.ensures.value))

@@ -2,8 +2,8 @@
 use Rattle.std.proofs.Common.{ap, length, sym, ◌∙◌}
 use Rattle.keyset_c.proofs.sessions.tell_status.Goals as goal
 
-pub returns-in-Ok-clause-told : goal.returns-in-Ok-clause-told
-returns-in-Ok-clause-told c = λ written name calls entries stands.
+pub returns-in-Ok-clause-answered : goal.returns-in-Ok-clause-answered
+returns-in-Ok-clause-answered c = λ written name calls entries stands.
     rw (c.hand_out.ensures.written written, c.deref.ensures.value)
     (c.in-Ok.ensures name calls entries stands)
 
