@@ -257,18 +257,21 @@ module _ (name : List ℕ) where
   shown passes es phase lists added up =
       ap (λ (es : Entries). ids passes es added) (sym (entries-of es up))
 
+  -- the published sets are those of these keys, which stand in order
+  abbrev pub Shows : Published → Entries → (List ℕ → ℕ) → Type 0
+  Shows p es added = T (is_sorted order es)
+      × (map id_of p.ds.items ≡ ids in_ds es added)
+      × (map id_of p.dnskey.items ≡ ids in_dnskey es added)
+      × (map id_of p.dnskey_signers.items ≡ ids signs_dnskey es added)
+      × (map id_of p.zone_signers.items ≡ ids signs_zone es added)
+
   pub shows : (p : Published) (es : Entries) (phase : Option RollState) (lists : Lists)
-      (added : List ℕ → ℕ) → T (is_sorted order es)
-      → map id_of p.ds.items ≡ ids in_ds es added
-      → map id_of p.dnskey.items ≡ ids in_dnskey es added
-      → map id_of p.dnskey_signers.items ≡ ids signs_dnskey es added
-      → map id_of p.zone_signers.items ≡ ids signs_zone es added
-      → IsPublished p (world_of es phase lists added)
-  shows p es phase lists added up a b c d = record {
-    ds = a ∙ shown in_ds es phase lists added up;
-    dnskey = b ∙ shown in_dnskey es phase lists added up;
-    dnskey_signers = c ∙ shown signs_dnskey es phase lists added up;
-    zone_signers = d ∙ shown signs_zone es phase lists added up;
+      (added : List ℕ → ℕ) → Shows p es added → IsPublished p (world_of es phase lists added)
+  shows p es phase lists added h = record {
+    ds = h.1 ∙ shown in_ds es phase lists added h.0;
+    dnskey = h.2 ∙ shown in_dnskey es phase lists added h.0;
+    dnskey_signers = h.3 ∙ shown signs_dnskey es phase lists added h.0;
+    zone_signers = h.4 ∙ shown signs_zone es phase lists added h.0;
   }
 
   abbrev pub by : (List ℕ → KeyParts → KeyParts) → Entries → Entries
@@ -294,7 +297,7 @@ module _ (name : List ℕ) where
           set = keyset.after (call_of c) (world_of es phase lists added).set;
           added = added;
         })
-        → ((lists : Lists) → IsPublished p (world_of (by f es) next lists added))
+        → Shows p (by f es) added
         → Reached (cs ++ c ∷ []) (entries ++ entry_of c r p ∷ []) (by f es) next added
     rolled f at up accepted clear same after world shown =
         let lists : Lists = (keyset.after (call_of c) (world_of es phase at.lists added).set).lists
@@ -304,7 +307,7 @@ module _ (name : List ℕ) where
         leaves f es phase next lists up ∙ sym (after at.lists) in
         goes-on cs entries es phase added c r p (by f es) next lists added at accepted
         (clear at.lists) same set
-        (ap (with_adds added) set ∙ sym (world at.lists)) (shown lists)
+        (ap (with_adds added) set ∙ sym (world at.lists)) (shows p (by f es) next lists added shown)
 
   -- the end of a roll
   pub ended : (cs : List Call) (entries : List Entry) (es : Entries) (added : List ℕ → ℕ)
@@ -320,7 +323,7 @@ module _ (name : List ℕ) where
         };
         added = added;
       })
-      → ((lists : Lists) → IsPublished p (world_of es None lists added))
+      → Shows p es added
       → Reached (cs ++ RollDone AlgorithmRoll ∷ [])
       (entries ++ entry_of (RollDone AlgorithmRoll) r p ∷ []) es None added
   ended cs entries es added r p at accepted same world shown =
@@ -342,4 +345,4 @@ module _ (name : List ℕ) where
           lists = at.lists;
         };
         added = added;
-      }) ∙ sym (world at.lists)) (shown at.lists)
+      }) ∙ sym (world at.lists)) (shows p es None at.lists added shown)

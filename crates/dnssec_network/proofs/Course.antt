@@ -1,9 +1,11 @@
 -- A course of sixteen calls: a KSK and a ZSK come in by an algorithm roll, and by a second one
 -- those of another algorithm come in for them. It is a run. For `WholeSets`.
-use Rattle.std.proofs.Common.{ℕ, ◌*◌, ◌<◌, ◌^◌}
-use Rattle.std.proofs.Common.{List, [], ◌∷◌, map, length, take, None, Some, true}
+use Rattle.std.proofs.Common.{◌≡◌, ℕ, suc, ◌+◌, ◌*◌, ◌<◌, ◌^◌, T, max, fold, nat_eq}
+use Rattle.std.proofs.Common.{List, [], ◌∷◌, ◌++◌, map, length, take, None, Some, true, false}
 use Rattle.std.proofs.Common.{refl, arith, Global, String}
 use Rattle.std.proofs.Common.{Bor}
+use Rattle.std.specs.FinMap.{find, is_sorted}
+use Rattle.std.specs.List.{list_any}
 use Rattle.dnssec_key.specs.declared.kind.KeyType.TheVariants.{Ksk, Zsk}
 use Rattle.dnssec_key.specs.declared.state.Available.TheVariants.{Available}
 use Rattle.dnssec_key.specs.declared.roll.Action.TheVariants.{CreateCdsRrset, RemoveCdsRrset}
@@ -13,13 +15,18 @@ use Rattle.dnssec_key.specs.declared.roll.Action.TheVariants.{ReportRrsigPropaga
 use Rattle.dnssec_key.specs.declared.roll.Action.TheVariants.{UpdateDnskeyRrset, UpdateDsRrset}
 use Rattle.dnssec_key.specs.declared.roll.Action.TheVariants.{UpdateRrsig, WaitDnskeyPropagated}
 use Rattle.dnssec_key.specs.declared.roll.Action.TheVariants.{WaitRrsigPropagated}
+use Rattle.dnssec_key.specs.declared.roll.Half.{Half}
+use Rattle.dnssec_key.specs.declared.roll.Half.TheVariants.{First, Second}
 use Rattle.dnssec_key.specs.declared.roll.RollState.TheVariants.{CacheExpire1, CacheExpire2}
 use Rattle.dnssec_key.specs.declared.roll.RollState.TheVariants.{Done, Propagation1, Propagation2}
 use Rattle.dnssec_key.specs.declared.roll.RollType.TheVariants.{AlgorithmRoll}
 use Rattle.dnssec_key.specs.Key.{KeyParts, new_key, new_state}
-use Rattle.dnssec_key.specs.declared.roll.Half.TheVariants.{First, Second}
-use Rattle.dnssec_key.specs.RollTable.{after_report, after_start, after_wait, column}
-use Rattle.dnssec_zone.specs.Start.{is_listed}
+use Rattle.dnssec_key.specs.RollTable.{after_expiry, after_report, after_start, after_wait}
+use Rattle.dnssec_key.specs.RollTable.{cache_expire, column}
+use Rattle.dnssec_zone.specs.Start.{PresentKskRole, PresentZskRole, is_listed, new_fault}
+use Rattle.dnssec_zone.specs.Start.{old_fault, serves_as_new, some_listed, texts}
+use Rattle.dnssec_zone.specs.Wait.{lacks_stamp, time_left}
+use Rattle.dnssec_keyset.specs.Step as keyset
 use Rattle.dnssec_run.specs.declared.call.Call.{Call}
 use Rattle.dnssec_run.specs.declared.call.Call.TheVariants.{AddKeyKsk, AddKeyZsk, CacheExpired1}
 use Rattle.dnssec_run.specs.declared.call.Call.TheVariants.{CacheExpired2, Propagation1Complete}
@@ -30,9 +37,10 @@ use Rattle.dnssec_run.specs.declared.record.Published.{Published}
 use Rattle.dnssec_run.specs.declared.record.PublishedKey.{PublishedKey}
 use Rattle.dnssec_run.specs.declared.record.Reply.{Reply}
 use Rattle.dnssec_run.specs.declared.record.Reply.TheVariants as reply
-use Rattle.dnssec_run.specs.Record.{added_by}
-use Rattle.dnssec_network.proofs.CallByCall.{Entries, Reached, add-clear, begun, by, entry_of}
-use Rattle.dnssec_network.proofs.CallByCall.{ended, goes-on, held, named, rolled}
+use Rattle.dnssec_run.specs.Record.{added_by, call_of}
+use Rattle.dnssec_run.specs.WholeRolls.{propagation}
+use Rattle.dnssec_network.proofs.CallByCall.{Entries, Reached, Shows, add-clear, begun, by}
+use Rattle.dnssec_network.proofs.CallByCall.{ended, entry_of, goes-on, held, named, order, rolled}
 use Rattle.dnssec_network.proofs.CallByCall.{shows, start-clear, wait-clear}
 
 -- ---- the list
@@ -79,28 +87,29 @@ module _ (heap : Global) (name : List ℕ) (one other : ℕ) where
   abbrev pub add_a : Call
   add_a = AddKeyZsk a None other 4 0 Available
 
-  abbrev pub starts : List (List ℕ) → List (List ℕ) → ℕ → Call
+  abbrev starts : List (List ℕ) → List (List ℕ) → ℕ → Call
   starts olds news n = StartRoll AlgorithmRoll (slice olds) (slice news) (second n)
 
-  abbrev pub reports1 : ℕ → Call
-  reports1 n = Propagation1Complete AlgorithmRoll 1 (second n)
+  abbrev reports : Half → ℕ → Call
+  reports First n = Propagation1Complete AlgorithmRoll 1 (second n)
+  reports Second n = Propagation2Complete AlgorithmRoll 1 (second n)
 
-  abbrev pub waits1 : ℕ → Call
-  waits1 n = CacheExpired1 AlgorithmRoll (second n)
+  abbrev waits : Half → ℕ → Call
+  waits First n = CacheExpired1 AlgorithmRoll (second n)
+  waits Second n = CacheExpired2 AlgorithmRoll (second n)
 
-  abbrev pub reports2 : ℕ → Call
-  reports2 n = Propagation2Complete AlgorithmRoll 1 (second n)
-
-  abbrev pub waits2 : ℕ → Call
-  waits2 n = CacheExpired2 AlgorithmRoll (second n)
-
-  abbrev pub ends : Call
+  abbrev ends : Call
   ends = RollDone AlgorithmRoll
 
+  -- what follows the start of a roll, a call a second
+  abbrev rest_calls : ℕ → List Call
+  rest_calls n =
+      reports First n ∷ waits First (n + 1) ∷ reports Second (n + 2) ∷ waits Second (n + 3)
+      ∷ ends ∷ []
+
   abbrev pub calls : List Call
-  calls = add_d ∷ add_c ∷ add_b ∷ add_a
-      ∷ starts [] firsts 5 ∷ reports1 6 ∷ waits1 7 ∷ reports2 8 ∷ waits2 9 ∷ ends
-      ∷ starts firsts seconds 11 ∷ reports1 12 ∷ waits1 13 ∷ reports2 14 ∷ waits2 15 ∷ ends ∷ []
+  calls = add_d ∷ add_c ∷ add_b ∷ add_a ∷ starts [] firsts 5 ∷ rest_calls 6
+      ++ starts firsts seconds 11 ∷ rest_calls 12
 
   -- ---- what each leaves published
 
@@ -162,24 +171,24 @@ module _ (heap : Global) (name : List ℕ) (one other : ℕ) where
   abbrev pub entry : Call → Reply → Published → Entry
   entry call answer p = entry_of name call answer p
 
+  -- what follows the start of a roll, of which the calls leave these sets in turn
+  abbrev rest_entries : ℕ → Published → Published → Published → List Entry
+  rest_entries n p q r = entry (reports First n) none_asked p
+      ∷ entry (waits First (n + 1)) asked_between q
+      ∷ entry (reports Second (n + 2)) none_asked q
+      ∷ entry (waits Second (n + 3)) asked_last r
+      ∷ entry ends none_asked r
+      ∷ []
+
   abbrev pub entries : List Entry
   entries = entry add_d reply.Done nothing
       ∷ entry add_c reply.Done nothing
       ∷ entry add_b reply.Done nothing
       ∷ entry add_a reply.Done nothing
       ∷ entry (starts [] firsts 5) asked_first come_in
-      ∷ entry (reports1 6) none_asked come_in
-      ∷ entry (waits1 7) asked_between of_one
-      ∷ entry (reports2 8) none_asked of_one
-      ∷ entry (waits2 9) asked_last of_one
-      ∷ entry ends none_asked of_one
-      ∷ entry (starts firsts seconds 11) asked_first of_both
-      ∷ entry (reports1 12) none_asked of_both
-      ∷ entry (waits1 13) asked_between turned
-      ∷ entry (reports2 14) none_asked turned
-      ∷ entry (waits2 15) asked_last of_other
-      ∷ entry ends none_asked of_other
-      ∷ []
+      ∷ rest_entries 6 come_in of_one of_one
+      ++ entry (starts firsts seconds 11) asked_first of_both
+      ∷ rest_entries 12 of_both turned of_other
 
   -- ---- the keys after each
 
@@ -189,194 +198,170 @@ module _ (heap : Global) (name : List ℕ) (one other : ℕ) where
   abbrev pub zsk : ℕ → ℕ → KeyParts
   zsk algorithm tag = new_key None (Zsk (new_state true)) algorithm tag 0
 
-  abbrev pub keys1 : Entries
-  keys1 = (100 ∷ [], ksk one 1) ∷ []
+  abbrev keys4 : Entries
+  keys4 = (97 ∷ [], zsk other 4) ∷ (98 ∷ [], ksk other 3) ∷ (99 ∷ [], zsk one 2)
+      ∷ (100 ∷ [], ksk one 1) ∷ []
 
-  abbrev pub keys2 : Entries
-  keys2 = (99 ∷ [], zsk one 2) ∷ keys1
+  abbrev started : List (List ℕ) → List (List ℕ) → ℕ → List ℕ → KeyParts → KeyParts
+  started olds news n q = after_start AlgorithmRoll (second n)
+      (is_listed (texts (slice olds).now) q) (is_listed (texts (slice news).now) q)
 
-  abbrev pub keys3 : Entries
-  keys3 = (98 ∷ [], ksk other 3) ∷ keys2
+  abbrev reported : Half → ℕ → List ℕ → KeyParts → KeyParts
+  reported half n q = after_report AlgorithmRoll half (second n)
 
-  abbrev pub keys4 : Entries
-  keys4 = (97 ∷ [], zsk other 4) ∷ keys3
+  abbrev waited : Half → ℕ → List ℕ → KeyParts → KeyParts
+  waited half n q = after_wait AlgorithmRoll half (second n)
 
-  abbrev pub started : List (List ℕ) → List (List ℕ) → ℕ → List ℕ → KeyParts → KeyParts
-  started olds news n q =
-      after_start AlgorithmRoll (second n) (is_listed olds q) (is_listed news q)
-
-  abbrev pub reported1 : ℕ → List ℕ → KeyParts → KeyParts
-  reported1 n q = after_report AlgorithmRoll First (second n)
-
-  abbrev pub waited1 : ℕ → List ℕ → KeyParts → KeyParts
-  waited1 n q = after_wait AlgorithmRoll First (second n)
-
-  abbrev pub reported2 : ℕ → List ℕ → KeyParts → KeyParts
-  reported2 n q = after_report AlgorithmRoll Second (second n)
-
-  abbrev pub waited2 : ℕ → List ℕ → KeyParts → KeyParts
-  waited2 n q = after_wait AlgorithmRoll Second (second n)
+  -- after what follows the start of a roll
+  abbrev rest_keys : ℕ → Entries → Entries
+  rest_keys n es = by name (waited Second (n + 3)) (by name (reported Second (n + 2))
+      (by name (waited First (n + 1)) (by name (reported First n) es)))
 
   abbrev pub keys5 : Entries
   keys5 = by name (started [] firsts 5) keys4
 
-  abbrev pub keys6 : Entries
-  keys6 = by name (reported1 6) keys5
-
-  abbrev pub keys7 : Entries
-  keys7 = by name (waited1 7) keys6
-
-  abbrev pub keys8 : Entries
-  keys8 = by name (reported2 8) keys7
-
-  abbrev pub keys9 : Entries
-  keys9 = by name (waited2 9) keys8
-
   abbrev pub keys11 : Entries
-  keys11 = by name (started firsts seconds 11) keys9
-
-  abbrev pub keys12 : Entries
-  keys12 = by name (reported1 12) keys11
-
-  abbrev pub keys13 : Entries
-  keys13 = by name (waited1 13) keys12
-
-  abbrev pub keys14 : Entries
-  keys14 = by name (reported2 14) keys13
-
-  abbrev pub keys15 : Entries
-  keys15 = by name (waited2 15) keys14
+  keys11 = by name (started firsts seconds 11) (rest_keys 6 keys5)
 
   -- where each reference was added
-  abbrev pub none_added : List ℕ → ℕ
-  none_added q = 0
-
-  abbrev pub added1 : List ℕ → ℕ
-  added1 = added_by 1 add_d reply.Done none_added
-
-  abbrev pub added2 : List ℕ → ℕ
-  added2 = added_by 2 add_c reply.Done added1
-
-  abbrev pub added3 : List ℕ → ℕ
-  added3 = added_by 3 add_b reply.Done added2
-
   abbrev pub added4 : List ℕ → ℕ
-  added4 = added_by 4 add_a reply.Done added3
+  added4 = added_by 4 add_a reply.Done (added_by 3 add_b reply.Done
+      (added_by 2 add_c reply.Done (added_by 1 add_d reply.Done (λ q. 0))))
+
+  -- ---- one more call, whatever came before
+
+  -- an add, after which nothing is published yet
+  add : {cs : List Call} {so_far : List Entry} {es : Entries} {added : List ℕ → ℕ} (x : Call)
+      (q : List ℕ) (k : KeyParts) → Reached name cs so_far es None added
+      → call_of x ≡ keyset.AddKey q k → T (is_sorted order es)
+      → list_any (λ j. nat_eq j.key_tag k.key_tag) (map (λ e. e.1) es) ≡ false
+      → find order q es ≡ None
+      → Shows name nothing ((q, k) ∷ es) (added_by (suc (length cs)) x reply.Done added)
+      → Reached name (cs ++ x ∷ []) (so_far ++ entry x reply.Done nothing ∷ []) ((q, k) ∷ es) None
+      (added_by (suc (length cs)) x reply.Done added)
+  add {cs = cs} {so_far = so_far} {es = es} {added = added} x q k at is up apart none shown =
+      let more : List ℕ → ℕ = added_by (suc (length cs)) x reply.Done added in
+      goes-on name cs so_far es None added x reply.Done nothing ((q, k) ∷ es) None at.lists more at
+      refl (rw is (add-clear name es q k.key_tag up apart none)) (rw is refl) (rw is refl)
+      (rw is refl) (shows name nothing ((q, k) ∷ es) None at.lists more shown)
+
+  -- a wait is over if no key lacks its stamp, and no time is left
+  abbrev IsOver : Half → ℕ → Entries → Type 0
+  IsOver half n es = (list_any (lacks_stamp AlgorithmRoll half) (map (λ e. e.1) es) ≡ false)
+      × (fold max 0 (map (time_left AlgorithmRoll half 1 (second n)) (map (λ e. e.1) es)) ≡ 0)
+
+  abbrev asked_after : Half → Reply
+  asked_after First = asked_between
+  asked_after Second = asked_last
+
+  module _ {cs : List Call} {so_far : List Entry} {es : Entries} (up : T (is_sorted order es))
+      (p : Published) (n : ℕ) where
+    -- a start lists keys that it may list, and brings in a KSK and a ZSK
+    start : (olds news : List (List ℕ)) → Reached name cs so_far es None added4
+        → (old_fault AlgorithmRoll (λ q. find order q es) (texts (slice olds).now) ≡ None)
+        × (new_fault AlgorithmRoll (λ q. find order q es) (texts (slice olds).now) []
+        (texts (slice news).now) ≡ None)
+        × (some_listed (serves_as_new PresentKskRole) (λ q. find order q es)
+        (texts (slice news).now) ≡ true)
+        × (some_listed (serves_as_new PresentZskRole) (λ q. find order q es)
+        (texts (slice news).now) ≡ true)
+        → Shows name p (by name (started olds news n) es) added4
+        → Reached name (cs ++ starts olds news n ∷ [])
+        (so_far ++ entry (starts olds news n) asked_first p ∷ []) (by name (started olds news n) es)
+        (Some Propagation1) added4
+    unfolding column
+    start olds news at may shown =
+        rolled name cs so_far es None added4 (starts olds news n) asked_first p (Some Propagation1)
+        (started olds news n) at up refl
+        (λ lists. start-clear name es lists (texts (slice olds).now) (texts (slice news).now)
+        (second n) may.0 may.1 may.2 may.3) refl (λ lists. refl) (λ lists. refl) shown
+
+    report : (half : Half) → Reached name cs so_far es (Some (propagation half)) added4
+        → Shows name p (by name (reported half n) es) added4
+        → Reached name (cs ++ reports half n ∷ [])
+        (so_far ++ entry (reports half n) none_asked p ∷ []) (by name (reported half n) es)
+        (Some (cache_expire half 1)) added4
+    unfolding column
+    report First at shown = rolled name cs so_far es (Some Propagation1) added4 (reports First n)
+        none_asked p (Some (CacheExpire1 1)) (reported First n) at up refl (λ lists. refl) refl
+        (λ lists. refl) (λ lists. refl) shown
+    report Second at shown = rolled name cs so_far es (Some Propagation2) added4 (reports Second n)
+        none_asked p (Some (CacheExpire2 1)) (reported Second n) at up refl (λ lists. refl) refl
+        (λ lists. refl) (λ lists. refl) shown
+
+    wait : (half : Half) → Reached name cs so_far es (Some (cache_expire half 1)) added4
+        → IsOver half n es → Shows name p (by name (waited half n) es) added4
+        → Reached name (cs ++ waits half n ∷ [])
+        (so_far ++ entry (waits half n) (asked_after half) p ∷ []) (by name (waited half n) es)
+        (Some (after_expiry half)) added4
+    unfolding column
+    wait First at over shown = rolled name cs so_far es (Some (CacheExpire1 1)) added4
+        (waits First n) asked_between p (Some Propagation2) (waited First n) at up refl
+        (λ lists. wait-clear name First 1 (second n) es up over.0 over.1) refl (λ lists. refl)
+        (λ lists. refl) shown
+    wait Second at over shown = rolled name cs so_far es (Some (CacheExpire2 1)) added4
+        (waits Second n) asked_last p (Some Done) (waited Second n) at up refl
+        (λ lists. wait-clear name Second 1 (second n) es up over.0 over.1) refl (λ lists. refl)
+        (λ lists. refl) shown
 
   -- ---- the run
 
-  pub run1 : Reached name (take 1 calls) (take 1 entries) keys1 None added1
-  run1 = let at = begun name in
-      goes-on name [] [] [] None none_added add_d reply.Done nothing keys1 None at.lists added1 at
-      refl (add-clear name [] (100 ∷ []) 1 tt refl refl) refl refl refl
-      (shows name nothing keys1 None at.lists added1 tt refl refl refl refl)
+  -- one element after another
+  abbrev on : {X : Type 0} → List X → List X → List X
+  on xs [] = xs
+  on xs (y ∷ ys) = on (xs ++ y ∷ []) ys
 
-  pub run2 : Reached name (take 2 calls) (take 2 entries) keys2 None added2
-  run2 = let at = run1 in
-      goes-on name (take 1 calls) (take 1 entries) keys1 None added1 add_c reply.Done nothing keys2
-      None at.lists added2 at refl (add-clear name keys1 (99 ∷ []) 2 tt refl refl) refl refl refl
-      (shows name nothing keys2 None at.lists added2 tt refl refl refl refl)
+  -- what follows the start of a roll, if its waits are over and each call leaves its sets
+  module _ (cs : List Call) (so_far : List Entry) (es : Entries) (n : ℕ) where
+    abbrev at_report1 : Entries
+    at_report1 = by name (reported First n) es
 
-  pub run3 : Reached name (take 3 calls) (take 3 entries) keys3 None added3
-  run3 = let at = run2 in
-      goes-on name (take 2 calls) (take 2 entries) keys2 None added2 add_b reply.Done nothing keys3
-      None at.lists added3 at refl (add-clear name keys2 (98 ∷ []) 3 tt refl refl) refl refl refl
-      (shows name nothing keys3 None at.lists added3 tt refl refl refl refl)
+    abbrev at_wait1 : Entries
+    at_wait1 = by name (waited First (n + 1)) at_report1
 
-  pub run4 : Reached name (take 4 calls) (take 4 entries) keys4 None added4
-  run4 = let at = run3 in
-      goes-on name (take 3 calls) (take 3 entries) keys3 None added3 add_a reply.Done nothing keys4
-      None at.lists added4 at refl (add-clear name keys3 (97 ∷ []) 4 tt refl refl) refl refl refl
-      (shows name nothing keys4 None at.lists added4 tt refl refl refl refl)
+    abbrev at_report2 : Entries
+    at_report2 = by name (reported Second (n + 2)) at_wait1
+
+    rest : (p q r : Published) → Reached name cs so_far es (Some Propagation1) added4
+        → T (is_sorted order es) → Shows name p at_report1 added4
+        → IsOver First (n + 1) at_report1 → Shows name q at_wait1 added4
+        → Shows name q at_report2 added4 → IsOver Second (n + 3) at_report2
+        → Shows name r (rest_keys n es) added4
+        → Reached name (on cs (rest_calls n)) (on so_far (rest_entries n p q r)) (rest_keys n es)
+        None added4
+    rest p q r at up shown1 over1 shown2 shown3 over2 shown4 =
+        let report1 = report up p n First at shown1 in
+        let wait1 = wait shown1.0 q (n + 1) First report1 over1 shown2 in
+        let report2 = report shown2.0 q (n + 2) Second wait1 shown3 in
+        let wait2 = wait shown3.0 r (n + 3) Second report2 over2 shown4 in
+        ended name _ _ (rest_keys n es) added4 none_asked r wait2 refl refl (λ lists. refl) shown4
 
   pub run5 : Reached name (take 5 calls) (take 5 entries) keys5 (Some Propagation1) added4
   unfolding column
-  run5 = rolled name (take 4 calls) (take 4 entries) keys4 None added4 (starts [] firsts 5)
-      asked_first come_in (Some Propagation1) (started [] firsts 5) run4 tt refl
-      (λ lists. start-clear name keys4 lists [] firsts (second 5) refl refl refl refl) refl
-      (λ lists. refl) (λ lists. refl)
-      (λ lists. shows name come_in keys5 (Some Propagation1) lists added4 tt refl refl refl refl)
+  run5 =
+      let one_key = add add_d (100 ∷ []) (ksk one 1) (begun name) refl tt refl refl
+      (tt, refl, refl, refl, refl) in
+      let two_keys = add add_c (99 ∷ []) (zsk one 2) one_key refl tt refl refl
+      (tt, refl, refl, refl, refl) in
+      let three_keys = add add_b (98 ∷ []) (ksk other 3) two_keys refl tt refl refl
+      (tt, refl, refl, refl, refl) in
+      let four_keys = add add_a (97 ∷ []) (zsk other 4) three_keys refl tt refl refl
+      (tt, refl, refl, refl, refl) in
+      start tt come_in 5 [] firsts four_keys (refl, refl, refl, refl) (tt, refl, refl, refl, refl)
 
-  pub run6 : Reached name (take 6 calls) (take 6 entries) keys6 (Some (CacheExpire1 1)) added4
+  run10 : Reached name (take 10 calls) (take 10 entries) (rest_keys 6 keys5) None added4
   unfolding column
-  run6 = rolled name (take 5 calls) (take 5 entries) keys5 (Some Propagation1) added4 (reports1 6)
-      none_asked come_in (Some (CacheExpire1 1)) (reported1 6) run5 tt refl (λ lists. refl) refl
-      (λ lists. refl) (λ lists. refl)
-      (λ lists. shows name come_in keys6 (Some (CacheExpire1 1)) lists added4 tt refl refl refl
-      refl)
-
-  pub run7 : Reached name (take 7 calls) (take 7 entries) keys7 (Some Propagation2) added4
-  unfolding column
-  run7 = rolled name (take 6 calls) (take 6 entries) keys6 (Some (CacheExpire1 1)) added4 (waits1 7)
-      asked_between of_one (Some Propagation2) (waited1 7) run6 tt refl
-      (λ lists. wait-clear name First 1 (second 7) keys6 tt refl refl) refl
-      (λ lists. refl) (λ lists. refl)
-      (λ lists. shows name of_one keys7 (Some Propagation2) lists added4 tt refl refl refl refl)
-
-  pub run8 : Reached name (take 8 calls) (take 8 entries) keys8 (Some (CacheExpire2 1)) added4
-  unfolding column
-  run8 = rolled name (take 7 calls) (take 7 entries) keys7 (Some Propagation2) added4 (reports2 8)
-      none_asked of_one (Some (CacheExpire2 1)) (reported2 8) run7 tt refl (λ lists. refl) refl
-      (λ lists. refl) (λ lists. refl)
-      (λ lists. shows name of_one keys8 (Some (CacheExpire2 1)) lists added4 tt refl refl refl refl)
-
-  pub run9 : Reached name (take 9 calls) (take 9 entries) keys9 (Some Done) added4
-  unfolding column
-  run9 = rolled name (take 8 calls) (take 8 entries) keys8 (Some (CacheExpire2 1)) added4 (waits2 9)
-      asked_last of_one (Some Done) (waited2 9) run8 tt refl
-      (λ lists. wait-clear name Second 1 (second 9) keys8 tt refl refl) refl
-      (λ lists. refl) (λ lists. refl)
-      (λ lists. shows name of_one keys9 (Some Done) lists added4 tt refl refl refl refl)
-
-  pub run10 : Reached name (take 10 calls) (take 10 entries) keys9 None added4
-  unfolding column
-  run10 = ended name (take 9 calls) (take 9 entries) keys9 added4 none_asked of_one run9 refl refl
-      (λ lists. refl)
-      (λ lists. shows name of_one keys9 None lists added4 tt refl refl refl refl)
+  run10 = rest (take 5 calls) (take 5 entries) keys5 6 come_in of_one of_one run5 tt
+      (tt, refl, refl, refl, refl) (refl, refl) (tt, refl, refl, refl, refl)
+      (tt, refl, refl, refl, refl) (refl, refl) (tt, refl, refl, refl, refl)
 
   pub run11 : Reached name (take 11 calls) (take 11 entries) keys11 (Some Propagation1) added4
   unfolding column
-  run11 = rolled name (take 10 calls) (take 10 entries) keys9 None added4
-      (starts firsts seconds 11) asked_first of_both (Some Propagation1) (started firsts seconds 11)
-      run10 tt refl
-      (λ lists. start-clear name keys9 lists firsts seconds (second 11) refl refl refl refl) refl
-      (λ lists. refl) (λ lists. refl)
-      (λ lists. shows name of_both keys11 (Some Propagation1) lists added4 tt refl refl refl refl)
+  run11 = start {cs = take 10 calls} {so_far = take 10 entries} {es = rest_keys 6 keys5} tt of_both
+      11 firsts seconds run10 (refl, refl, refl, refl) (tt, refl, refl, refl, refl)
 
-  pub run12 : Reached name (take 12 calls) (take 12 entries) keys12 (Some (CacheExpire1 1)) added4
+  pub run16 : Reached name calls entries (rest_keys 12 keys11) None added4
   unfolding column
-  run12 = rolled name (take 11 calls) (take 11 entries) keys11 (Some Propagation1) added4
-      (reports1 12) none_asked of_both (Some (CacheExpire1 1)) (reported1 12) run11 tt refl
-      (λ lists. refl) refl (λ lists. refl) (λ lists. refl)
-      (λ lists. shows name of_both keys12 (Some (CacheExpire1 1)) lists added4 tt refl refl refl
-      refl)
-
-  pub run13 : Reached name (take 13 calls) (take 13 entries) keys13 (Some Propagation2) added4
-  unfolding column
-  run13 = rolled name (take 12 calls) (take 12 entries) keys12 (Some (CacheExpire1 1)) added4
-      (waits1 13) asked_between turned (Some Propagation2) (waited1 13) run12 tt refl
-      (λ lists. wait-clear name First 1 (second 13) keys12 tt refl refl) refl
-      (λ lists. refl) (λ lists. refl)
-      (λ lists. shows name turned keys13 (Some Propagation2) lists added4 tt refl refl refl refl)
-
-  pub run14 : Reached name (take 14 calls) (take 14 entries) keys14 (Some (CacheExpire2 1)) added4
-  unfolding column
-  run14 = rolled name (take 13 calls) (take 13 entries) keys13 (Some Propagation2) added4
-      (reports2 14) none_asked turned (Some (CacheExpire2 1)) (reported2 14) run13 tt refl
-      (λ lists. refl) refl (λ lists. refl) (λ lists. refl)
-      (λ lists. shows name turned keys14 (Some (CacheExpire2 1)) lists added4 tt refl refl refl
-      refl)
-
-  pub run15 : Reached name (take 15 calls) (take 15 entries) keys15 (Some Done) added4
-  unfolding column
-  run15 = rolled name (take 14 calls) (take 14 entries) keys14 (Some (CacheExpire2 1)) added4
-      (waits2 15) asked_last of_other (Some Done) (waited2 15) run14 tt refl
-      (λ lists. wait-clear name Second 1 (second 15) keys14 tt refl refl) refl
-      (λ lists. refl) (λ lists. refl)
-      (λ lists. shows name of_other keys15 (Some Done) lists added4 tt refl refl refl refl)
-
-  pub run16 : Reached name calls entries keys15 None added4
-  unfolding column
-  run16 = ended name (take 15 calls) (take 15 entries) keys15 added4 none_asked of_other run15 refl
-      refl (λ lists. refl)
-      (λ lists. shows name of_other keys15 None lists added4 tt refl refl refl refl)
+  run16 = rest (take 11 calls) (take 11 entries) keys11 12 of_both turned of_other run11 tt
+      (tt, refl, refl, refl, refl) (refl, refl) (tt, refl, refl, refl, refl)
+      (tt, refl, refl, refl, refl) (refl, refl) (tt, refl, refl, refl, refl)
