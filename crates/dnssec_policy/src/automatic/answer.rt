@@ -3,7 +3,7 @@ ghost use Rattle.std.specs.Prelude.{◌≡◌, ◌*◌, ℕ, IfOk, List, None, O
 ghost use Rattle.dnssec_policy.specs.Text.Lint.{highest_of, too_short};
 ghost use Rattle.dnssec_run.specs.declared.call.Call.{Call as AnyCall};
 ghost use Rattle.dnssec_run.specs.declared.record.Entry.{Entry};
-ghost use Rattle.dnssec_policy.specs.Automatic.Answer.{AnswersBy, AnswersNext, SaysLine};
+ghost use Rattle.dnssec_policy.specs.Automatic.Answer.{AnswersNext, SaysLine};
 ghost use Rattle.dnssec_policy.specs.Automatic.Calls.{IsAfter};
 ghost use Rattle.dnssec_policy.specs.Automatic.ZoneNotes.{HasHighest};
 
@@ -42,26 +42,14 @@ pub fn answer_next(
         AnswersNext policy.now script.now notes.now seconds (string_bytes text)) }
 {
     match read_policy(alloc, policy) {
-        Ok(policy) => answer_by(alloc, &policy, script, notes, seconds),
+        Ok(policy) => {
+            let zone = AutomaticZone::resume(alloc, script, notes)?;
+            check(&zone, &policy)?;
+            let line = said(alloc, &zone, &policy, seconds)?;
+            Ok(line)
+        }
         Err(fault) => Err(NextFault::Policy(fault)),
     }
-}
-
-/// The same of a policy that is read.
-fn answer_by(
-    alloc: Global,
-    policy: &Policy,
-    script: &[u8],
-    notes: &[u8],
-    seconds: u64,
-) -> Result<String, NextFault>
-    ensures { IfOk result (λ text.
-        AnswersBy policy.now script.now notes.now seconds (string_bytes text)) }
-{
-    let zone = AutomaticZone::resume(alloc, script, notes)?;
-    check(&zone, policy)?;
-    let line = said(alloc, &zone, policy, seconds)?;
-    Ok(line)
 }
 
 /// An error if a lifetime of the policy is too short for the zone.
