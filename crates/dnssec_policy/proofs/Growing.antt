@@ -2,6 +2,7 @@
 use Rattle.std.proofs.Common.{◌≡◌, ℕ, zero, suc, ◌+◌, ◌<◌, ◌≤◌, ◌⊎◌, inl, inr, Bool, true, false}
 use Rattle.std.proofs.Common.{List, [], ◌∷◌, ◌++◌, Option, None, Some, length, length-append, refl}
 use Rattle.std.proofs.Common.{sym, ap, subst, ◌∙◌, arith}
+use Rattle.std.proofs.Math.Bool.{and-false, and-true}
 use Rattle.std.proofs.lemmas.{Bool.cases_lt, Option.same_Some, Option.slice_get_within}
 use Rattle.std.specs.Prelude.{if◌then◌else◌, slice_get, ◌&&◌}
 use Rattle.std.specs.Option.{option_map, option_map_or}
@@ -88,15 +89,7 @@ module _ (cs ds : List Call) (es fs : List Entry) where
 if-accepted : (roll other : RollType) (t : Bool)
     → (same_roll roll other && t) ≡ is_wait_of roll (if t then Some other else None)
 if-accepted roll other true = and-true (same_roll roll other)
-  where
-    and-true : (b : Bool) → (b && true) ≡ b
-    and-true true = refl
-    and-true false = refl
 if-accepted roll other false = and-false (same_roll roll other)
-  where
-    and-false : (b : Bool) → (b && false) ≡ false
-    and-false true = refl
-    and-false false = refl
 
 no-wait : (roll : RollType) (t : Bool) → false ≡ is_wait_of roll (if t then None else None)
 no-wait roll true = refl

@@ -1,6 +1,6 @@
 -- The highest TTLs noted, with one fact more.
 use Rattle.std.proofs.Common.{◌≡◌, ℕ, ◌∙◌, ◌++◌, ◌∷◌, List, [], ap, max, sym}
-use Rattle.std.proofs.Common.{if◌then◌else◌}
+use Rattle.std.proofs.Common.{if◌then◌else◌, Bool, true, false, refl}
 use Rattle.std.proofs.lemmas.List.Sums.{fold_push}
 use Rattle.dnssec_run.specs.declared.caches.SetKind.{SetKind as Kind}
 use Rattle.dnssec_run.specs.declared.caches.SetKind.TheVariants as code
@@ -24,6 +24,10 @@ grown before facts fact kind =
     ∙ fold_push step first facts fact
     ∙ ap (λ most. step most fact) (passed kind higher_with first facts)
 
+same-twice : (b : Bool) (n : ℕ) → n ≡ (if b then n else n)
+same-twice true n = refl
+same-twice false n = refl
+
 raised : (h : HighestTtls) (k : Kind) (news : News) (kind : SetKind) (most : ℕ)
     → ttl_in h kind ≡ most → ttl_in (after_news h k news) kind
     ≡ (if same_kind (kind_of k) kind then higher_with most news else most)
@@ -36,15 +40,7 @@ raised h code.Dnskey (Published position ttl moment) ZoneSigners most e = e
 raised h code.ZoneSigners (Published position ttl moment) Ds most e = e
 raised h code.ZoneSigners (Published position ttl moment) Dnskey most e = e
 raised h code.ZoneSigners (Published position ttl moment) ZoneSigners most e = ap (λ n. max n ttl) e
-raised h code.Ds (Everywhere moment) Ds most e = e
-raised h code.Ds (Everywhere moment) Dnskey most e = e
-raised h code.Ds (Everywhere moment) ZoneSigners most e = e
-raised h code.Dnskey (Everywhere moment) Ds most e = e
-raised h code.Dnskey (Everywhere moment) Dnskey most e = e
-raised h code.Dnskey (Everywhere moment) ZoneSigners most e = e
-raised h code.ZoneSigners (Everywhere moment) Ds most e = e
-raised h code.ZoneSigners (Everywhere moment) Dnskey most e = e
-raised h code.ZoneSigners (Everywhere moment) ZoneSigners most e = e
+raised h k (Everywhere moment) kind most e = e ∙ same-twice (same_kind (kind_of k) kind) most
 
 pub raised-by : (h : HighestTtls) (k : Kind) (news : News) (before : Before) (facts : List Fact)
     → AreHighest before facts h

@@ -1,7 +1,8 @@
 -- The line of a call that is said is read as that call, also after the lines of its script.
-use Rattle.std.proofs.Common.{◌≡◌, ℕ, suc, ◌≤◌, ◌*◌, ◌∙◌, ◌⊎◌, inl, inr, Bool, true, false, List}
+use Rattle.std.proofs.Common.{◌≡◌, ℕ, suc, ◌≤◌, ◌*◌, ◌∙◌, ◌⊎◌, inl, inr, true, List}
 use Rattle.std.proofs.Common.{[], ◌∷◌, ◌++◌, Option, None, Some, length, refl, sym, subst, ap}
 use Rattle.std.proofs.Common.{arith}
+use Rattle.std.proofs.Math.Bool.{or-true}
 use Rattle.std.proofs.lemmas.{Bool.true≢false, Option.none-some}
 use Rattle.std.specs.Prelude.{◌||◌, Ok, slice_get}
 use Rattle.std.specs.List.{list_all}
@@ -12,11 +13,11 @@ use Rattle.dnssec_key.specs.declared.roll.RollType.{RollType}
 use Rattle.dnssec_zone.specs.Start.{is_listed}
 use Rattle.dnssec_keyset.specs.KeySet.{KeySetParts}
 use Rattle.dnssec_keyset.specs.Step as keyset
+use Rattle.dnssec_keyset.proofs.Changes.{Changes}
 use Rattle.dnssec_run.specs.declared.call.Call.{Call}
 use Rattle.dnssec_run.specs.declared.record.Entry.{Entry}
 use Rattle.dnssec_run.specs.Record.{IsRun, call_of, reference_added, world_at}
 use Rattle.dnssec_run.proofs.Effects.{adds, came}
-use Rattle.dnssec_run.proofs.WholeRolls.Replies.{outcome, since}
 use Rattle.dnssec_script.specs.Script.{IsLineOf, IsScript, is_reference}
 use Rattle.dnssec_script.proofs.Added.{added-named}
 use Rattle.dnssec_record.proofs.Sessions.{script_more}
@@ -34,20 +35,18 @@ use Rattle.dnssec_policy.proofs.Accepted.{old-goes, one-new, two-new}
 use Rattle.dnssec_policy.proofs.ByHand.{answered}
 use Rattle.dnssec_policy.proofs.{May.May, Said.may}
 use Rattle.dnssec_policy.proofs.May.{IsStart}
-use Rattle.dnssec_policy.proofs.Texts.Calls.{AreNamed, IsSayable, call-back}
+use Rattle.dnssec_policy.proofs.PlainCalls.{each-set}
+use Rattle.dnssec_policy.proofs.Texts.Calls.{AreNamed, IsSaidAt, call-back}
 
 -- ---- the references of a call that is said
-
-later : (b c : Bool) → c ≡ true → (b || c) ≡ true
-later true c e = refl
-later false c e = e
 
 all-named : (qs : List (List ℕ)) → ((q : List ℕ) → is_listed qs q ≡ true → is_reference q ≡ true)
     → AreNamed qs
 all-named [] each = refl
 all-named (q ∷ qs) each =
     let here = each q (ap (λ b. b || is_listed qs q) ((bytes_decides q q).1 refl)) in
-    let rest = all-named qs (λ r l. each r (later (bytes_eq r q) (is_listed qs r) l)) in
+    let rest = all-named qs
+    (λ r l. each r (ap (λ b. bytes_eq r q || b) l ∙ or-true (bytes_eq r q))) in
     rw (here, rest) refl
 
 module _ (policy : Policy) (v : View) (names : CanNameKeys v.set) where
@@ -75,21 +74,21 @@ module _ (policy : Policy) (v : View) (names : CanNameKeys v.set) where
     | inr r ↦ one-named (role_of roll) news r.news_are
   ]
 
-  sayable : (c : keyset.Call) (n : ℕ) → v.now ≡ n * 1_000_000_000 → May policy v c → IsSayable c n
-  sayable (keyset.Report roll half ttl t) n now m = (m.0 ∙ now, m.7)
-  sayable (keyset.Wait roll half t) n now m = m.0 ∙ now
-  sayable (keyset.RollDone roll) n now m = tt
-  sayable (keyset.StartRoll roll olds news t) n now m = (
+  said-at : (c : keyset.Call) (n : ℕ) → v.now ≡ n * 1_000_000_000 → May policy v c → IsSaidAt c n
+  said-at (keyset.Report roll half ttl t) n now m = (m.0 ∙ now, m.7)
+  said-at (keyset.Wait roll half t) n now m = m.0 ∙ now
+  said-at (keyset.RollDone roll) n now m = tt
+  said-at (keyset.StartRoll roll olds news t) n now m = (
     m.0 ∙ now,
     subst AreNamed (sym m.1.olds_are) (olds-named roll),
     news-named roll olds news m.1,
   )
-  sayable (keyset.DeleteKey q) n now m = names q m.0 m.1
-  sayable _ n now m = absurd m
+  said-at (keyset.DeleteKey q) n now m = names q m.0 m.1
+  said-at _ n now m = absurd m
 
 pub are-read : SaidLinesAreRead
 are-read policy by_hand view call seconds now small names is =
-    call-back call seconds small (sayable policy view names (call_of call) seconds now
+    call-back call seconds small (said-at policy view names (call_of call) seconds now
     (may policy view (call_of call) (answered policy by_hand view (call_of call) is)))
 
 -- ---- the keys of a script
@@ -103,21 +102,20 @@ module _ (script : List ℕ) {name : List ℕ} {calls : List Call} {entries : Li
   abbrev set_at : ℕ → KeySetParts
   set_at n = (world_at name calls entries n).set
 
-  next-named : (n : ℕ) (c : Call) (e : Entry) → slice_get calls n ≡ Some c
-      → slice_get entries n ≡ Some e → CanNameKeys (set_at n) → CanNameKeys (set_at (suc n))
-  next-named n c e ci ei h = elim (outcome run n c e ci ei) [
-    | inl y ↦ subst CanNameKeys (sym y.1) h
-    | inr d ↦ λ q k at. elim (came (set_at n) (set_at (suc n)) (call_of c) d.2 q k at) [
-      | inl a ↦ added-named script name calls is n c ci q (adds-at (call_of c) q a.0)
-      | inr b ↦ h q b.0 b.1
-    ]
-  ]
+  next-named : (n : ℕ) (c : Call) → slice_get calls n ≡ Some c
+      → Changes (set_at n) (call_of c) (set_at (suc n)) → CanNameKeys (set_at n)
+      → CanNameKeys (set_at (suc n))
+  next-named n c ci m h q k at =
+      elim (came (set_at n) (set_at (suc n)) (call_of c) m q k at) [
+        | inl a ↦ added-named script name calls is n c ci q (adds-at (call_of c) q a.0)
+        | inr b ↦ h q b.0 b.1
+      ]
 
   named-at : (n : ℕ) → n ≤ length entries → CanNameKeys (set_at n)
   unfolding world_at
-  named-at n within = since run (λ n. CanNameKeys (set_at n)) 0
+  named-at = each-set run CanNameKeys
       (λ q k at. absurd (none-some k (sym (get-empty (slice_cmp nat_cmp) q) ∙ at)))
-      (λ n c e later within. next-named n c e) n (omega arith) within
+      (λ n c ci clear m. next-named n c ci m)
 
 pub names : ScriptsNameKeys
 names script name calls entries n is run within = named-at script is run n within

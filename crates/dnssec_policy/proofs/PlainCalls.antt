@@ -16,6 +16,7 @@ use Rattle.dnssec_key.specs.declared.roll.Half.TheVariants.{First, Second}
 use Rattle.dnssec_key.specs.RollTable.{column, half_of, cache_expire}
 use Rattle.dnssec_zone.specs.Rolls.{phase_of}
 use Rattle.dnssec_zone.specs.Start.{is_listed}
+use Rattle.dnssec_zone.specs.Wait as waits
 use Rattle.dnssec_keyset.specs.KeySet.{KeySetParts}
 use Rattle.dnssec_keyset.specs.Step as keyset
 use Rattle.dnssec_keyset.proofs.{Changes.Changes, Laws.same-is}
@@ -39,6 +40,25 @@ use Rattle.dnssec_policy.specs.declared.policy.Policy.{Policy}
 use Rattle.dnssec_policy.specs.Keys.{role_of, serves}
 use Rattle.dnssec_policy.specs.View.{View}
 use Rattle.dnssec_policy.proofs.{May.IsStart, May.May, Said.may}
+
+-- ---- a run
+
+-- what holds of the first set, and is kept by each call that is accepted, holds of each set
+pub each-set : {name : List ℕ} {calls : List Call} {entries : List Entry}
+    (run : IsRun name calls entries) (P : KeySetParts → Type 0)
+    → P (world_at name calls entries 0).set
+    → ((n : ℕ) (c : Call) → slice_get calls n ≡ Some c
+    → keyset.clearance (world_at name calls entries n).set (call_of c) ≡ waits.Clear
+    → Changes (world_at name calls entries n).set (call_of c)
+    (world_at name calls entries (suc n)).set → P (world_at name calls entries n).set
+    → P (world_at name calls entries (suc n)).set)
+    → (n : ℕ) → n ≤ length entries → P (world_at name calls entries n).set
+each-set {name = name} {calls = calls} {entries = entries} run P first next n within =
+    since run (λ n. P (world_at name calls entries n).set) 0 first
+    (λ n c e later within ci ei h. elim (outcome run n c e ci ei) [
+      | inl y ↦ subst P (sym y.1) h
+      | inr d ↦ next n c ci d.1 d.2 h
+    ]) n (omega arith) within
 
 -- ---- one call
 

@@ -25,14 +25,14 @@ use Rattle.dnssec_run.specs.Record.{IsRun, call_of, world_at}
 use Rattle.dnssec_run.proofs.Chain.Trust.{adds_blank, plainly}
 use Rattle.dnssec_run.proofs.Effects.{came, deleted-stale, deletes, goes as stays}
 use Rattle.dnssec_run.proofs.Effects.{moved_key}
-use Rattle.dnssec_run.proofs.WholeRolls.Replies.{did, outcome, since}
+use Rattle.dnssec_run.proofs.WholeRolls.Replies.{did}
 use Rattle.dnssec_key.specs.declared.roll.Half.{Half}
 use Rattle.dnssec_key.specs.{RollTable.half_of, declared.kind.KeyType.KeyType}
 use Rattle.dnssec_network.specs.Network.{Network}
 use Rattle.dnssec_policy.specs.declared.policy.Policy.{Policy}
 use Rattle.dnssec_policy.specs.Automatic.{IsAutomatic, is_add}
 use Rattle.dnssec_policy.specs.View.{View}
-use Rattle.dnssec_policy.proofs.PlainCalls.{added, said}
+use Rattle.dnssec_policy.proofs.PlainCalls.{added, each-set, said}
 use Rattle.dnssec_policy.proofs.May.{May}
 use Rattle.dnssec_policy.proofs.Whole.Keys.{HasOf, is_alike, IsWhole, waited-alike, waited-ksk}
 use Rattle.dnssec_policy.proofs.Whole.Keys.{waited-zsk, stale-zsk, blank-kept}
@@ -114,17 +114,10 @@ said-whole : (policy : Policy) (v : View) (new : KeySetParts) (c : keyset.Call) 
     → IsWhole v.set → IsWhole new
 said-whole policy v new (keyset.StartRoll roll olds news now) may clear blank m whole =
     started-whole policy v new roll olds news now may.1 clear m whole
-said-whole policy v new (keyset.AddKey reference key) may clear blank m whole = absurd may
 said-whole policy v new (keyset.Set reference setting) may clear blank m whole = absurd may
 said-whole policy v new (keyset.AbortRoll roll) may clear blank m whole = absurd may
-said-whole policy v new (keyset.DeleteKey q) may clear blank m whole =
-    calm-whole v.set new (keyset.DeleteKey q) tt clear blank m whole
-said-whole policy v new (keyset.Report roll half ttl now) may clear blank m whole =
-    calm-whole v.set new (keyset.Report roll half ttl now) tt clear blank m whole
-said-whole policy v new (keyset.Wait roll half now) may clear blank m whole =
-    calm-whole v.set new (keyset.Wait roll half now) tt clear blank m whole
-said-whole policy v new (keyset.RollDone roll) may clear blank m whole =
-    calm-whole v.set new (keyset.RollDone roll) tt clear blank m whole
+said-whole policy v new c may clear blank m whole =
+    calm-whole v.set new c tt clear blank m whole
 
 -- the roll that it starts, if any
 abbrev started-roll : keyset.Call → Option RollType
@@ -148,27 +141,26 @@ module _ {name : List ℕ} {calls : List Call} {entries : List Entry} {network :
   abbrev set_at : ℕ → KeySetParts
   set_at n = (world_at name calls entries n).set
 
-  next-whole : (n : ℕ) (c : Call) (e : Entry) → slice_get calls n ≡ Some c
-      → slice_get entries n ≡ Some e → IsWhole (set_at n) → IsWhole (set_at (suc n))
-  next-whole n c e ci ei h = elim (outcome run n c e ci ei) [
-    | inl y ↦ subst IsWhole (sym y.1) h
-    | inr d ↦ elim (said run auto n c ci) [
-      | inl a ↦ calm-whole (set_at n) (set_at (suc n)) (call_of c) (add-calm c a) d.1
-          (plainly c).blank d.2 h
-      | inr s ↦ subst (λ set. keyset.clearance set (call_of c) ≡ waits.Clear
-          → Changes set (call_of c) (set_at (suc n)) → IsWhole set → IsWhole (set_at (suc n)))
-          s.0.at.set
-          (λ clear m. said-whole s.0.policy s.0.view (set_at (suc n)) (call_of c) s.1 clear
-          (plainly c).blank m) d.1 d.2 h
-    ]
+  next-whole : (n : ℕ) (c : Call) → slice_get calls n ≡ Some c
+      → keyset.clearance (set_at n) (call_of c) ≡ waits.Clear
+      → Changes (set_at n) (call_of c) (set_at (suc n)) → IsWhole (set_at n)
+      → IsWhole (set_at (suc n))
+  next-whole n c ci clear m h = elim (said run auto n c ci) [
+    | inl a ↦ calm-whole (set_at n) (set_at (suc n)) (call_of c) (add-calm c a) clear
+        (plainly c).blank m h
+    | inr s ↦ subst (λ set. keyset.clearance set (call_of c) ≡ waits.Clear
+        → Changes set (call_of c) (set_at (suc n)) → IsWhole set → IsWhole (set_at (suc n)))
+        s.0.at.set
+        (λ clear m. said-whole s.0.policy s.0.view (set_at (suc n)) (call_of c) s.1 clear
+        (plainly c).blank m) clear m h
   ]
 
   whole-at : (n : ℕ) → n ≤ length entries → IsWhole (set_at n)
   unfolding world_at
-  whole-at n within = since run (λ n. IsWhole (set_at n)) 0 (record {
+  whole-at = each-set run IsWhole (record {
     zone = λ a h. absurd (none-some h.1 (sym (get-empty (slice_cmp nat_cmp) h.0) ∙ h.2));
     alike = λ q k at. absurd (none-some k (sym (get-empty (slice_cmp nat_cmp) q) ∙ at));
-  }) (λ n c e later within. next-whole n c e) n (omega arith) within
+  }) next-whole
 
   -- a start that is said brings no algorithm to the KSKs
   start-none : (policy : Policy) (v : View) (new : KeySetParts) (c : keyset.Call) (roll : RollType)

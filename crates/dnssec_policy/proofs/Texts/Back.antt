@@ -24,7 +24,7 @@ use Rattle.dnssec_policy.proofs.Texts.Cut.{text_of}
 use Rattle.dnssec_policy.proofs.Texts.Numbers.{digits-lack}
 use Rattle.dnssec_policy.proofs.Texts.Steps.{one-more}
 use Rattle.dnssec_policy.proofs.Texts.Wishing.{bare, bare_first, deletion-back, first-back}
-use Rattle.dnssec_policy.proofs.Texts.Wishing.{lifetime-back, once-back, rolls-lack, word-lacks}
+use Rattle.dnssec_policy.proofs.Texts.Wishing.{lifetime-back, once-back, rolls-back, word-back}
 
 -- ---- the lines of the text
 
@@ -100,7 +100,7 @@ both : {x y : Bool} → x ≡ true → y ≡ true → (x && y) ≡ true
 both {x = x} {y = y} e f = rw (e, f) refl
 
 bare-lacks : (w : WishWord) (n : ℕ) → IsNumber n → lacks 10 (bare w n)
-bare-lacks w n small = lack-append 10 (word_name w) (32 ∷ decimal n) (word-lacks w).1
+bare-lacks w n small = lack-append 10 (word_name w) (32 ∷ decimal n) (word-back w).1
     (digits-lack 10 n (omega arith) (omega arith))
 
 all-append : (xs ys : List (List ℕ)) → AllLack xs → AllLack ys → AllLack (xs ++ ys)
@@ -138,7 +138,7 @@ first-lacks : (p : Policy) → p.algorithm ≤ 255 → lacks 10 (bare_first p)
 first-lacks p small =
     lack-append 10 (codes "policy ") (decimal p.algorithm ++ 32 ∷ rolls_text p.scheme) refl
     (lack-append 10 (decimal p.algorithm) (32 ∷ rolls_text p.scheme)
-    (digits-lack 10 p.algorithm (omega arith) (omega arith)) (rolls-lack p.scheme))
+    (digits-lack 10 p.algorithm (omega arith) (omega arith)) (rolls-back p.scheme).0)
 
 pub all-lack : (p : Policy) → IsSayable p → AllLack (bare_first p ∷ further_lines p)
 all-lack p so = both (first-lacks p so.algorithm)

@@ -2,7 +2,7 @@
 use Rattle.std.proofs.Common.{◌≡◌, ℕ, ◌<◌, ◌≤◌, ◌*◌, ◌==◌, ◌⊎◌, ◌∙◌, ◌++◌, ◌∷◌, inl, inr, List, []}
 use Rattle.std.proofs.Common.{Some, Bool, true, false, not, ◌&&◌, bytes_eq, codes, decimal, length}
 use Rattle.std.proofs.Common.{map, append_assoc, ap, arith, refl, subst, sym}
-use Rattle.std.proofs.lemmas.Bool.{cases_Bool, false_from_ne_true, true≢false}
+use Rattle.std.proofs.lemmas.Bool.{and_parts, cases_Bool, false_from_ne_true, true≢false}
 use Rattle.std.proofs.lemmas.{Bool.Decides.nat_tests, List.append-nil}
 use Rattle.std.proofs.lemmas.List.Splits.{length-slice_split, slice_split_at, slice_split_none}
 use Rattle.std.proofs.lemmas.List.Sums.{AllPass-from_list_all, list_all-from_AllPass}
@@ -18,32 +18,27 @@ use Rattle.dnssec_run.specs.declared.call.Call.{Call}
 use Rattle.dnssec_run.specs.declared.call.Call.TheVariants as call
 use Rattle.dnssec_run.specs.Record.{call_of}
 use Rattle.dnssec_script.specs.Script.{IsLineOf, Moment, Number, Reference, References, Roll}
-use Rattle.dnssec_script.specs.Script.{as_list, as_reference, as_roll, fields_of, is_list}
-use Rattle.dnssec_script.specs.Script.{is_reference, is_reference_byte, references_of, roll_named}
-use Rattle.dnssec_script.specs.Script.{said_after_word, says, word_at, word_named}
+use Rattle.dnssec_script.specs.Script.{as_list, as_reference, as_roll, call_says, fields_of}
+use Rattle.dnssec_script.specs.Script.{forms_of_word, is_list, is_reference, is_reference_byte}
+use Rattle.dnssec_script.specs.Script.{references_of, report_forms, roll_named, said_after_word}
+use Rattle.dnssec_script.specs.Script.{says, wait_forms, word_at, word_named}
 use Rattle.dnssec_policy.specs.Automatic.Lines.{call_line, list_text, start_text}
-use Rattle.dnssec_policy.proofs.Texts.Cut.{both, first-field, lack-append, lacks, none-of}
+use Rattle.dnssec_policy.proofs.Texts.Cut.{first-field, lack-append, lacks, none-of}
 use Rattle.dnssec_policy.proofs.Texts.Cut.{one-field}
 use Rattle.dnssec_policy.proofs.Texts.Numbers.{digits-lack, number-back, time-back}
 
 -- ---- names of rolls
 
-roll-lacks : (roll : RollType) → lacks 32 (roll_name roll)
-roll-lacks rolls.KskRoll = refl
-roll-lacks rolls.KskDoubleDsRoll = refl
-roll-lacks rolls.ZskRoll = refl
-roll-lacks rolls.ZskDoubleSignatureRoll = refl
-roll-lacks rolls.CskRoll = refl
-roll-lacks rolls.AlgorithmRoll = refl
-
-roll-back : (roll : RollType) → as_roll (roll_name roll) ≡ Some (Roll roll)
+-- a name has no space in it, and is read as its roll
+roll-back : (roll : RollType)
+    → lacks 32 (roll_name roll) × (as_roll (roll_name roll) ≡ Some (Roll roll))
 unfolding as_roll roll_named
-roll-back rolls.KskRoll = refl
-roll-back rolls.KskDoubleDsRoll = refl
-roll-back rolls.ZskRoll = refl
-roll-back rolls.ZskDoubleSignatureRoll = refl
-roll-back rolls.CskRoll = refl
-roll-back rolls.AlgorithmRoll = refl
+roll-back rolls.KskRoll = (refl, refl)
+roll-back rolls.KskDoubleDsRoll = (refl, refl)
+roll-back rolls.ZskRoll = (refl, refl)
+roll-back rolls.ZskDoubleSignatureRoll = (refl, refl)
+roll-back rolls.CskRoll = (refl, refl)
+roll-back rolls.AlgorithmRoll = (refl, refl)
 
 -- the line of the call at this second says it
 abbrev Says : Call → ℕ → Type 0
@@ -87,52 +82,35 @@ number-lacks n small = digits-lack 32 n (omega arith) (omega (arith, small))
 -- ---- reports, waits and ends of rolls
 
 module _ (roll : RollType) (n : ℕ) (small : n ≤ 18446744073709551615) where
-  roll-fields : (t : List ℕ) → lacks 32 t
-      → fields_of (((t ++ 32 ∷ roll_name roll) ++ codes " ") ++ decimal n)
-      ≡ t ∷ roll_name roll ∷ decimal n ∷ []
-  roll-fields t h =
-      more (t ++ 32 ∷ roll_name roll) (decimal n) (number-lacks n small)
-      ∙ ap (λ l. l ++ decimal n ∷ []) (two t (roll_name roll) h (roll-lacks roll))
+  -- a line of a word, the roll and a second
+  wait-is : (t : List ℕ) (c : Call) → lacks 32 t → word_named t ≡ Some (call_says c).0
+      → forms_of_word (call_says c).0 ≡ wait_forms
+      → says (((t ++ 32 ∷ roll_name roll) ++ codes " ") ++ decimal n)
+      ≡ Some ((call_says c).0, Roll roll ∷ Moment (n * 1_000_000_000) ∷ [])
+  wait-is t c h name forms =
+      said-by _ _ (more (t ++ 32 ∷ roll_name roll) (decimal n) (number-lacks n small)
+      ∙ ap (λ l. l ++ decimal n ∷ []) (two t (roll_name roll) h (roll-back roll).0))
+      ∙ (rw (name, forms, (roll-back roll).1, time-back n small) refl)
 
-  report-fields : (t : List ℕ) (ttl : ℕ) → ttl ≤ 4294967295 → lacks 32 t
-      → fields_of
-      (((((t ++ 32 ∷ roll_name roll) ++ codes " ") ++ decimal ttl) ++ codes " ") ++ decimal n)
-      ≡ t ∷ roll_name roll ∷ decimal ttl ∷ decimal n ∷ []
-  report-fields t ttl fits h =
+  -- the same with a TTL before the second
+  report-is : (t : List ℕ) (c : Call) (ttl : ℕ) → ttl ≤ 4294967295 → lacks 32 t
+      → word_named t ≡ Some (call_says c).0 → forms_of_word (call_says c).0 ≡ report_forms
+      → says (((((t ++ 32 ∷ roll_name roll) ++ codes " ") ++ decimal ttl) ++ codes " ")
+      ++ decimal n)
+      ≡ Some ((call_says c).0, Roll roll ∷ Number ttl ∷ Moment (n * 1_000_000_000) ∷ [])
+  report-is t c ttl fits h name forms =
       let d = decimal ttl in let r = roll_name roll in
-      more (((t ++ 32 ∷ r) ++ codes " ") ++ d) (decimal n) (number-lacks n small)
+      let ttl-is = number-back 4294967295 ttl fits (omega arith) in
+      said-by _ _ (more (((t ++ 32 ∷ r) ++ codes " ") ++ d) (decimal n) (number-lacks n small)
       ∙ ap (λ l. l ++ decimal n ∷ []) (more (t ++ 32 ∷ r) d (number-lacks ttl (omega (arith, fits)))
-      ∙ ap (λ l. l ++ d ∷ []) (two t r h (roll-lacks roll)))
-
-  report1-back : (ttl : ℕ) → ttl ≤ 4294967295
-      → Says (call.Propagation1Complete roll ttl (n * 1_000_000_000)) n
-  unfolding word_named
-  report1-back ttl fits =
-      said-by _ _ (report-fields (codes "report1") ttl fits refl)
-      ∙ (rw (roll-back roll, number-back 4294967295 ttl fits (omega arith), time-back n small) refl)
-
-  report2-back : (ttl : ℕ) → ttl ≤ 4294967295
-      → Says (call.Propagation2Complete roll ttl (n * 1_000_000_000)) n
-  unfolding word_named
-  report2-back ttl fits =
-      said-by _ _ (report-fields (codes "report2") ttl fits refl)
-      ∙ (rw (roll-back roll, number-back 4294967295 ttl fits (omega arith), time-back n small) refl)
-
-  wait1-back : Says (call.CacheExpired1 roll (n * 1_000_000_000)) n
-  unfolding word_named
-  wait1-back =
-      said-by _ _ (roll-fields (codes "wait1") refl) ∙ (rw (roll-back roll, time-back n small) refl)
-
-  wait2-back : Says (call.CacheExpired2 roll (n * 1_000_000_000)) n
-  unfolding word_named
-  wait2-back =
-      said-by _ _ (roll-fields (codes "wait2") refl) ∙ (rw (roll-back roll, time-back n small) refl)
+      ∙ ap (λ l. l ++ d ∷ []) (two t r h (roll-back roll).0)))
+      ∙ (rw (name, forms, (roll-back roll).1, ttl-is, time-back n small) refl)
 
   done-back : Says (call.RollDone roll) n
   unfolding word_named
   done-back =
-      said-by _ _ (two (codes "done") (roll_name roll) refl (roll-lacks roll))
-      ∙ (rw (roll-back roll) refl)
+      said-by _ _ (two (codes "done") (roll_name roll) refl (roll-back roll).0)
+      ∙ (rw (roll-back roll).1 refl)
 
 -- ---- references
 
@@ -148,7 +126,7 @@ reference-lacks : (c : ℕ) (q : List ℕ) → (c == 32) ≡ true ⊎ (c == 44) 
     → lacks c q
 unfolding is_reference
 reference-lacks c q is h =
-    let bytes = (both _ _ h).1 in
+    let bytes = (and_parts _ _ h).1 in
     let each = AllPass-from_list_all is_reference_byte q bytes in
     list_all-from_AllPass (λ b. not (b == c)) q (λ k d within. byte-lacks c _ is (each k d within))
 
@@ -179,7 +157,7 @@ list-cut q [] h hs =
 list-cut q (r ∷ rs) h hs =
     slice_split_at (λ b. b == 44) q 44 (r ++ further rs)
     (none-of 44 q (reference-lacks 44 q (inr refl) h)) refl
-    ∙ ap (λ t. q ∷ t) (list-cut r rs (both _ _ hs).0 (both _ _ hs).1)
+    ∙ ap (λ t. q ∷ t) (list-cut r rs (and_parts _ _ hs).0 (and_parts _ _ hs).1)
 
 -- it isn't a single `-`
 not-dash : (q : List ℕ) (qs : List (List ℕ)) → IsNamed q → AreNamed qs
@@ -196,16 +174,16 @@ list-back : (qs : List (List ℕ)) → AreNamed qs → as_list (list_text qs) �
 unfolding as_list is_list references_of
 list-back [] h = refl
 list-back (q ∷ qs) h =
-    let named = both (is_reference q) (list_all is_reference qs) h in
+    let named = and_parts (is_reference q) (list_all is_reference qs) h in
     rw (not-dash q qs named.0 named.1, list-cut q qs named.0 named.1)
     (ap (λ (b : Bool). if b then Some (References (q ∷ qs)) else None) h)
 
 list-lacks : (qs : List (List ℕ)) → AreNamed qs → lacks 32 (list_text qs)
 list-lacks [] h = refl
 list-lacks (q ∷ []) h =
-    subst (lacks 32) (sym (append-nil q)) (reference-lacks 32 q (inl refl) (both _ _ h).0)
+    subst (lacks 32) (sym (append-nil q)) (reference-lacks 32 q (inl refl) (and_parts _ _ h).0)
 list-lacks (q ∷ r ∷ rs) h = lack-append 32 q (44 ∷ list_text (r ∷ rs))
-    (reference-lacks 32 q (inl refl) (both _ _ h).0) (list-lacks (r ∷ rs) (both _ _ h).1)
+    (reference-lacks 32 q (inl refl) (and_parts _ _ h).0) (list-lacks (r ∷ rs) (and_parts _ _ h).1)
 
 start-back : (roll : RollType) (olds news : Bor (List (Bor (List ℕ)))) (n : ℕ)
     → n ≤ 18446744073709551615 → AreNamed (map now olds.now) → AreNamed (map now news.now)
@@ -219,33 +197,38 @@ start-back roll olds news n small ho hn =
     more ((((r ++ codes " ") ++ o) ++ codes " ") ++ i) (decimal n) (number-lacks n small)
     ∙ ap (λ l. l ++ decimal n ∷ []) (more ((r ++ codes " ") ++ o) i (list-lacks _ hn)
     ∙ ap (λ l. l ++ i ∷ []) (more r o (list-lacks _ ho)
-    ∙ ap (λ l. l ++ o ∷ []) (two (codes "start") (roll_name roll) refl (roll-lacks roll)))) in
+    ∙ ap (λ l. l ++ o ∷ []) (two (codes "start") (roll_name roll) refl (roll-back roll).0))) in
     said-by _ _ fields
-    ∙ (rw (roll-back roll, list-back _ ho, list-back _ hn, time-back n small) refl)
+    ∙ (rw ((roll-back roll).1, list-back _ ho, list-back _ hn, time-back n small) refl)
 
 -- ---- of the policy's calls
 
 -- each call that is said at this second
-abbrev pub IsSayable : keyset.Call → ℕ → Type 0
-IsSayable (keyset.Report roll half ttl t) n = (t ≡ n * 1_000_000_000) × (ttl ≤ 4294967295)
-IsSayable (keyset.Wait roll half t) n = t ≡ n * 1_000_000_000
-IsSayable (keyset.RollDone roll) n = Unit {0}
-IsSayable (keyset.StartRoll roll olds news t) n =
+abbrev pub IsSaidAt : keyset.Call → ℕ → Type 0
+IsSaidAt (keyset.Report roll half ttl t) n = (t ≡ n * 1_000_000_000) × (ttl ≤ 4294967295)
+IsSaidAt (keyset.Wait roll half t) n = t ≡ n * 1_000_000_000
+IsSaidAt (keyset.RollDone roll) n = Unit {0}
+IsSaidAt (keyset.StartRoll roll olds news t) n =
     (t ≡ n * 1_000_000_000) × AreNamed olds × AreNamed news
-IsSayable (keyset.DeleteKey q) n = IsNamed q
-IsSayable _ n = ⊥
+IsSaidAt (keyset.DeleteKey q) n = IsNamed q
+IsSaidAt _ n = ⊥
 
-pub call-back : (c : Call) (n : ℕ) → n ≤ 18446744073709551615 → IsSayable (call_of c) n → Says c n
+pub call-back : (c : Call) (n : ℕ) → n ≤ 18446744073709551615 → IsSaidAt (call_of c) n → Says c n
+unfolding word_named
 call-back (call.Propagation1Complete roll ttl t) n small s =
     subst (λ t. Says (call.Propagation1Complete roll ttl t) n) (sym s.0)
-    (report1-back roll n small ttl s.1)
+    (report-is roll n small (codes "report1") (call.Propagation1Complete roll ttl t) ttl s.1 refl
+    refl refl)
 call-back (call.Propagation2Complete roll ttl t) n small s =
     subst (λ t. Says (call.Propagation2Complete roll ttl t) n) (sym s.0)
-    (report2-back roll n small ttl s.1)
+    (report-is roll n small (codes "report2") (call.Propagation2Complete roll ttl t) ttl s.1 refl
+    refl refl)
 call-back (call.CacheExpired1 roll t) n small s =
-    subst (λ t. Says (call.CacheExpired1 roll t) n) (sym s) (wait1-back roll n small)
+    subst (λ t. Says (call.CacheExpired1 roll t) n) (sym s)
+    (wait-is roll n small (codes "wait1") (call.CacheExpired1 roll t) refl refl refl)
 call-back (call.CacheExpired2 roll t) n small s =
-    subst (λ t. Says (call.CacheExpired2 roll t) n) (sym s) (wait2-back roll n small)
+    subst (λ t. Says (call.CacheExpired2 roll t) n) (sym s)
+    (wait-is roll n small (codes "wait2") (call.CacheExpired2 roll t) refl refl refl)
 call-back (call.RollDone roll) n small s = done-back roll n small
 call-back (call.StartRoll roll olds news t) n small s =
     subst (λ t. Says (call.StartRoll roll olds news t) n) (sym s.0)

@@ -1,6 +1,7 @@
 -- A text that is made of lines, or a line that is made of fields, is cut where it was joined.
-use Rattle.std.proofs.Common.{◌≡◌, ℕ, ◌==◌, ◌∙◌, ◌++◌, ◌∷◌, List, [], All, Bool, false, true, not}
-use Rattle.std.proofs.Common.{ap, sym, ◌&&◌, append_assoc, arith, refl}
+use Rattle.std.proofs.Common.{◌≡◌, ℕ, ◌==◌, ◌∙◌, ◌++◌, ◌∷◌, List, [], All, false, true, not}
+use Rattle.std.proofs.Common.{ap, sym, append_assoc, arith, refl}
+use Rattle.std.proofs.lemmas.Bool.{and_parts}
 use Rattle.std.proofs.lemmas.Bool.Decides.{nat_tests}
 use Rattle.std.proofs.lemmas.List.Splits.{slice_split_at, slice_split_none}
 use Rattle.std.proofs.lemmas.List.Sums.{AllPass-from_list_all}
@@ -57,17 +58,13 @@ closed line (next ∷ lines) =
 abbrev pub AllLack : List (List ℕ) → Type 0
 AllLack lines = list_all (λ line. list_all (λ b. not (b == 10)) line) lines ≡ true
 
-pub both : (x y : Bool) → (x && y) ≡ true → (x ≡ true) × (y ≡ true)
-both true true h = (refl, refl)
-both true false h = cc
-both false y h = cc
-
 cut : (line : List ℕ) (lines : List (List ℕ)) → AllLack (line ∷ lines)
     → slice_split (λ b. b == 10) (open_text line lines) ≡ line ∷ lines
-cut line [] h = slice_split_none (λ b. b == 10) line (none-of 10 line (both _ _ h).0)
+cut line [] h = slice_split_none (λ b. b == 10) line (none-of 10 line (and_parts _ _ h).0)
 cut line (next ∷ lines) h =
-    slice_split_at (λ b. b == 10) line 10 (open_text next lines) (none-of 10 line (both _ _ h).0)
-    refl ∙ ap (λ t. line ∷ t) (cut next lines (both _ _ h).1)
+    let lack = and_parts _ _ h in
+    slice_split_at (λ b. b == 10) line 10 (open_text next lines) (none-of 10 line lack.0) refl
+    ∙ ap (λ t. line ∷ t) (cut next lines lack.1)
 
 -- the lines of their text
 pub lines-back : (line : List ℕ) (lines : List (List ℕ)) → AllLack (line ∷ lines)

@@ -23,24 +23,17 @@ use Rattle.dnssec_policy.proofs.Texts.Numbers.{digits-lack, number-back, time-ba
 abbrev pub bare : WishWord → ℕ → List ℕ
 bare w n = word_name w ++ 32 ∷ decimal n
 
-pub word-lacks : (w : WishWord) → (lacks 32 (word_name w)) × (lacks 10 (word_name w))
-word-lacks (word.Lifetime Ksk) = (refl, refl)
-word-lacks (word.Lifetime Zsk) = (refl, refl)
-word-lacks (word.Lifetime Csk) = (refl, refl)
-word-lacks (word.Once Ksk) = (refl, refl)
-word-lacks (word.Once Zsk) = (refl, refl)
-word-lacks (word.Once Csk) = (refl, refl)
-word-lacks word.DeleteAfter = (refl, refl)
-
-word-back : (w : WishWord) → word_named (word_name w) ≡ Some w
+-- a word has no space and no line feed in it, and is read as itself
+pub word-back : (w : WishWord) → (lacks 32 (word_name w)) × (lacks 10 (word_name w))
+    × (word_named (word_name w) ≡ Some w)
 unfolding word_named
-word-back (word.Lifetime Ksk) = refl
-word-back (word.Lifetime Zsk) = refl
-word-back (word.Lifetime Csk) = refl
-word-back (word.Once Ksk) = refl
-word-back (word.Once Zsk) = refl
-word-back (word.Once Csk) = refl
-word-back word.DeleteAfter = refl
+word-back (word.Lifetime Ksk) = (refl, refl, refl)
+word-back (word.Lifetime Zsk) = (refl, refl, refl)
+word-back (word.Lifetime Csk) = (refl, refl, refl)
+word-back (word.Once Ksk) = (refl, refl, refl)
+word-back (word.Once Zsk) = (refl, refl, refl)
+word-back (word.Once Csk) = (refl, refl, refl)
+word-back word.DeleteAfter = (refl, refl, refl)
 
 -- it is read as its word with the field after it
 read-bare : (w : WishWord) (n : ℕ) → IsNumber n
@@ -48,10 +41,10 @@ read-bare : (w : WishWord) (n : ℕ) → IsNumber n
 unfolding as_wish
 read-bare w n small =
     let fields : fields_of (bare w n) ≡ word_name w ∷ decimal n ∷ [] =
-    first-field (word_name w) (decimal n) (word-lacks w).0
+    first-field (word_name w) (decimal n) (word-back w).0
     ∙ ap (λ t. word_name w ∷ t) (one-field (decimal n) (digits-lack 32 n (omega arith)
     (omega arith))) in
-    rw (fields, word-back w) refl
+    rw (fields, (word-back w).2) refl
 
 pub lifetime-back : (role : KeyRole) (n : ℕ) → IsNumber n
     → as_wish (bare (word.Lifetime role) n) ≡ Some (wish.Lifetime role n)
@@ -73,20 +66,15 @@ once-back role t (second, small, is) =
 
 -- ---- the first line
 
-rolls-back : (scheme : Scheme) → scheme_of (fields_of (rolls_text scheme)) ≡ Some scheme
+-- the names of its rolls have no line feed in them, and are read as the scheme
+pub rolls-back : (scheme : Scheme) → lacks 10 (rolls_text scheme)
+    × (scheme_of (fields_of (rolls_text scheme)) ≡ Some scheme)
 unfolding scheme_of ksk_named zsk_named
-rolls-back (Split ksks.DoubleSignature zsks.PrePublish) = refl
-rolls-back (Split ksks.DoubleSignature zsks.DoubleSignature) = refl
-rolls-back (Split ksks.DoubleDs zsks.PrePublish) = refl
-rolls-back (Split ksks.DoubleDs zsks.DoubleSignature) = refl
-rolls-back SingleType = refl
-
-pub rolls-lack : (scheme : Scheme) → lacks 10 (rolls_text scheme)
-rolls-lack (Split ksks.DoubleSignature zsks.PrePublish) = refl
-rolls-lack (Split ksks.DoubleSignature zsks.DoubleSignature) = refl
-rolls-lack (Split ksks.DoubleDs zsks.PrePublish) = refl
-rolls-lack (Split ksks.DoubleDs zsks.DoubleSignature) = refl
-rolls-lack SingleType = refl
+rolls-back (Split ksks.DoubleSignature zsks.PrePublish) = (refl, refl)
+rolls-back (Split ksks.DoubleSignature zsks.DoubleSignature) = (refl, refl)
+rolls-back (Split ksks.DoubleDs zsks.PrePublish) = (refl, refl)
+rolls-back (Split ksks.DoubleDs zsks.DoubleSignature) = (refl, refl)
+rolls-back SingleType = (refl, refl)
 
 -- without its line feed
 abbrev pub bare_first : Policy → List ℕ
@@ -96,7 +84,7 @@ base-back : (p : Policy) → p.algorithm ≤ 255
     → base_of (decimal p.algorithm ∷ fields_of (rolls_text p.scheme))
     ≡ Some (p.algorithm, p.scheme)
 base-back p small =
-    rw (number-back 255 p.algorithm small (omega arith), rolls-back p.scheme) refl
+    rw (number-back 255 p.algorithm small (omega arith), (rolls-back p.scheme).1) refl
 
 -- what the fields say
 abbrev said_by : List (List ℕ) → Option (ℕ × Scheme)

@@ -1,6 +1,5 @@
 -- The roll is in a phase.
-use Rattle.std.proofs.Common.{◌∙◌, ap, sym, Some}
-use Rattle.dnssec_key.specs.declared.roll.RollState.{RollState}
+use Rattle.std.proofs.Common.{◌∙◌, ap}
 use Rattle.dnssec_policy.specs.Code.{end_of, view_of}
 use Rattle.dnssec_policy.specs.Next.{phase_next}
 use Rattle.dnssec_policy.proofs.in_progress.phase_next.Goals as goal
