@@ -1,7 +1,6 @@
 //! Pieces of JSON, written after what is there. A value comes with the piece before it.
 ghost use Rattle.std.specs.Prelude.{◌≡◌, ◌++◌, ◌<◌, ℕ, List, OnOk, codes, decimal};
-ghost use Rattle.dnssec_status.specs.Json.{array_json, escaped, flag_json, further_json};
-ghost use Rattle.dnssec_status.specs.Json.{hex_digit, text_json};
+ghost use Rattle.dnssec_status.specs.Json.{array_json, escaped, flag_json, hex_digit, text_json};
 
 use std::alloc::{AllocError, Global};
 
@@ -100,7 +99,7 @@ pub(crate) trait Writer<T> {
 }
 
 /// Writes an array.
-#[tactic(auto, unfolding(crate::specs::Json::array_json))]
+#[tactic(auto, unfolding(crate::specs::Json::array_json, crate::specs::Json::further_json))]
 pub(crate) fn push_array<T, W: Writer<T>>(
     out: &mut Vec<u8>,
     writer: &W,
@@ -109,30 +108,14 @@ pub(crate) fn push_array<T, W: Writer<T>>(
     ensures { OnOk result (out.new.items ≡ out.old.items
         ++ array_json (W.json writer.now) elements.now) }
 {
-    match elements.split_first() {
-        None => push_bytes(out, b"[]"),
-        Some((first, rest)) => {
-            push_bytes(out, b"[")?;
-            writer.push(out, first)?;
-            push_further(out, writer, rest)?;
-            push_bytes(out, b"]")
-        }
-    }
-}
-
-/// Writes further elements, each after a comma.
-#[tactic(auto, unfolding(crate::specs::Json::further_json))]
-fn push_further<T, W: Writer<T>>(
-    out: &mut Vec<u8>,
-    writer: &W,
-    elements: &[T],
-) -> Result<(), AllocError>
-    ensures { OnOk result (out.new.items ≡ out.old.items
-        ++ further_json (W.json writer.now) elements.now) }
-{
-    for element in elements {
+    let Some((first, rest)) = elements.split_first() else {
+        return push_bytes(out, b"[]");
+    };
+    push_bytes(out, b"[")?;
+    writer.push(out, first)?;
+    for element in rest {
         push_bytes(out, b",")?;
         writer.push(out, element)?;
     }
-    Ok(())
+    push_bytes(out, b"]")
 }
