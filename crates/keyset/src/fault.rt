@@ -49,26 +49,8 @@ impl fmt::Display for Fault {
     }
 }
 
-impl From<Misuse> for Fault {
-    fn from(misuse: Misuse) -> Self {
-        Fault::Misuse(misuse)
-    }
-}
-
 impl From<ScriptFault> for Fault {
     fn from(fault: ScriptFault) -> Self {
         Fault::Script(fault)
-    }
-}
-
-impl From<DueFault> for Fault {
-    fn from(fault: DueFault) -> Self {
-        Fault::Due(fault)
-    }
-}
-
-impl From<NextFault> for Fault {
-    fn from(fault: NextFault) -> Self {
-        Fault::Next(fault)
     }
 }

@@ -61,7 +61,7 @@ fn main(rt: HostRuntime) -> ExitCode {
 /// Does what the arguments ask for.
 fn run(rt: &HostRuntime) -> Result<(), Fault> {
     let alloc = rt.alloc();
-    match task_of(rt)? {
+    match task_of(rt).map_err(Fault::Misuse)? {
         Task::Script => {
             let mut input = Std::new(rt.stdin());
             let mut output = Std::new(rt.stdout());
@@ -73,13 +73,12 @@ fn run(rt: &HostRuntime) -> Result<(), Fault> {
         }
         Task::Notes => {
             let scripts = read_all(alloc, rt.stdin())?;
-            write(
-                rt.stdout(),
-                answer_scripts(alloc, &scripts)?.as_str().as_bytes(),
-            )
+            let answers = answer_scripts(alloc, &scripts).map_err(Fault::Due)?;
+            write(rt.stdout(), answers.as_str().as_bytes())
         }
         Task::Next => {
-            let mut line = answer_text(alloc, &read_all(alloc, rt.stdin())?)?;
+            let texts = read_all(alloc, rt.stdin())?;
+            let mut line = answer_text(alloc, &texts).map_err(Fault::Next)?;
             match line.push_str("\n") {
                 Ok(()) => write(rt.stdout(), line.as_str().as_bytes()),
                 Err(_) => Err(Fault::Next(NextFault::OutOfMemory)),
