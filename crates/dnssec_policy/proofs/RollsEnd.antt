@@ -23,10 +23,10 @@ use Rattle.dnssec_run.specs.Record.{IsRun, call_of, is_accepted, world_at}
 use Rattle.dnssec_run.specs.Safe.{SetKind, base_below, is_step, position_at}
 use Rattle.dnssec_run.specs.WholeRolls.{IsAccepted, propagation}
 use Rattle.dnssec_run.specs.WholeRolls as rolls
-use Rattle.dnssec_run.proofs.Chain.Allowed.{spreads, waits_in_phase}
-use Rattle.dnssec_run.proofs.Chain.History.{base_here, base_same}
-use Rattle.dnssec_run.proofs.Chain.{Rolls.same-same, Trust.mark}
+use Rattle.dnssec_run.proofs.Chain.{Allowed.spreads, Allowed.waits_in_phase, Rolls.same-same}
+use Rattle.dnssec_run.proofs.Chain.{History.base_here, History.base_same, Trust.mark}
 use Rattle.dnssec_run.proofs.{Effects.is_on, Effects.phase_put, Effects.phases, Premise.end_of}
+use Rattle.dnssec_run.proofs.Asked.Reports.{unstepped}
 use Rattle.dnssec_run.proofs.WholeRolls.Replies.{outcome, since, start-beside, world_of}
 use Rattle.dnssec_network.specs.Network.{Network}
 use Rattle.dnssec_policy.specs.Automatic.{is_last, last_below}
@@ -37,7 +37,7 @@ use Rattle.dnssec_policy.proofs.Delays.{NoneReported, and-no, and-yes, counts, e
 use Rattle.dnssec_policy.proofs.Delays.{ends-on, never-aborts, none-more, none-yet, report-said}
 use Rattle.dnssec_policy.proofs.Delays.{not-beside-itself, second-off, unreported, wait-said}
 use Rattle.dnssec_policy.proofs.Lags.{all-within, begins_by, costs-grow, lasts_by, more-by, none-by}
-use Rattle.dnssec_policy.proofs.Steps.{last-seen, second_of, unstepped}
+use Rattle.dnssec_policy.proofs.Steps.{last-seen, second_of}
 
 module _ {name : List ℕ} {calls : List Call} {entries : List Entry} {network : Network}
     {watch : Watch} {lag time : ℕ} (run : IsRun name calls entries)
