@@ -2,18 +2,14 @@
 use Rattle.std.proofs.Common.{◌≡◌, ◌≢◌, [], ℕ, List, Option, Some, subst, sym}
 use Rattle.std.proofs.lemmas.List.Elements.{All-nil, All-push}
 use Rattle.dnssec_base.specs.declared.error.Error.TheVariants.{OutOfMemory}
-use Rattle.dnssec_run.specs.declared.call.Call.{Call}
-use Rattle.dnssec_run.specs.declared.record.{Entry.Entry, Reply.Reply}
+use Rattle.dnssec_run.specs.declared.record.Reply.{Reply}
 use Rattle.dnssec_run.specs.declared.record.Reply.TheVariants.{Refused}
 use Rattle.dnssec_script.specs.declared.{lines.Lines.Lines, statement.Statement.Statement}
 use Rattle.dnssec_record.proofs.Made.{Finds, HasMade, all_made, one_made}
-use Rattle.dnssec_record.specs.Session.{HadMemory}
-use Rattle.dnssec_policy.specs.Automatic.Calls.{IsAfter, Takes}
+use Rattle.dnssec_policy.specs.Automatic.Calls.{Takes}
 use Rattle.dnssec_policy.specs.declared.automatic.calls.Calls.{Calls}
 use Rattle.dnssec_policy.proofs.automatic.calls.Calls.resume.Goals as goal
-
-abbrev Stand : Calls → List ℕ → List Call → List Entry → Type 0
-Stand kept name calls entries = IsAfter name calls entries kept × HadMemory entries
+use Rattle.dnssec_policy.proofs.automatic.calls.Calls.resume.Invariants.{Stand}
 
 -- one more line, whose call isn't refused for lack of memory
 made_more : {script : List ℕ} {before : Lines} {after : Lines} {found : Option Statement}
