@@ -8,25 +8,19 @@ use Rattle.dnssec_run.specs.Published.{id_of}
 use Rattle.dnssec_judge.specs.Numbers.{key_in}
 use Rattle.dnssec_judge.proofs.sets.numbers.Numbers.is.Goals as goal
 
-pub returns-in-Some-Some-clause-yes : goal.returns-in-Some-Some-clause-yes
-returns-in-Some-Some-clause-yes c e =
-    let keys = c.args.self.now.keys.items in let other = c.in-Some-Some.other in
-    let item = rw c.deref.ensures.value at c.in-Some-Some.ensures.lookup in
-    let there = slice_get_read keys (length keys) c.args.number c.in-Some-Some.field-0.now refl
-    item.3.0 item.1 in
-    ap key_in there ∙ ap (option_map id_of) c.in-Some-Some.field-0-is
-    ∙ ap (λ k. Some k) ((same-id (id_of other) (id_of c.args.key.now)).0 (sym c.eq.ensures ∙ e))
-
-pub returns-in-Some-Some-clause-no : goal.returns-in-Some-Some-clause-no
-returns-in-Some-Some-clause-no c e is =
+pub returns-in-Some-Some : goal.returns-in-Some-Some
+returns-in-Some-Some c =
     let keys = c.args.self.now.keys.items in
     let a = id_of c.in-Some-Some.other in let b = id_of c.args.key.now in
     let item = rw c.deref.ensures.value at c.in-Some-Some.ensures.lookup in
-    let there = slice_get_read keys (length keys) c.args.number c.in-Some-Some.field-0.now refl
-    item.3.0 item.1 in
-    let same = same_Some a b
-    (sym (ap key_in there ∙ ap (option_map id_of) c.in-Some-Some.field-0-is) ∙ is) in
-    true≢false (sym ((same-id a b).1 same) ∙ sym c.eq.ensures ∙ e)
+    let there = ap key_in (slice_get_read keys (length keys) c.args.number
+    c.in-Some-Some.field-0.now refl item.3.0 item.1)
+    ∙ ap (option_map id_of) c.in-Some-Some.field-0-is in
+    record {
+      yes = λ e. there ∙ ap (λ k. Some k) ((same-id a b).0 (sym c.eq.ensures ∙ e));
+      no = λ e is. true≢false
+          (sym ((same-id a b).1 (same_Some a b (sym there ∙ is))) ∙ sym c.eq.ensures ∙ e);
+    }
 
 pub returns-in-Some-None-clause-no : goal.returns-in-Some-None-clause-no
 returns-in-Some-None-clause-no c e is =

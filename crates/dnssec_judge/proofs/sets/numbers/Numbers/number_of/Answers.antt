@@ -7,8 +7,8 @@ use Rattle.dnssec_judge.specs.declared.sets.numbers.Numbers.{Numbers}
 use Rattle.dnssec_judge.proofs.Table.{grown, some-update, table-grown}
 use Rattle.dnssec_judge.proofs.sets.numbers.Numbers.number_of.Goals as goal
 
-pub returns-clause-table : goal.returns-clause-table
-returns-clause-table c t =
+pub returns : goal.returns
+returns c =
     let old = c.args.self.now in let spared = c.spare_number-number.new.self in
     let new = c.write.new.self in
     let number = c.spare_number-number.result in let key = id_of c.args.key.now in
@@ -24,20 +24,14 @@ returns-clause-table c t =
     (λ p. ap (λ m. get nat_eq m p) c.in_ok-write.ensures.kept
     ∙ c.in_ok-insert.ensures.updates.0 p
     ∙ ap (λ (m : Numbers). if nat_eq key.1 p then Some number else get nat_eq m.by_added p) kept) in
-    table-grown old new number key none here others
-    (λ n e. c.find.ensures.none c.in_default.is t n e)
-    (λ p h. subst IsSome (sym (at p)) (some-update (nat_eq key.1 p) number
-    (get nat_eq old.by_added p) h))
-    (subst IsSome (sym (ap (λ m. get nat_eq m key.1) c.in_ok-write.ensures.kept
-    ∙ c.in_ok-insert.ensures.updates.1)) refl) t
-
-pub returns-clause-grows : goal.returns-clause-grows
-returns-clause-grows c t =
-    let old = c.args.self.now in let new = c.write.new.self in
-    let number = c.spare_number-number.result in
-    let kept = c.spare_number-number.ensures.kept in
-    let none : key_at old number ≡ None =
-    ap (λ (n : Numbers). key_at n number) (sym kept) ∙ c.spare_number-number.ensures.none in
-    grown old new number (id_of c.args.key.now) none
-    (c.in_ok-write.ensures.ok ∙ ap (λ k. Some k) c.in_ok-copy.ensures.ok)
-    (λ n ne. c.in_ok-write.ensures.others n ne ∙ ap (λ (m : Numbers). key_at m n) kept)
+    record {
+      ok = here;
+      table = λ t. table-grown old new number key none here others
+          (λ n e. c.find.ensures.none c.in_default.is t n e)
+          (λ p h. subst IsSome (sym (at p)) (some-update (nat_eq key.1 p) number
+          (get nat_eq old.by_added p) h))
+          (subst IsSome (sym (ap (λ m. get nat_eq m key.1) c.in_ok-write.ensures.kept
+          ∙ c.in_ok-insert.ensures.updates.1)) refl) t;
+      grows = λ t. grown old new number key none here others;
+      err = tt;
+    }

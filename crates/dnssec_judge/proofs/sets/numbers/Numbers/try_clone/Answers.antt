@@ -10,16 +10,8 @@ use Rattle.std.specs.Prelude.{slice_get}
 use Rattle.dnssec_judge.proofs.Table.{same-keys, table-from}
 use Rattle.dnssec_judge.proofs.sets.numbers.Numbers.try_clone.Goals as goal
 
-pub returns-clause-same : goal.returns-clause-same
-returns-clause-same c n =
-    same-keys c.loop-key.keys.items c.args.self.now.keys.items
-    (c.loop-key.invariant
-    ∙ ap (λ (keys : List (Option PublishedKey)). map (option_map id_of) keys)
-    (take_all c.loop-key.key-index c.deref-key-items.result.now c.loop-key-test.false
-    ∙ c.deref-key-items.ensures.value)) n
-
-pub returns-clause-table : goal.returns-clause-table
-returns-clause-table c =
+pub returns : goal.returns
+returns c =
     let old = c.args.self.now in
     let keys : (n : ℕ) → key_in (slice_get c.loop-key.keys.items n)
     ≡ key_in (slice_get old.keys.items n) =
@@ -36,12 +28,16 @@ returns-clause-table c =
       by_added = c.in_ok-clone.field-0;
       spare = c.in_ok-clone-2.field-0;
       enough = old.enough;
-    } in (
-      λ t. table-from old copy (λ n k e. sym (keys n) ∙ e)
-          (λ n k e. subst IsSome
-          (ap (λ (es : List (ℕ × ℕ)). lookup (nat_eq k.1) es) (sym entries))
-          (t.known n k (sym (keys n) ∙ e))) t,
-      λ t. table-from copy old (λ n k e. keys n ∙ e)
-          (λ n k e. subst IsSome (ap (λ (es : List (ℕ × ℕ)). lookup (nat_eq k.1) es) entries)
-          (t.known n k (keys n ∙ e))) t,
-    )
+    } in record {
+      same = keys;
+      table = (
+        λ t. table-from old copy (λ n k e. sym (keys n) ∙ e)
+            (λ n k e. subst IsSome
+            (ap (λ (es : List (ℕ × ℕ)). lookup (nat_eq k.1) es) (sym entries))
+            (t.known n k (sym (keys n) ∙ e))) t,
+        λ t. table-from copy old (λ n k e. keys n ∙ e)
+            (λ n k e. subst IsSome (ap (λ (es : List (ℕ × ℕ)). lookup (nat_eq k.1) es) entries)
+            (t.known n k (keys n ∙ e))) t,
+      );
+      err = tt;
+    }
