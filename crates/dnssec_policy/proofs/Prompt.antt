@@ -141,7 +141,7 @@ module _ (v : View) (roll : RollType) where
   wait-over half end le = rw (le-leb end v.now le) refl
 
   -- and one that isn't
-  wait-rank : (half : Half) (end : ℕ) → rank (wait_next v roll half (Some (At end))) ≤ 4
+  pub wait-rank : (half : Half) (end : ℕ) → rank (wait_next v roll half (Some (At end))) ≤ 4
   wait-rank half end = by (nat_le end v.now)
     where
       by : (t : Bool)

@@ -44,7 +44,7 @@ use Rattle.dnssec_policy.specs.Ttls.{lasting}
 use Rattle.dnssec_policy.specs.View.{View, reach_in}
 use Rattle.dnssec_policy.proofs.Order.{NotLater, cause-said, change-said, rank-le}
 use Rattle.dnssec_policy.proofs.Order.{entry-said, renewal-said, roll-said}
-use Rattle.dnssec_policy.proofs.Prompt.{settled-rank}
+use Rattle.dnssec_policy.proofs.Prompt.{settled-rank, wait-rank as timed-rank}
 
 -- ---- what is said is never nothing
 
@@ -74,12 +74,9 @@ module _ (v : View) where
       → rank (wait_next v roll half o) ≤ 5
   wait-rank roll half None = omega arith
   wait-rank roll half (Some PastTime) = omega arith
-  wait-rank roll half (Some (At end)) = by (nat_le end v.now)
-    where
-      by : (t : Bool)
-          → rank (if t then Make (keyset.Wait roll half v.now) else NotBefore end) ≤ 5
-      by true = omega arith
-      by false = omega arith
+  wait-rank roll half (Some (At end)) =
+      let r = timed-rank v roll half end in
+      omega (arith, r)
 
   end-rank : (roll : RollType) (o : Option ℕ) → rank (end_next v roll o) ≤ 5
   end-rank roll None = omega arith
