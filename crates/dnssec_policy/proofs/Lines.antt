@@ -1,14 +1,12 @@
 -- The line of a call that is said is read as that call, also after the lines of its script.
-use Rattle.std.proofs.Common.{◌≡◌, ℕ, suc, ◌≤◌, ◌*◌, ◌∙◌, ◌⊎◌, inl, inr, true, List}
-use Rattle.std.proofs.Common.{[], ◌∷◌, ◌++◌, Option, None, Some, length, refl, sym, subst, ap}
+use Rattle.std.proofs.Common.{◌≡◌, ℕ, suc, ◌≤◌, ◌*◌, ◌∙◌, inl, inr, true, List}
+use Rattle.std.proofs.Common.{[], ◌∷◌, Some, length, refl, sym, subst, ap}
 use Rattle.std.proofs.Common.{arith}
 use Rattle.std.proofs.Math.Bool.{or-true}
 use Rattle.std.proofs.lemmas.{Bool.true≢false, Option.none-some}
 use Rattle.std.specs.Prelude.{◌||◌, Ok, slice_get}
-use Rattle.std.specs.List.{list_all}
 use Rattle.std.specs.{Cmp.Lexicographic.bytes_decides, Cmp.Lexicographic.slice_cmp}
-use Rattle.std.specs.{FinMap.get, FinMap.get-empty, Ordering.nat_cmp, Str.bytes_eq}
-use Rattle.dnssec_key.specs.Key.{KeyParts}
+use Rattle.std.specs.{FinMap.get-empty, Ordering.nat_cmp, Str.bytes_eq}
 use Rattle.dnssec_key.specs.declared.roll.RollType.{RollType}
 use Rattle.dnssec_zone.specs.Start.{is_listed}
 use Rattle.dnssec_keyset.specs.KeySet.{KeySetParts}

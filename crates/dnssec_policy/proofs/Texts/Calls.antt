@@ -1,6 +1,6 @@
 -- A line that says a call is read as that call.
 use Rattle.std.proofs.Common.{◌≡◌, ℕ, ◌<◌, ◌≤◌, ◌*◌, ◌==◌, ◌⊎◌, ◌∙◌, ◌++◌, ◌∷◌, inl, inr, List, []}
-use Rattle.std.proofs.Common.{Some, Bool, true, false, not, ◌&&◌, bytes_eq, codes, decimal, length}
+use Rattle.std.proofs.Common.{Some, Bool, true, false, not, bytes_eq, codes, decimal, length}
 use Rattle.std.proofs.Common.{map, append_assoc, ap, arith, refl, subst, sym}
 use Rattle.std.proofs.lemmas.Bool.{and_parts, cases_Bool, false_from_ne_true, true≢false}
 use Rattle.std.proofs.lemmas.{Bool.Decides.nat_tests, List.append-nil}
