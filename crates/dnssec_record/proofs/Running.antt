@@ -24,11 +24,11 @@ use Rattle.dnssec_record.proofs.Made.{Finds, HasMade, all_made, one_made}
 use Rattle.dnssec_record.specs.Answer.{IsAnswerOf}
 use Rattle.dnssec_record.specs.Courses.{Listing, as_listed, ended_after, ended_by, listed_after}
 use Rattle.dnssec_record.specs.Courses.{listed_by, turn_after, turn_of, turns}
-use Rattle.dnssec_record.specs.Inner.Zone.{Comes, IsZoneAfter, TakesOn}
+use Rattle.dnssec_record.specs.Inner.Zone.{Comes, Follows, IsZoneAfter, TakesOn}
 use Rattle.dnssec_record.specs.Output.{answers, chain_line, published_text, reply_text, set_line}
 use Rattle.dnssec_record.specs.Output.{set_text, sets_text}
 use Rattle.dnssec_record.specs.Session.{Closes}
-use Rattle.dnssec_record.specs.declared.courses.Turn.{Turn}
+use Rattle.dnssec_record.specs.declared.courses.{Courses.Courses, Turn.Turn}
 use Rattle.dnssec_record.specs.declared.{zone.Made.Made, zone.ZoneState.ZoneState}
 
 -- ---- the text of sets says no more than which keys they have
@@ -84,6 +84,11 @@ folded_more f none calls entries call e same =
     ∙ fold-append f none (turns calls entries) (turn_after (turn_of call) e.reply ∷ [])
 
 -- ---- calls
+
+-- what the recorder and the judge of a zone know
+pub follows_of : {name : List ℕ} {calls : List Call} {entries : List Entry} {zone : ZoneState}
+    → IsZoneAfter name calls entries zone → Follows name calls entries zone
+follows_of so = record { records = so.records; knows = so.knows; shown = so.shown }
 
 -- before the first call nothing is published
 pub none_follows : (name : List ℕ) (zone : ZoneState) → Records name [] [] zone.recorder
@@ -177,7 +182,7 @@ next_keeps name calls entries r s outcome news so keeps handed =
 -- after one more call
 pub goes_on : (name : List ℕ) (calls : List Call) (entries : List Entry) (old next : ZoneState)
     (call : Call) (outcome : Outcome) (news : Option Published)
-    → IsZoneAfter name calls entries old
+    → Follows name calls entries old
     → ((name : List ℕ) (calls : List Call) (entries : List Entry) (e : Entry)
     → TellsOutcome e outcome → HasSameKeys e.published next.recorder.published
     → Records name calls entries old.recorder
@@ -189,14 +194,9 @@ pub goes_on : (name : List ℕ) (calls : List Call) (entries : List Entry) (old 
     → ((entries : List Entry) (e : Entry) → ComesNext entries e outcome.mark outcome.moment news
     → KeepsLast entries outcome.frames news → Knows entries old.judge
     → Knows (entries ++ e ∷ []) next.judge)
-    → (turn : Turn) → turn ≡ turn_after (turn_of call) outcome.reply
-    → map as_listed next.courses.listed.items
-    ≡ listed_after (map as_listed old.courses.listed.items) turn
-    → next.courses.ended.items ≡ ended_after old.courses.ended.items turn
-    → Comes name calls entries call next
+    → Comes Follows name calls entries call next
     (record { reply = outcome.reply; moment = outcome.moment })
-goes_on name calls entries old next call outcome news so records kept frames handed judged turn is
-    listed ended =
+goes_on name calls entries old next call outcome news so records kept frames handed judged =
     let r = old.recorder in let q = next.recorder in let e = entry_of outcome q.published in
     record {
       entry = e;
@@ -209,16 +209,44 @@ goes_on name calls entries old next call outcome news so records kept frames han
             (next_comes name calls entries r q outcome news so.records kept handed)
             (next_keeps name calls entries r q outcome news so.records frames handed) so.knows;
         shown = ap sets_text (last_of entries e);
-        listed = listed ∙ ap (λ (ls : List Listing). listed_after ls turn) so.listed
-            ∙ ap (listed_after (listed_by calls entries)) is
-            ∙ sym (folded_more listed_after [] calls entries call e so.records.run.count);
-        ended = ended ∙ ap (λ (rs : List RollType). ended_after rs turn) so.ended
-            ∙ ap (ended_after (ended_by calls entries)) is
-            ∙ sym (folded_more ended_after [] calls entries call e so.records.run.count);
-        moments = refl;
       };
       is_reply = refl;
       is_moment = refl;
+    }
+
+-- and what its rolls listed, by the turn of the call
+pub lists_on : {name : List ℕ} {calls : List Call} {entries : List Entry} {old zone : ZoneState}
+    (next : ZoneState) {call : Call} {made : Made} → IsZoneAfter name calls entries old
+    → Comes Follows name calls entries call zone made → zone.courses ≡ old.courses
+    → next.recorder ≡ zone.recorder → next.judge ≡ zone.judge
+    → (turn : Turn) → turn ≡ turn_after (turn_of call) made.reply
+    → map as_listed next.courses.listed.items
+    ≡ listed_after (map as_listed zone.courses.listed.items) turn
+    → next.courses.ended.items ≡ ended_after zone.courses.ended.items turn
+    → Comes IsZoneAfter name calls entries call next made
+lists_on {calls = calls} {entries = entries} next {call = call} so came same recorder judge turn is
+    listed ended =
+    let e = came.entry in let its = is ∙ ap (turn_after (turn_of call)) (sym came.is_reply) in
+    record {
+      entry = e;
+      stands = record {
+        records = rw recorder came.stands.records;
+        knows = rw judge came.stands.knows;
+        shown = rw recorder came.stands.shown;
+        listed = listed
+            ∙ ap (λ (courses : Courses). listed_after (map as_listed courses.listed.items) turn) same
+            ∙ ap (λ (ls : List Listing). listed_after ls turn) so.listed
+            ∙ ap (listed_after (listed_by calls entries)) its
+            ∙ sym (folded_more listed_after [] calls entries call e so.records.run.count);
+        ended = ended
+            ∙ ap (λ (courses : Courses). ended_after courses.ended.items turn) same
+            ∙ ap (λ (rs : List RollType). ended_after rs turn) so.ended
+            ∙ ap (ended_after (ended_by calls entries)) its
+            ∙ sym (folded_more ended_after [] calls entries call e so.records.run.count);
+        moments = refl;
+      };
+      is_reply = came.is_reply;
+      is_moment = came.is_moment;
     }
 
 -- ---- answers
@@ -226,13 +254,13 @@ goes_on name calls entries old next call outcome news so records kept frames han
 -- the calls so far have these answers
 abbrev pub Answered : List ℕ → ZoneState → List ℕ → List Call → List Entry → Type 0
 Answered text zone name calls entries =
-    IsZoneAfter name calls entries zone × (text ≡ answers entries)
+    Follows name calls entries zone × (text ≡ answers entries)
 
 -- one more call, of the next line
 pub one_more : {script : List ℕ} {old new : Lines} {found : Option Statement} {s : Statement}
     (text after : List ℕ) (zone next : ZoneState) (made : Made)
     → HasMade script old (Answered text zone) → Finds old new found → found ≡ Some s
-    → TakesOn s zone next made → after ≡ text ++ reply_text made.reply ++ codes "\n"
+    → TakesOn Follows s zone next made → after ≡ text ++ reply_text made.reply ++ codes "\n"
     → HasMade script new (Answered after next)
 one_more text after zone next made h finds some takes wrote =
     let came = takes.comes h.name h.calls h.entries h.so.0 in let e = came.entry in
@@ -251,7 +279,7 @@ pub all_answered : {script : List ℕ} {old : Lines} (new : Lines) {found : Opti
     (text whole : List ℕ) (zone : ZoneState) → HasMade script old (Answered text zone)
     → Finds old new found → found ≡ None
     → ((name : List ℕ) (calls : List Call) (entries : List Entry)
-    → IsZoneAfter name calls entries zone → (closing : List ℕ) × Closes entries closing
+    → Follows name calls entries zone → (closing : List ℕ) × Closes entries closing
     × (whole ≡ text ++ closing))
     → IsAnswerOf script whole
 all_answered new text whole zone h finds none closes =

@@ -6,7 +6,7 @@ ghost use Rattle.dnssec_record.specs.Answer.{IsAnswerOf, AnswerFault, EndsSafe, 
 ghost use Rattle.dnssec_record.specs.Answer.{IsSafeAnswer, TakesAnswer, TakesAtMost};
 ghost use Rattle.dnssec_record.specs.Device.{Counts};
 ghost use Rattle.dnssec_record.specs.Inner.Devices.{FaultOfInput, TakesFront};
-ghost use Rattle.dnssec_record.specs.Inner.Zone.{IsZoneAfter};
+ghost use Rattle.dnssec_record.specs.Inner.Zone.{Follows};
 ghost use Rattle.dnssec_script.specs.Inner.Reading.{HasRead};
 ghost use Rattle.dnssec_script.specs.Script.{IsFirstMalformed, IsScript};
 ghost use Rattle.dnssec_run.specs.declared.call.Call.{Call};
@@ -138,14 +138,14 @@ fn answer_lines(
     zone: &mut ZoneState,
 ) -> Result<String, ScriptFault>
     ensures ok { IfOk result (λ text. (script name : List ℕ) → HasRead script name [] lines.old →
-        IsZoneAfter name [] [] zone.old → IsAnswerOf script (string_bytes text)) }
+        Follows name [] [] zone.old → IsAnswerOf script (string_bytes text)) }
     ensures err { IfErr result (λ fault. (script name : List ℕ) →
-        HasRead script name [] lines.old → IsZoneAfter name [] [] zone.old →
+        HasRead script name [] lines.old → Follows name [] [] zone.old →
         AnswerFault script fault) }
 {
     let mut text = String::new(alloc);
     while let Some(statement) = lines.next(alloc)? {
-        let made = zone.take(alloc, statement)?;
+        let made = zone.run(alloc, statement)?;
         push_answer(&mut text, &made.reply)?;
     }
     zone.push_closing(&mut text)?;

@@ -6,7 +6,7 @@ ghost use Rattle.dnssec_script.specs.Script.{says};
 ghost use Rattle.dnssec_base.specs.declared.error.Error.TheVariants.{OutOfMemory};
 ghost use Rattle.dnssec_judge.specs.Verdict.{IsVerdict};
 ghost use Rattle.dnssec_record.specs.Answer.{AnswerFault};
-ghost use Rattle.dnssec_record.specs.Inner.Zone.{Comes};
+ghost use Rattle.dnssec_record.specs.Inner.Zone.{Comes, IsZoneAfter};
 ghost use Rattle.dnssec_record.specs.Courses.{as_listed, ended_by, listed_by};
 ghost use Rattle.dnssec_record.specs.Session.{Advances, Closes, FaultOfZone, Stands, StandsAfter};
 ghost use Rattle.dnssec_record.specs.Session.{Resumes, Takes, Tries};
@@ -244,7 +244,7 @@ impl Session {
     fn note(&mut self, alloc: Global, made: Made) -> Result<Reply, AllocError>
         ensures { IfOk result (λ reply.
             (name : List ℕ) (calls : List Call) (entries : List Entry) (call : Call) →
-            Comes name calls entries call self.old.zone made →
+            Comes IsZoneAfter name calls entries call self.old.zone made →
             self.old.moments ≡ moments_of entries →
             Advances name calls entries call self.new reply) }
     {

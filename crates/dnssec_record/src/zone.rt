@@ -1,7 +1,7 @@
 //! The zone of a session or of a script, as the calls so far have left it.
 ghost use Rattle.std.specs.Prelude.{◌≡◌, ◌++◌, ℕ, List, [], IfOk, OnOk};
 ghost use Rattle.std.specs.Prelude.{codes, string_bytes};
-ghost use Rattle.dnssec_record.specs.Inner.Zone.{Comes, IsZoneAfter, TakesOn};
+ghost use Rattle.dnssec_record.specs.Inner.Zone.{Comes, Follows, IsZoneAfter, TakesOn};
 ghost use Rattle.dnssec_record.specs.Output.{reply_text};
 ghost use Rattle.dnssec_record.specs.Session.{Closes};
 ghost use Rattle.dnssec_run.specs.declared.call.Call.{Call};
@@ -79,7 +79,7 @@ impl ZoneState {
         alloc: Global,
         statement: Statement<'_>,
     ) -> Result<Made, AllocError>
-        ensures { IfOk result (TakesOn statement.entry self.old self.new) }
+        ensures { IfOk result (TakesOn IsZoneAfter statement.entry self.old self.new) }
     {
         match statement {
             Statement::Call(call) => self.make(alloc, call),
@@ -87,7 +87,23 @@ impl ZoneState {
         }
     }
 
-    /// Makes the call. A refused call counts in the record too, also one that ran out of memory.
+    /// Makes the call of a statement, for a caller who doesn't ask what the rolls listed: nothing
+    /// is kept of them.
+    pub(crate) fn run(
+        &mut self,
+        alloc: Global,
+        statement: Statement<'_>,
+    ) -> Result<Made, AllocError>
+        ensures { IfOk result (TakesOn Follows statement.entry self.old self.new) }
+    {
+        match statement {
+            Statement::Call(call) => self.advance(alloc, call),
+            Statement::Start(start) => self.advance(alloc, start.call()),
+        }
+    }
+
+    /// Makes the call, and keeps what the rolls listed. A refused call counts in the record too,
+    /// also one that ran out of memory.
     ///
     /// # Errors
     ///
@@ -96,9 +112,22 @@ impl ZoneState {
         ensures { IfOk result (λ made.
             (name : List ℕ) (calls : List Call) (entries : List Entry) →
             IsZoneAfter name calls entries self.old →
-            Comes name calls entries call.entry self.new made) }
+            Comes IsZoneAfter name calls entries call.entry self.new made) }
     {
         let turn = Turn::of(&call);
+        let made = self.advance(alloc, call)?;
+        self.courses.take(alloc, turn.after(&made.reply))?;
+        Ok(made)
+    }
+
+    /// Makes the call, with its record and its verdict.
+    fn advance(&mut self, alloc: Global, call: Call<'_>) -> Result<Made, AllocError>
+        ensures known { IfOk result (λ made.
+            (name : List ℕ) (calls : List Call) (entries : List Entry) →
+            Follows name calls entries self.old →
+            Comes Follows name calls entries call.entry self.new made) }
+        ensures courses { IfOk result (λ _. self.new.courses ≡ self.old.courses) }
+    {
         let Ok(outcome) = self.recorder.advance(alloc, call) else {
             return Err(AllocError);
         };
@@ -109,15 +138,13 @@ impl ZoneState {
         let Ok(()) = noted else {
             return Err(AllocError);
         };
-        self.courses.take(alloc, turn.after(&outcome.reply))?;
         Ok(Made {
             reply: outcome.reply,
             moment: outcome.moment,
         })
     }
 
-    /// Makes the call of a statement, and has the line of its answer. None says that a call was
-    /// refused for lack of memory.
+    /// Makes the call of a statement, and has the line of its answer.
     ///
     /// # Errors
     ///
@@ -127,7 +154,7 @@ impl ZoneState {
         alloc: Global,
         statement: Statement<'_>,
     ) -> Result<(Made, String), AllocError>
-        ensures { IfOk result (λ came. TakesOn statement.entry self.old self.new came.0
+        ensures { IfOk result (λ came. TakesOn IsZoneAfter statement.entry self.old self.new came.0
             × (string_bytes came.1 ≡ reply_text came.0.reply ++ codes "\n")) }
     {
         let made = self.take(alloc, statement)?;
@@ -172,7 +199,7 @@ impl ZoneState {
     /// Writes the sets that are published after the last call, and the verdict on the record.
     pub(crate) fn push_closing(&self, text: &mut String) -> Result<(), AllocError>
         ensures { OnOk result ((name : List ℕ) (calls : List Call) (entries : List Entry) →
-            IsZoneAfter name calls entries self.now → (closing : List ℕ)
+            Follows name calls entries self.now → (closing : List ℕ)
             × Closes entries closing × (string_bytes text.new ≡ string_bytes text.old ++ closing)) }
     {
         push_published(text, self.recorder.published())?;

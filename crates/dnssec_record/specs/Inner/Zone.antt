@@ -6,6 +6,9 @@ use Rattle.dnssec_run.specs.Moments.{moments_of}
 use Rattle.dnssec_script.specs.Script.{call_says}
 use Rattle.dnssec_script.specs.Inner.Statement.{statement_says}
 use Rattle.dnssec_script.specs.declared.statement.Statement.{Statement}
+use Rattle.dnssec_judge.specs.Judge.{Knows}
+use Rattle.dnssec_run.specs.Recorder.{Records}
+use Rattle.dnssec_record.specs.Output.{published_text, set_line}
 use Rattle.dnssec_record.specs.Session.{StandsAfter}
 use Rattle.dnssec_record.specs.declared.zone.Made.{Made}
 use Rattle.dnssec_record.specs.declared.zone.ZoneState.{ZoneState}
@@ -15,17 +18,29 @@ abbrev pub IsZoneAfter : List ℕ → List Call → List Entry → ZoneState →
 IsZoneAfter name calls entries zone =
     StandsAfter name calls entries (record { zone = zone; moments = moments_of entries })
 
--- one more call of the same run came to this, and left the zone so
-pub record Comes (name : List ℕ) (calls : List Call) (entries : List Entry) (call : Call)
-    (next : ZoneState) (made : Made) : Type 0 where
+-- its recorder and its judge know the calls so far, whatever is kept of its rolls
+pub record Follows (name : List ℕ) (calls : List Call) (entries : List Entry) (zone : ZoneState)
+    : Type 0 where
+  pub records : Records name calls entries zone.recorder
+  pub knows : Knows entries zone.judge
+  pub shown : published_text zone.recorder.published ≡ set_line entries
+
+-- what is known of a zone after calls
+abbrev pub Known : Type 1
+Known = List ℕ → List Call → List Entry → ZoneState → Type 0
+
+-- one more call of the same run came to this, and as much is known of the zone as before
+pub record Comes (After : Known) (name : List ℕ) (calls : List Call) (entries : List Entry)
+    (call : Call) (next : ZoneState) (made : Made) : Type 0 where
   pub entry : Entry
-  pub stands : IsZoneAfter name (calls ++ call ∷ []) (entries ++ entry ∷ []) next
+  pub stands : After name (calls ++ call ∷ []) (entries ++ entry ∷ []) next
   pub is_reply : entry.reply ≡ made.reply
   pub is_moment : entry.moment ≡ made.moment
 
 -- the call of this statement was made, and came to this
-pub record TakesOn (statement : Statement) (old next : ZoneState) (made : Made) : Type 0 where
+pub record TakesOn (After : Known) (statement : Statement) (old next : ZoneState) (made : Made)
+    : Type 0 where
   pub call : Call
   pub is_call : call_says call ≡ statement_says statement
   pub comes : (name : List ℕ) (calls : List Call) (entries : List Entry) →
-      IsZoneAfter name calls entries old → Comes name calls entries call next made
+      After name calls entries old → Comes After name calls entries call next made
