@@ -11,20 +11,26 @@ use dnssec_run::{Frame, PublishedKey};
 use std::alloc::Global;
 use std::collections::HashMap;
 
-/// Fewer numbers than this are not given back.
+/// A table has room for this many keys before numbers are given back.
 const FEW: usize = 8;
 
 /// A key of a record has the number of the place at which it stands here. Numbers of keys that have
-/// left are given to other keys.
+/// left are given to other keys, the least first.
+///
+/// When its room is used up, the next entry with news first looks for keys that are in no set any
+/// more, and gives their numbers back with their references. The room is then for 8 keys, for twice
+/// as many as are in sets, or up to the last of those, whichever is most. So it follows what is in
+/// sets, not how many keys there were, and only an entry that itself brings many keys exceeds it.
+/// A look costs as much as the room is great, and at least half of that is free after it.
 #[derive(Debug, Drop)]
 pub(crate) struct Numbers {
     keys: Vec<Option<PublishedKey>>,
     /// By the position of its add, the number of a key.
     by_added: HashMap<usize, usize>,
-    /// Numbers that no key has.
-    spare: Vec<usize>,
-    /// Once as many numbers are in use, it is time to give back those of keys that have left.
-    enough: usize,
+    /// Each number below this one is some key's.
+    least: usize,
+    /// So many more numbers may be given before it is time to give some back.
+    left: usize,
 }
 
 impl Numbers {
@@ -36,8 +42,8 @@ impl Numbers {
         Numbers {
             keys: Vec::new(alloc),
             by_added: HashMap::new(alloc),
-            spare: Vec::new(alloc),
-            enough: FEW,
+            least: 0,
+            left: FEW,
         }
     }
 
@@ -58,8 +64,8 @@ impl Numbers {
         Ok(Numbers {
             keys,
             by_added: self.by_added.clone()?,
-            spare: self.spare.clone()?,
-            enough: self.enough,
+            least: self.least,
+            left: self.left,
         })
     }
 
@@ -208,16 +214,17 @@ impl Numbers {
         None
     }
 
-    /// A number that no key has.
-    fn spare_number(&mut self) -> usize
-        ensures none { key_at self.new result ≡ None }
-        ensures within { result ≤ vec_len self.new.keys }
-        ensures kept { self.new ≡ record (self.old) { spare = self.new.spare } }
+    /// The least number that no key has.
+    fn spare_number(&self) -> usize
+        ensures none { key_at self.now result ≡ None }
+        ensures within { result ≤ vec_len self.now.keys }
     {
-        match self.spare.pop() {
-            Some(number) if self.is_spare(number) => number,
-            _ => self.keys.len(),
+        for number in self.least..self.keys.len() {
+            if self.is_spare(number) {
+                return number;
+            }
         }
+        self.keys.len()
     }
 
     /// Whether there is a place for the number, and no key has it.
@@ -242,12 +249,14 @@ impl Numbers {
         } else {
             self.keys.push(Some(key))?;
         }
+        self.least = number.saturating_add(1);
+        self.left = self.left.saturating_sub(1);
         Ok(())
     }
 
     /// Whether it is time to give back the numbers of keys that have left.
     pub(crate) fn are_enough(&self) -> bool {
-        self.enough <= self.keys.len()
+        self.left == 0
     }
 
     /// One more than the greatest number.
@@ -276,19 +285,18 @@ impl Numbers {
     {
         self.drop_last();
         let mut by_added = HashMap::new(alloc);
-        let mut spare = Vec::new(alloc);
         for (number, key) in self.keys.iter().enumerate() {
             let Some(key) = key else {
-                spare.push(number)?;
                 continue;
             };
             by_added.insert(key.added, number)?;
         }
-        let in_use = self.keys.len().saturating_sub(spare.len());
-        let more = self.keys.len().saturating_add(1);
-        self.enough = FEW.max(more).max(in_use.saturating_mul(2));
+        let in_use = by_added.len();
+        let room = FEW.max(self.keys.len()).max(in_use.saturating_mul(2));
+        self.keys.shrink_to(room);
         self.by_added = by_added;
-        self.spare = spare;
+        self.least = 0;
+        self.left = room.saturating_sub(in_use);
         Ok(())
     }
 

@@ -3,27 +3,22 @@ use Rattle.std.proofs.Common.{◌≡◌, ◌∙◌, ap, sym, ℕ, subst, refl, N
 use Rattle.std.specs.{HashMap.get, Prelude.IsSome, Prelude.nat_eq, Prelude.if◌then◌else◌}
 use Rattle.dnssec_run.specs.Published.{id_of}
 use Rattle.dnssec_judge.specs.Numbers.{key_at}
-use Rattle.dnssec_judge.specs.declared.sets.numbers.Numbers.{Numbers}
 use Rattle.dnssec_judge.proofs.Table.{grown, some-update, table-grown}
 use Rattle.dnssec_judge.proofs.sets.numbers.Numbers.number_of.Goals as goal
 
 pub returns : goal.returns
 returns c =
-    let old = c.args.self.now in let spared = c.spare_number-number.new.self in
-    let new = c.write.new.self in
+    let old = c.args.self.now in let new = c.write.new.self in
     let number = c.spare_number-number.result in let key = id_of c.args.key.now in
-    let kept = c.spare_number-number.ensures.kept in
-    let none : key_at old number ≡ None =
-    ap (λ (n : Numbers). key_at n number) (sym kept) ∙ c.spare_number-number.ensures.none in
+    let none : key_at old number ≡ None = c.spare_number-number.ensures.none in
     let here : key_at new number ≡ Some key =
     c.in_ok-write.ensures.ok ∙ ap (λ k. Some k) c.in_ok-copy.ensures.ok in
     let others : (n : ℕ) → (n ≡ number → ⊥) → key_at new n ≡ key_at old n =
-    (λ n ne. c.in_ok-write.ensures.others n ne ∙ ap (λ (m : Numbers). key_at m n) kept) in
+    c.in_ok-write.ensures.others in
     let at : (p : ℕ) → get nat_eq new.by_added p
     ≡ (if nat_eq key.1 p then Some number else get nat_eq old.by_added p) =
     (λ p. ap (λ m. get nat_eq m p) c.in_ok-write.ensures.kept
-    ∙ c.in_ok-insert.ensures.updates.0 p
-    ∙ ap (λ (m : Numbers). if nat_eq key.1 p then Some number else get nat_eq m.by_added p) kept) in
+    ∙ c.in_ok-insert.ensures.updates.0 p) in
     record {
       ok = here;
       table = λ t. table-grown old new number key none here others

@@ -1,5 +1,6 @@
 -- Each key that has a number is known anew.
-use Rattle.std.proofs.Common.{◌≡◌, ◌∙◌, ap, sym, arith, inl, inr, length, List, Option, refl, subst}
+use Rattle.std.proofs.Common.{◌≡◌, ◌∙◌, ap, sym, arith, inl, inr, length, refl, subst, ℕ}
+use Rattle.std.proofs.Common.{List, Option, Some}
 use Rattle.std.proofs.lemmas.{Bool.cases_lt, Option.none-some, Option.same_Some}
 use Rattle.std.proofs.lemmas.Option.{slice_get_read}
 use Rattle.std.specs.{HashMap.get, Option.option_map}
@@ -40,11 +41,15 @@ loop-number-preserved-in_default c n k lt e = elim (cases_lt n c.loop-number.num
 
 pub returns-clause-table : goal.returns-clause-table
 returns-clause-table c t =
-    let keys = c.drop_last.new.self.keys in
     let items = c.deref-key-items.result.now in
     let same = c.deref-key-items.ensures.value in
-    table-from c.args.self.now _ (λ n k e. sym (c.drop_last.ensures.same n) ∙ e)
+    let shrunk = c.shrink_to.ensures.items in
+    let at : (n : ℕ) (k : Id) → key_in (slice_get c.shrink_to.new.self.items n) ≡ Some k
+    → key_in (slice_get c.drop_last.new.self.keys.items n) ≡ Some k =
+    (λ n k e. ap (λ (ks : List (Option PublishedKey)). key_in (slice_get ks n)) (sym shrunk) ∙ e) in
+    table-from c.args.self.now _ (λ n k e. sym (c.drop_last.ensures.same n) ∙ at n k e)
     (λ n k e.
-    (let there = ap (λ (ks : List (Option PublishedKey)). key_in (slice_get ks n)) same ∙ e in
+    (let there = ap (λ (ks : List (Option PublishedKey)). key_in (slice_get ks n)) same
+    ∙ at n k e in
     let within = key-within items n k there in
     c.loop-number.invariant n k (omega (arith, within, c.loop-number-test.false)) there)) t

@@ -26,8 +26,8 @@ returns c =
     let copy : Numbers = record {
       keys = c.loop-key.keys;
       by_added = c.in_ok-clone.field-0;
-      spare = c.in_ok-clone-2.field-0;
-      enough = old.enough;
+      least = old.least;
+      left = old.left;
     } in record {
       same = keys;
       table = (
