@@ -13,7 +13,7 @@ use Rattle.dnssec_run.specs.declared.caches.SetKind.TheVariants as code
 use Rattle.dnssec_run.specs.declared.record.Entry.{Entry}
 use Rattle.dnssec_network.proofs.Held.{report-within}
 use Rattle.dnssec_network.proofs.Noted.{notes_make_reports_true}
-use Rattle.dnssec_network.specs.Facts.{AreTrueFrom, news_of, ttl_before}
+use Rattle.dnssec_network.specs.Facts.{Before, AreTrueFrom, news_of, ttl_before}
 use Rattle.dnssec_network.specs.Models.{IsByTheClock, NoTtlBelow}
 use Rattle.dnssec_network.specs.Models.{PremisesCanBeMet, made_since, prompt}
 use Rattle.dnssec_network.specs.Network.{IsNetworkOf, Network, NoneLiesAhead}
@@ -21,7 +21,7 @@ use Rattle.dnssec_network.specs.Network.{ReportsAreTrue}
 use Rattle.dnssec_network.specs.Reports.{NoneGoesBack, ReportsAreByNotes, due, due_of}
 use Rattle.dnssec_network.specs.Spread.{after, due_for, end_of, first_spread, known, seconds_left}
 use Rattle.dnssec_network.specs.Validity.{IsRenewed}
-use Rattle.dnssec_network.specs.declared.fact.{Before.Before, Fact.Fact, News.News}
+use Rattle.dnssec_network.specs.declared.fact.{Fact.Fact, News.News}
 use Rattle.dnssec_network.specs.declared.fact.News.TheVariants.{Everywhere, Published}
 use Rattle.dnssec_network.specs.declared.spread.Spread.{Spread}
 

@@ -1,11 +1,11 @@
 -- What is noted to be on all servers is given by all of them, if the facts are true.
 use Rattle.std.proofs.Common.{List, None, arith, ℕ, ◌*◌, ◌+◌, ◌<◌, ◌≡◌, ◌≤◌}
 use Rattle.dnssec_run.specs.Safe.{SetKind}
-use Rattle.dnssec_network.specs.Facts.{AreTrue, news_of, ttl_before}
+use Rattle.dnssec_network.specs.Facts.{Before, AreTrue, news_of, ttl_before}
 use Rattle.dnssec_network.specs.Network.{Network, NeverGoesBack}
 use Rattle.dnssec_network.specs.Reach.{AllGive, reach_of}
 use Rattle.dnssec_network.specs.Spread.{known}
-use Rattle.dnssec_network.specs.declared.{fact.Before.Before, fact.Fact.Fact, spread.Spread.Spread}
+use Rattle.dnssec_network.specs.declared.{fact.Fact.Fact, spread.Spread.Spread}
 use Rattle.dnssec_network.specs.declared.reach.Reach.TheVariants.{Everywhere}
 use Rattle.dnssec_network.proofs.Noted.{noted}
 

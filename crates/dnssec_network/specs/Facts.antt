@@ -1,7 +1,8 @@
 -- What an operator notes of a zone, and when that is true of the network.
 use Rattle.std.specs.Prelude.{◌≡◌, ℕ, suc, ◌<◌, ◌≤◌, Bool, List, [], ◌∷◌, map, filter, nat_eq}
+use Rattle.dnssec_run.specs.declared.caches.ByKind.{ByKind}
+use Rattle.dnssec_run.specs.ByKind.{at_kind}
 use Rattle.dnssec_run.specs.Safe.{SetKind, Ds, Dnskey, ZoneSigners, kind_of}
-use Rattle.dnssec_network.specs.declared.fact.Before.{Before}
 use Rattle.dnssec_network.specs.declared.fact.Fact.{Fact}
 use Rattle.dnssec_network.specs.declared.fact.News.{News}
 use Rattle.dnssec_network.specs.declared.fact.News.TheVariants.{Published, Everywhere}
@@ -19,11 +20,12 @@ same_kind a b = nat_eq (kind_number a) (kind_number b)
 
 -- ---- what is noted
 
--- the highest TTL of a kind before the first call
+-- the highest TTLs from before the first call
+abbrev pub Before : Type 0
+Before = ByKind ℕ
+
 abbrev pub ttl_before : Before → SetKind → ℕ
-ttl_before before Ds = before.ds
-ttl_before before Dnskey = before.dnskey
-ttl_before before ZoneSigners = before.zone
+ttl_before before kind = at_kind before kind
 
 -- what was noted of a kind, in this order
 abbrev pub news_of : SetKind → List Fact → List News

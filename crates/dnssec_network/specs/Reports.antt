@@ -19,9 +19,8 @@ use Rattle.dnssec_run.specs.Steps.{origin_in}
 use Rattle.dnssec_network.specs.declared.due.DueReport.{DueReport}
 use Rattle.dnssec_network.specs.declared.due.NotYet.{NotYet}
 use Rattle.dnssec_network.specs.declared.due.NotYet.TheVariants.{WaitsFor, WaitsUntil}
-use Rattle.dnssec_network.specs.declared.fact.Before.{Before}
 use Rattle.dnssec_network.specs.declared.fact.Fact.{Fact}
-use Rattle.dnssec_network.specs.Facts.{AreTrue, news_of, ttl_before}
+use Rattle.dnssec_network.specs.Facts.{Before, AreTrue, news_of, ttl_before}
 use Rattle.dnssec_network.specs.Network.{FindChain, IsTrueReport, Network, NeverGoesBack}
 use Rattle.dnssec_network.specs.Network.{NoneLiesAhead, OfPlainLists, PastReport}
 use Rattle.dnssec_network.specs.Spread.{due_for, known}

@@ -1,12 +1,12 @@
 //! What an operator can see of a zone's sets, and note.
 ghost use Rattle.std.specs.Prelude.{◌≡◌, Some};
 ghost use Rattle.dnssec_run.specs.Safe.{kind_of};
-ghost use Rattle.dnssec_network.specs.Facts.{same_kind, ttl_before};
+ghost use Rattle.dnssec_network.specs.Facts.{same_kind};
 ghost use Rattle.dnssec_network.specs.Texts.{fault_text};
 ghost use Rattle.dnssec_network.specs.declared.fact.NoteFault.TheVariants.{OutOfMemory};
 
 use dnssec_keyset::UnixTime;
-use dnssec_run::SetKind;
+use dnssec_run::{ByKind, SetKind};
 use std::alloc::AllocFailed;
 use std::fmt;
 
@@ -36,12 +36,7 @@ pub struct Fact {
 
 /// The highest TTLs, in seconds, of what servers gave before the first call, or of their answers
 /// that there is no such set.
-#[derive(Clone, Copy, Debug)]
-pub struct Before {
-    pub ds: u32,
-    pub dnskey: u32,
-    pub zone: u32,
-}
+pub type Before = ByKind<u32>;
 
 /// Why a fact was not noted.
 #[derive(Clone, Copy, Debug, PartialEq)]
@@ -70,18 +65,6 @@ impl Fact {
             | (SetKind::Dnskey, SetKind::Dnskey)
             | (SetKind::ZoneSigners, SetKind::ZoneSigners) => true,
             _ => false,
-        }
-    }
-}
-
-impl Before {
-    pub(crate) fn ttl(self, kind: SetKind) -> u32
-        ensures { result ≡ ttl_before self (kind_of kind) }
-    {
-        match kind {
-            SetKind::Ds => self.ds,
-            SetKind::Dnskey => self.dnskey,
-            SetKind::ZoneSigners => self.zone,
         }
     }
 }

@@ -5,9 +5,9 @@ use Rattle.std.proofs.lemmas.List.Sums.{fold_push}
 use Rattle.dnssec_run.specs.declared.caches.SetKind.{SetKind as Kind}
 use Rattle.dnssec_run.specs.declared.caches.SetKind.TheVariants as code
 use Rattle.dnssec_run.specs.Safe.{SetKind, Ds, Dnskey, ZoneSigners, kind_of}
-use Rattle.dnssec_network.specs.declared.fact.{Before.Before, Fact.Fact, News.News}
+use Rattle.dnssec_network.specs.declared.fact.{Fact.Fact, News.News}
 use Rattle.dnssec_network.specs.declared.fact.News.TheVariants.{Published, Everywhere}
-use Rattle.dnssec_network.specs.Facts.{same_kind, ttl_before}
+use Rattle.dnssec_network.specs.Facts.{Before, same_kind, ttl_before}
 use Rattle.dnssec_network.proofs.Passed.{after_fact, passed}
 use Rattle.dnssec_policy.specs.declared.ttls.HighestTtls.{HighestTtls}
 use Rattle.dnssec_policy.specs.Ttls.{AreHighest, after_news, higher_with, highest_of, ttl_in}

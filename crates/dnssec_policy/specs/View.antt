@@ -6,10 +6,9 @@ use Rattle.dnssec_keyset.specs.declared.wait.WaitEnd.{WaitEnd}
 use Rattle.dnssec_run.specs.declared.caches.SetKind.{SetKind}
 use Rattle.dnssec_run.specs.declared.steps.LastStep.{LastStep}
 use Rattle.dnssec_run.specs.Safe.{SetKind as SafeKind, kind_of}
-use Rattle.dnssec_network.specs.declared.fact.Before.{Before}
 use Rattle.dnssec_network.specs.declared.fact.Fact.{Fact}
 use Rattle.dnssec_network.specs.declared.reach.Reach.{Reach}
-use Rattle.dnssec_network.specs.Facts.{news_of, ttl_before}
+use Rattle.dnssec_network.specs.Facts.{Before, news_of, ttl_before}
 use Rattle.dnssec_network.specs.Reach.{reach_of}
 use Rattle.dnssec_network.specs.Spread.{known}
 

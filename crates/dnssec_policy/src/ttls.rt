@@ -1,8 +1,8 @@
 //! The highest TTLs that are noted, and how long a report counts by them.
 ghost use Rattle.std.specs.Prelude.{◌≡◌, ◌≤◌, ◌++◌, ◌∷◌, [], List};
 ghost use Rattle.dnssec_key.specs.RollTable.{is_second};
-ghost use Rattle.dnssec_network.specs.declared.fact.Before.{Before as AnyBefore};
 ghost use Rattle.dnssec_network.specs.declared.fact.Fact.{Fact as AnyFact};
+ghost use Rattle.dnssec_network.specs.Facts.{Before as AnyBefore};
 ghost use Rattle.dnssec_run.specs.Safe.{kind_of};
 ghost use Rattle.dnssec_policy.specs.Ttls.{AreHighest, after_news, at_most_due, if_retired, keeps};
 ghost use Rattle.dnssec_policy.specs.Ttls.{lasting, report_takes, roll_takes, ttl_in, with_ttl};

@@ -14,8 +14,8 @@ use Rattle.dnssec_run.specs.Steps.{last_step}
 use Rattle.dnssec_network.specs.declared.due.DueReport.{DueReport}
 use Rattle.dnssec_network.specs.declared.due.NotYet.{NotYet}
 use Rattle.dnssec_network.specs.declared.due.NotYet.TheVariants.{WaitsFor, WaitsUntil}
-use Rattle.dnssec_network.specs.declared.fact.Before.{Before}
 use Rattle.dnssec_network.specs.declared.fact.Fact.{Fact}
+use Rattle.dnssec_network.specs.Facts.{Before}
 use Rattle.dnssec_network.specs.Notes.{NotesParts}
 use Rattle.dnssec_network.specs.Reports.{due_report}
 use Rattle.dnssec_script.specs.Script.{AreScript, lines_of}

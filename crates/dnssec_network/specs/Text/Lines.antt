@@ -5,7 +5,6 @@ use Rattle.std.specs.Option.{option_map}
 use Rattle.std.specs.Str.{bytes_eq}
 use Rattle.dnssec_run.specs.declared.caches.SetKind.{SetKind}
 use Rattle.dnssec_run.specs.declared.caches.SetKind.TheVariants.{Ds, Dnskey, ZoneSigners}
-use Rattle.dnssec_network.specs.declared.fact.Before.{Before}
 use Rattle.dnssec_network.specs.declared.fact.Fact.{Fact}
 use Rattle.dnssec_network.specs.declared.fact.News.{News}
 use Rattle.dnssec_network.specs.declared.fact.News.TheVariants as news
@@ -13,6 +12,7 @@ use Rattle.dnssec_script.specs.Script.{Form, Value, Number, Moment, as_number, a
 use Rattle.dnssec_script.specs.Script.{fields_of, first_field, values_of}
 use Rattle.dnssec_network.specs.declared.text.line.FactWord.{FactWord}
 use Rattle.dnssec_network.specs.declared.text.line.FactWord.TheVariants.{Published, Everywhere}
+use Rattle.dnssec_network.specs.Facts.{Before}
 
 -- ---- words
 

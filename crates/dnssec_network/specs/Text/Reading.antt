@@ -3,8 +3,8 @@ use Rattle.std.specs.Prelude.{◌≡◌, ◌⊎◌, ℕ, ◌+◌, ◌<◌, ◌++
 use Rattle.std.specs.Prelude.{Option, None, Some, slice_index_or}
 use Rattle.dnssec_run.specs.Moments.{moments_of}
 use Rattle.dnssec_run.specs.declared.record.Entry.{Entry}
-use Rattle.dnssec_network.specs.declared.fact.Before.{Before}
 use Rattle.dnssec_network.specs.declared.fact.Fact.{Fact}
+use Rattle.dnssec_network.specs.Facts.{Before}
 use Rattle.dnssec_network.specs.Notes.{NotesParts, refusal}
 use Rattle.dnssec_network.specs.Text.Lines.{as_before, as_fact, before_says, fact_says}
 use Rattle.dnssec_network.specs.declared.text.fault.LineFault.{LineFault}

@@ -5,8 +5,9 @@ use Rattle.std.proofs.lemmas.List.{length-map}
 use denote.Bor.{now}
 use Rattle.dnssec_script.proofs.Texts.{text_at}
 use Rattle.dnssec_script.specs.Script.{Moment, Number, Value}
-use Rattle.dnssec_network.specs.declared.fact.{Before.Before, Fact.Fact, News.News}
+use Rattle.dnssec_network.specs.declared.fact.{Fact.Fact, News.News}
 use Rattle.dnssec_network.specs.declared.fact.News.TheVariants.{Published, Everywhere}
+use Rattle.dnssec_network.specs.Facts.{Before}
 use Rattle.dnssec_network.specs.Text.Lines.{as_before, as_fact, before_says, fact_says, news_says}
 use Rattle.dnssec_network.specs.Text.Reading.{AreFacts, AreNotes}
 

@@ -10,9 +10,9 @@ use Rattle.dnssec_run.specs.declared.call.Call.{Call}
 use Rattle.dnssec_run.specs.declared.record.{Entry.Entry, Reply.Reply}
 use Rattle.dnssec_run.specs.Record.{call_of}
 use Rattle.dnssec_run.specs.Safe.{SetKind, kind_of}
-use Rattle.dnssec_network.specs.Facts.{AreTrue, AreTrueFrom, news_of, same_kind}
+use Rattle.dnssec_network.specs.Facts.{Before, AreTrue, AreTrueFrom, news_of, same_kind}
 use Rattle.dnssec_network.specs.Network.{Network}
-use Rattle.dnssec_network.specs.declared.fact.{Before.Before, Fact.Fact, News.News}
+use Rattle.dnssec_network.specs.declared.fact.{Fact.Fact, News.News}
 use Rattle.dnssec_network.specs.declared.fact.News.TheVariants.{Published, Everywhere}
 use Rattle.dnssec_policy.specs.declared.policy.Policy.{Policy}
 use Rattle.dnssec_policy.specs.Automatic.{IsSaid, is_add}

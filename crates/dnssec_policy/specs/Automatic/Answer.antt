@@ -4,8 +4,8 @@ use Rattle.dnssec_run.specs.declared.call.Call.{Call}
 use Rattle.dnssec_run.specs.declared.record.Entry.{Entry}
 use Rattle.dnssec_run.specs.Moments.{moments_of}
 use Rattle.dnssec_run.specs.Record.{IsRun}
-use Rattle.dnssec_network.specs.declared.fact.{Before.Before, Fact.Fact}
-use Rattle.dnssec_network.specs.Facts.{AreTrue}
+use Rattle.dnssec_network.specs.declared.fact.Fact.{Fact}
+use Rattle.dnssec_network.specs.Facts.{Before, AreTrue}
 use Rattle.dnssec_network.specs.Network.{Network}
 use Rattle.dnssec_script.specs.Script.{IsScript, lines_of}
 use Rattle.dnssec_record.specs.Session.{HadMemory}

@@ -1,8 +1,8 @@
 //! The notes of a zone, and the highest TTLs that they have.
 ghost use Rattle.std.specs.Prelude.{◌≡◌, ◌++◌, ◌∷◌, ℕ, List, [], IfErr, IfOk, OnOk, Some, map};
 ghost use denote.Bor.{now};
-ghost use Rattle.dnssec_network.specs.declared.fact.Before.{Before as AnyBefore};
 ghost use Rattle.dnssec_network.specs.declared.fact.Fact.{Fact as AnyFact};
+ghost use Rattle.dnssec_network.specs.Facts.{Before as AnyBefore};
 ghost use Rattle.dnssec_network.specs.Text.Lines.{as_fact, fact_says};
 ghost use Rattle.dnssec_network.specs.Text.Reading.{AreFacts, AreNotes};
 ghost use Rattle.dnssec_script.specs.Script.{lines_of};

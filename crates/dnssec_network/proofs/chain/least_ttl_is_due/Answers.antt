@@ -10,12 +10,12 @@ use Rattle.dnssec_key.specs.declared.roll.RollType.{RollType}
 use Rattle.dnssec_run.specs.Safe.{SetKind, kind_of, retires}
 use Rattle.dnssec_run.specs.declared.caches.SetKind.{SetKind as Kind}
 use Rattle.dnssec_network.proofs.Noted.{HasTtl, due-for, some-due}
-use Rattle.dnssec_network.specs.Facts.{AreTrue, AreTrueFrom, news_of, ttl_before}
+use Rattle.dnssec_network.specs.Facts.{Before, AreTrue, AreTrueFrom, news_of, ttl_before}
 use Rattle.dnssec_network.specs.Least.{ComeInOrder, MayBeFalse}
 use Rattle.dnssec_network.specs.Network.{Network, NeverGoesBack}
 use Rattle.dnssec_network.specs.{Notes.first_newest, Reports.due_of, Reports.higher, Spread.after}
 use Rattle.dnssec_network.specs.Spread.{due_for, expired_after, first_spread, known, end_of}
-use Rattle.dnssec_network.specs.declared.fact.{Before.Before, Fact.Fact, News.News}
+use Rattle.dnssec_network.specs.declared.fact.{Fact.Fact, News.News}
 use Rattle.dnssec_network.specs.declared.fact.News.TheVariants.{Everywhere, Published}
 use Rattle.dnssec_network.specs.declared.{progress.Newest.Newest, spread.Spread.Spread}
 use Rattle.dnssec_run.specs.declared.caches.SetKind.TheVariants as code
