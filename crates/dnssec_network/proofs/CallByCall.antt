@@ -3,48 +3,33 @@
 use Rattle.std.proofs.Common.{◌≡◌, ℕ, zero, suc, ◌<◌, ◌^◌, Bool, true, false, T}
 use Rattle.std.proofs.Common.{List, [], ◌∷◌, ◌++◌, map, filter, length, Option, None, Some}
 use Rattle.std.proofs.Common.{refl, sym, ap, ◌∙◌, arith, Global, String, Vec, Ordering}
-use Rattle.std.proofs.Common.{slice_index, nat_eq, fold}
-use Rattle.std.proofs.Common.{length-append, true≢false}
-use Rattle.std.proofs.Common.{max}
-use Rattle.std.proofs.lemmas.List.{length-map}
-use Rattle.std.proofs.StringFromBytes.{spelled}
+use Rattle.std.proofs.Common.{slice_index, nat_eq, fold, length-append, true≢false, max}
+use Rattle.std.proofs.{lemmas.List.length-map, StringFromBytes.spelled}
 use Rattle.std.proofs.lemmas.Str.{IsUtf8-from_ascii}
 use Rattle.std.specs.Cmp.Lexicographic.{slice_cmp, nat_list_cmp_total}
 use Rattle.std.specs.FinMap.{entries, empty, from_entries, from_sorted, find, get}
 use Rattle.std.specs.FinMap.{is_sorted, same_map, entries-from_sorted, get-from_entries}
 use Rattle.std.specs.FinMap.{get-from_sorted, nat_cmp-IsAntisymmetric, slice_cmp-IsAntisymmetric}
-use Rattle.std.specs.List.{list_any}
-use Rattle.std.specs.Ordering.{nat_cmp}
-use Rattle.std.specs.String.{string_vec}
-use Rattle.std.specs.formers.vec.Vec.{holding}
+use Rattle.std.specs.{List.list_any, Ordering.nat_cmp, String.string_vec, formers.vec.Vec.holding}
 use Rattle.dnssec_key.specs.declared.kind.KeyType.{KeyType}
-use Rattle.dnssec_key.specs.declared.roll.RollState.{RollState}
-use Rattle.dnssec_key.specs.declared.roll.RollState.TheVariants.{Done}
-use Rattle.dnssec_key.specs.declared.roll.RollType.{RollType}
-use Rattle.dnssec_key.specs.declared.roll.RollType.TheVariants.{AlgorithmRoll}
-use Rattle.dnssec_key.specs.Key.{KeyParts}
-use Rattle.dnssec_key.specs.declared.roll.Half.{Half}
-use Rattle.dnssec_zone.specs.Keys.{Keys}
-use Rattle.dnssec_zone.specs.Lists.{Lists, no_lists}
-use Rattle.dnssec_zone.specs.Refusals.{add_refusal}
+use Rattle.dnssec_key.specs.declared.roll.RollState.{RollState, TheVariants.Done}
+use Rattle.dnssec_key.specs.declared.roll.RollType.{RollType, TheVariants.AlgorithmRoll}
+use Rattle.dnssec_key.specs.{Key.KeyParts, declared.roll.Half.Half}
+use Rattle.dnssec_zone.specs.{Keys.Keys, Lists.Lists, Lists.no_lists, Refusals.add_refusal}
 use Rattle.dnssec_zone.specs.Rolls.{Rolls, no_rolls, with_phase}
-use Rattle.dnssec_zone.specs.Start.{conflict, new_fault, old_fault, some_listed}
-use Rattle.dnssec_zone.specs.Start.{suitability_fault}
+use Rattle.dnssec_zone.specs.Start.{conflict, new_fault, old_fault, some_listed, suitability_fault}
 use Rattle.dnssec_zone.specs.Start.{serves_as_new, PresentKskRole, PresentZskRole}
 use Rattle.dnssec_zone.specs.Wait.{Clear, barred_by, lacks_stamp, time_left, wait_in_phase}
 use Rattle.dnssec_keyset.specs.KeySet.{KeySetParts}
 use Rattle.dnssec_keyset.specs.Step as keyset
 use Rattle.dnssec_run.proofs.Grow.{run_more, run_none, world_more, world_none}
-use Rattle.dnssec_run.specs.declared.call.Call.{Call}
-use Rattle.dnssec_run.specs.declared.call.Call.TheVariants.{RollDone}
-use Rattle.dnssec_run.specs.declared.record.Entry.{Entry}
-use Rattle.dnssec_run.specs.declared.record.Published.{Published}
-use Rattle.dnssec_run.specs.declared.record.Reply.{Reply}
-use Rattle.dnssec_run.specs.declared.record.Reply.TheVariants as reply
+use Rattle.dnssec_run.specs.declared.call.Call.{Call, TheVariants.RollDone}
+use Rattle.dnssec_run.specs.declared.record.{Entry.Entry, Published.Published, Reply.Reply}
 use Rattle.dnssec_run.specs.Published.{Id, IsPublished, World, id_of, in_dnskey, in_ds}
 use Rattle.dnssec_run.specs.Published.{keys_where, signs_dnskey, signs_zone}
 use Rattle.dnssec_run.specs.Record.{IsRun, call_moment, call_of, is_accepted, mark_after, reply_of}
 use Rattle.dnssec_run.specs.Record.{world_after, world_at}
+use Rattle.dnssec_run.specs.declared.record.Reply.TheVariants as reply
 
 -- ---- texts and lists in memory
 

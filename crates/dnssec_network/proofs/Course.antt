@@ -2,10 +2,8 @@
 -- those of another algorithm come in for them. It is a run. For `WholeSets`.
 use Rattle.std.proofs.Common.{◌≡◌, ℕ, suc, ◌+◌, ◌*◌, ◌<◌, ◌^◌, T, max, fold, nat_eq}
 use Rattle.std.proofs.Common.{List, [], ◌∷◌, ◌++◌, map, length, take, None, Some, true, false}
-use Rattle.std.proofs.Common.{refl, arith, Global, String}
-use Rattle.std.proofs.Common.{Bor}
-use Rattle.std.specs.FinMap.{find, is_sorted}
-use Rattle.std.specs.List.{list_any}
+use Rattle.std.proofs.Common.{refl, arith, Global, String, Bor}
+use Rattle.std.specs.{FinMap.find, FinMap.is_sorted, List.list_any}
 use Rattle.dnssec_key.specs.declared.kind.KeyType.TheVariants.{Ksk, Zsk}
 use Rattle.dnssec_key.specs.declared.state.Available.TheVariants.{Available}
 use Rattle.dnssec_key.specs.declared.roll.Action.TheVariants.{CreateCdsRrset, RemoveCdsRrset}
@@ -14,8 +12,7 @@ use Rattle.dnssec_key.specs.declared.roll.Action.TheVariants.{ReportDsPropagated
 use Rattle.dnssec_key.specs.declared.roll.Action.TheVariants.{ReportRrsigPropagated}
 use Rattle.dnssec_key.specs.declared.roll.Action.TheVariants.{UpdateDnskeyRrset, UpdateDsRrset}
 use Rattle.dnssec_key.specs.declared.roll.Action.TheVariants.{UpdateRrsig, WaitDnskeyPropagated}
-use Rattle.dnssec_key.specs.declared.roll.Action.TheVariants.{WaitRrsigPropagated}
-use Rattle.dnssec_key.specs.declared.roll.Half.{Half}
+use Rattle.dnssec_key.specs.declared.roll.{Action.TheVariants.WaitRrsigPropagated, Half.Half}
 use Rattle.dnssec_key.specs.declared.roll.Half.TheVariants.{First, Second}
 use Rattle.dnssec_key.specs.declared.roll.RollState.TheVariants.{CacheExpire1, CacheExpire2}
 use Rattle.dnssec_key.specs.declared.roll.RollState.TheVariants.{Done, Propagation1, Propagation2}
@@ -32,13 +29,10 @@ use Rattle.dnssec_run.specs.declared.call.Call.TheVariants.{AddKeyKsk, AddKeyZsk
 use Rattle.dnssec_run.specs.declared.call.Call.TheVariants.{CacheExpired2, Propagation1Complete}
 use Rattle.dnssec_run.specs.declared.call.Call.TheVariants.{Propagation2Complete, RollDone}
 use Rattle.dnssec_run.specs.declared.call.Call.TheVariants.{StartRoll}
-use Rattle.dnssec_run.specs.declared.record.Entry.{Entry}
-use Rattle.dnssec_run.specs.declared.record.Published.{Published}
-use Rattle.dnssec_run.specs.declared.record.PublishedKey.{PublishedKey}
-use Rattle.dnssec_run.specs.declared.record.Reply.{Reply}
+use Rattle.dnssec_run.specs.declared.record.{Entry.Entry, Published.Published}
+use Rattle.dnssec_run.specs.declared.record.{PublishedKey.PublishedKey, Reply.Reply}
+use Rattle.dnssec_run.specs.{Record.added_by, Record.call_of, WholeRolls.propagation}
 use Rattle.dnssec_run.specs.declared.record.Reply.TheVariants as reply
-use Rattle.dnssec_run.specs.Record.{added_by, call_of}
-use Rattle.dnssec_run.specs.WholeRolls.{propagation}
 use Rattle.dnssec_network.proofs.CallByCall.{Entries, Reached, Shows, add-clear, begun, by}
 use Rattle.dnssec_network.proofs.CallByCall.{ended, entry_of, goes-on, held, named, order, rolled}
 use Rattle.dnssec_network.proofs.CallByCall.{shows, start-clear, wait-clear}

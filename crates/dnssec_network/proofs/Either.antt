@@ -2,8 +2,7 @@
 use Rattle.std.proofs.Common.{List, [], ap, arith, inl, inr, map, refl, ℕ, ◌∙◌, ◌∷◌, ◌≡◌, ◌⊎◌}
 use Rattle.std.proofs.lemmas.List.Elements.{Contains-append_cases, Contains-append_left}
 use Rattle.std.specs.List.{Contains}
-use Rattle.dnssec_run.specs.Published.{Id}
-use Rattle.dnssec_run.specs.Safe.{Dnskey, Ds, ZoneSigners}
+use Rattle.dnssec_run.specs.{Published.Id, Safe.Dnskey, Safe.Ds, Safe.ZoneSigners}
 use Rattle.dnssec_network.proofs.Guide.{dnskey_of, ds_of_keeper, ds_of_signer, each_of_keeper}
 use Rattle.dnssec_network.proofs.Guide.{each_of_signer, from_mapped, key_rules_suffice, keys_of}
 use Rattle.dnssec_network.proofs.Guide.{mapped, signed_by, signers_of, zone_of}
@@ -11,8 +10,7 @@ use Rattle.dnssec_network.proofs.TwoSigners.{each_publishes_its_own, two_signers
 use Rattle.dnssec_network.proofs.TwoSigners.{two_signers_find_each_chain}
 use Rattle.dnssec_network.specs.Either.{BothKeepRules, HaveDsOfOne, HaveDsOfOneByEach, One, Other}
 use Rattle.dnssec_network.specs.Either.{Which, signer_of}
-use Rattle.dnssec_network.specs.Guide.{HaveSameAlgorithms, ds_of_both}
-use Rattle.dnssec_network.specs.Network.{MayBeHeld}
+use Rattle.dnssec_network.specs.{Guide.HaveSameAlgorithms, Guide.ds_of_both, Network.MayBeHeld}
 use Rattle.dnssec_network.specs.TwoSigners.{HasDsOf, HasEachAlgorithm, KeepsAlgorithms, KeepsRules}
 use Rattle.dnssec_network.specs.TwoSigners.{PublicChain, PublicChainByEach, PublishesKeysOf, Signer}
 use Rattle.dnssec_network.specs.TwoSigners.{shown}

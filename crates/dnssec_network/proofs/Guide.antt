@@ -2,16 +2,12 @@
 -- keys, so there is a chain.
 use Rattle.std.proofs.Common.{List, [], ap, arith, inl, inr, length, map, refl, subst, suc, sym}
 use Rattle.std.proofs.Common.{true, zero, ℕ, ◌+◌, ◌*◌, ◌<◌, ◌∙◌, ◌∷◌, ◌≡◌, ◌≤◌, ◌⊎◌}
-use Rattle.std.proofs.lemmas.Bool.{cases_lt}
-use Rattle.std.proofs.lemmas.List.{get_or-map, length-map}
+use Rattle.std.proofs.lemmas.{Bool.cases_lt, List.get_or-map, List.length-map}
 use Rattle.std.proofs.lemmas.List.Elements.{Contains-append_cases, Contains-append_left}
 use Rattle.std.proofs.lemmas.List.Elements.{Contains-append_right}
-use Rattle.std.specs.List.{Contains}
-use Rattle.std.specs.Prelude.{max}
-use Rattle.dnssec_run.proofs.Chain.History.{base-lies-below, not_in_empty}
-use Rattle.dnssec_run.proofs.Chain.Side.{or_map}
-use Rattle.dnssec_run.specs.Published.{Id}
-use Rattle.dnssec_run.specs.Safe.{Dnskey, Ds, ZoneSigners, retires}
+use Rattle.std.specs.{List.Contains, Prelude.max}
+use Rattle.dnssec_run.proofs.Chain.{History.base-lies-below, History.not_in_empty, Side.or_map}
+use Rattle.dnssec_run.specs.{Published.Id, Safe.Dnskey, Safe.Ds, Safe.ZoneSigners, Safe.retires}
 use Rattle.dnssec_network.proofs.Held.{last_made, report-within}
 use Rattle.dnssec_network.proofs.TwoSigners.{two_signers_find_chain, two_signers_find_each_chain}
 use Rattle.dnssec_network.specs.Guide.{GuideGivesChain, GuideGivesEachChain, HaveDsTogether}

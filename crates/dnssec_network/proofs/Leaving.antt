@@ -5,15 +5,13 @@ use Rattle.std.proofs.lemmas.Bool.{cases_lt}
 use Rattle.dnssec_run.proofs.Chain.Side.{or_map}
 use Rattle.dnssec_run.specs.Safe.{Dnskey, Ds, SetKind, ZoneSigners}
 use Rattle.dnssec_network.proofs.Either.{alone-chain, alone-each, both-chain, both-each, own-chain}
-use Rattle.dnssec_network.proofs.Either.{own-each}
-use Rattle.dnssec_network.proofs.Guide.{dnskey_of, signers_of, zone_of}
+use Rattle.dnssec_network.proofs.{Either.own-each, Guide.dnskey_of, Guide.signers_of, Guide.zone_of}
 use Rattle.dnssec_network.proofs.Pairs.{keeps, signers_can_be_met}
 use Rattle.dnssec_network.specs.Either.{One, Other, Which, signer_of}
 use Rattle.dnssec_network.specs.Guide.{ds_of_both}
 use Rattle.dnssec_network.specs.Leaving.{Leave, LeavesInOrder, LeavingCanBeMet, LeavingKeepsChain}
 use Rattle.dnssec_network.specs.Leaving.{LeavingKeepsEachChain, MayBeAsked, MayBeHeldOf}
-use Rattle.dnssec_network.specs.Leaving.{NothingIsLeft, ds_while_leaving}
-use Rattle.dnssec_network.specs.Network.{MayBeHeld}
+use Rattle.dnssec_network.specs.{Leaving.NothingIsLeft, Leaving.ds_while_leaving, Network.MayBeHeld}
 use Rattle.dnssec_network.specs.TwoSigners.{PublicChain, PublicChainByEach, Signer, shown}
 
 -- ---- nothing is left

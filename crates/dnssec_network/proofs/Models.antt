@@ -1,23 +1,19 @@
 -- Prompt servers, and notes of what they give, meet all premises.
 use Rattle.std.proofs.Common.{Bool, List, None, Ok, Some, [], arith, false}
-use Rattle.std.proofs.Common.{length, refl, subst, suc, sym, true, zero, ℕ, ◌+◌, ◌<◌, ◌∷◌}
-use Rattle.std.proofs.Common.{◌≡◌, ◌≤◌}
+use Rattle.std.proofs.Common.{length, refl, subst, suc, sym, true, zero, ℕ, ◌+◌, ◌<◌, ◌∷◌, ◌≡◌, ◌≤◌}
 use Rattle.std.specs.Prelude.{fold, max, ◌-◌}
 use Rattle.dnssec_key.specs.declared.roll.RollType.{RollType}
-use Rattle.dnssec_run.proofs.Chain.History.{base-lies-below}
-use Rattle.dnssec_run.proofs.Since.{origin-le}
+use Rattle.dnssec_run.proofs.{Chain.History.base-lies-below, Since.origin-le}
 use Rattle.dnssec_run.specs.Origins.{origin}
 use Rattle.dnssec_run.specs.Safe.{Dnskey, Ds, SetKind, ZoneSigners, kind_of, retires}
+use Rattle.dnssec_run.specs.declared.record.Entry.{Entry}
 use Rattle.dnssec_run.specs.declared.caches.SetKind.{SetKind as Kind}
 use Rattle.dnssec_run.specs.declared.caches.SetKind.TheVariants as code
-use Rattle.dnssec_run.specs.declared.record.Entry.{Entry}
-use Rattle.dnssec_network.proofs.Held.{report-within}
-use Rattle.dnssec_network.proofs.Noted.{notes_make_reports_true}
+use Rattle.dnssec_network.proofs.{Held.report-within, Noted.notes_make_reports_true}
 use Rattle.dnssec_network.specs.Facts.{Before, AreTrueFrom, news_of, ttl_before}
 use Rattle.dnssec_network.specs.Models.{IsByTheClock, NoTtlBelow}
 use Rattle.dnssec_network.specs.Models.{PremisesCanBeMet, made_since, prompt}
-use Rattle.dnssec_network.specs.Network.{IsNetworkOf, Network, NoneLiesAhead}
-use Rattle.dnssec_network.specs.Network.{ReportsAreTrue}
+use Rattle.dnssec_network.specs.Network.{IsNetworkOf, Network, NoneLiesAhead, ReportsAreTrue}
 use Rattle.dnssec_network.specs.Reports.{NoneGoesBack, ReportsAreByNotes, due, due_of}
 use Rattle.dnssec_network.specs.Spread.{after, due_for, end_of, first_spread, known, seconds_left}
 use Rattle.dnssec_network.specs.Validity.{IsRenewed}

@@ -2,14 +2,10 @@
 use Rattle.std.proofs.Common.{arith, inl, inr, length, refl, subst, suc, ℕ, ◌+◌}
 use Rattle.std.proofs.Common.{◌*◌, ◌-◌, ◌<◌, ◌≡◌, ◌≤◌}
 use Rattle.std.specs.Prelude.{max, min, ◌/◌}
-use Rattle.dnssec_run.proofs.Chain.History.{base-lies-below}
-use Rattle.dnssec_run.proofs.Chain.Side.{or_map}
-use Rattle.dnssec_run.specs.Published.{Id}
-use Rattle.dnssec_run.specs.Safe.{Dnskey, Ds}
-use Rattle.dnssec_network.proofs.Held.{report-within}
-use Rattle.dnssec_network.proofs.Models.{premises_can_be_met}
-use Rattle.dnssec_network.specs.Guide.{IsReported, IsUnderWay, KeepKeyRules}
-use Rattle.dnssec_network.specs.Guide.{both_from}
+use Rattle.dnssec_run.proofs.Chain.{History.base-lies-below, Side.or_map}
+use Rattle.dnssec_run.specs.{Published.Id, Safe.Dnskey, Safe.Ds}
+use Rattle.dnssec_network.proofs.{Held.report-within, Models.premises_can_be_met}
+use Rattle.dnssec_network.specs.Guide.{IsReported, IsUnderWay, KeepKeyRules, both_from}
 use Rattle.dnssec_network.specs.Models.{made_since, prompt}
 use Rattle.dnssec_network.specs.Network.{IsGiven, MayBeHeld, PastReport}
 use Rattle.dnssec_network.specs.Pairs.{AlwaysHasKeys, HasZoneKeys, IsPromptRun, JoiningCanBeMet}

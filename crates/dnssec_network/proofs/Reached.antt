@@ -3,11 +3,9 @@ use Rattle.std.proofs.Common.{List, None, arith, ℕ, ◌*◌, ◌+◌, ◌<◌,
 use Rattle.dnssec_run.specs.Safe.{SetKind}
 use Rattle.dnssec_network.specs.Facts.{Before, AreTrue, news_of, ttl_before}
 use Rattle.dnssec_network.specs.Network.{Network, NeverGoesBack}
-use Rattle.dnssec_network.specs.Reach.{AllGive, reach_of}
-use Rattle.dnssec_network.specs.Spread.{known}
+use Rattle.dnssec_network.specs.{Reach.AllGive, Reach.reach_of, Spread.known}
 use Rattle.dnssec_network.specs.declared.{fact.Fact.Fact, spread.Spread.Spread}
-use Rattle.dnssec_network.specs.declared.reach.Reach.TheVariants.{Everywhere}
-use Rattle.dnssec_network.proofs.Noted.{noted}
+use Rattle.dnssec_network.{specs.declared.reach.Reach.TheVariants.Everywhere, proofs.Noted.noted}
 
 everywhere : (base : ℕ) (s : Spread) (now : ℕ) → reach_of base s now ≡ Everywhere
     → (base ≤ s.position) × (s.older ≡ None) × (s.seen ≤ now)

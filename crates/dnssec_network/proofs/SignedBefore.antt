@@ -1,6 +1,5 @@
 -- When a record may begin in a zone that is signed already.
-use Rattle.std.proofs.Common.{arith, inl, inr}
-use Rattle.std.proofs.lemmas.Bool.{cases_lt}
+use Rattle.std.proofs.{Common.arith, Common.inl, Common.inr, lemmas.Bool.cases_lt}
 use Rattle.dnssec_run.proofs.Chain.History.{not_in_empty}
 use Rattle.dnssec_network.specs.SignedBefore.{SameEverywhereSuffices, WiderSetsHaveChain}
 

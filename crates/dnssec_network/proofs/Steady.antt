@@ -11,18 +11,13 @@ use Rattle.dnssec_run.proofs.Chain.Family.{algorithm-law, of_algorithm, whole-la
 use Rattle.dnssec_run.proofs.Chain.Flags.{Own, Shared, first_set, second_set, switches}
 use Rattle.dnssec_run.proofs.Chain.History.{Without}
 use Rattle.dnssec_run.proofs.Chain.Invariant.{Alive, At, LateOf, used-some}
-use Rattle.dnssec_run.proofs.Chain.Places.{side}
+use Rattle.dnssec_run.proofs.Chain.{Places.side, Tale.Tale, Tale.key_at, Trust.always, Trust.whole}
+use Rattle.dnssec_run.specs.ByAlgorithm.{KeepsWhole, algorithm_of}
+use Rattle.dnssec_run.specs.{Plain.IsPlain, Published.Id, Record.IsRun}
+use Rattle.dnssec_run.specs.Safe.{Dnskey, Ds, MayBeCached, ZoneSigners, position_at}
+use Rattle.dnssec_run.specs.declared.{call.Call.Call, record.Entry.Entry}
 use Rattle.dnssec_run.proofs.Chain.Side.{Alive as AliveSide, Cached, Early as EarlySets}
 use Rattle.dnssec_run.proofs.Chain.Side.{Late as LateSets, Rest, Side, Since, or_map}
-use Rattle.dnssec_run.proofs.Chain.Tale.{Tale, key_at}
-use Rattle.dnssec_run.proofs.Chain.Trust.{always, whole}
-use Rattle.dnssec_run.specs.ByAlgorithm.{KeepsWhole, algorithm_of}
-use Rattle.dnssec_run.specs.Plain.{IsPlain}
-use Rattle.dnssec_run.specs.Published.{Id}
-use Rattle.dnssec_run.specs.Record.{IsRun}
-use Rattle.dnssec_run.specs.Safe.{Dnskey, Ds, MayBeCached, ZoneSigners, position_at}
-use Rattle.dnssec_run.specs.declared.call.Call.{Call}
-use Rattle.dnssec_run.specs.declared.record.Entry.{Entry}
 
 -- ---- a side
 

@@ -4,15 +4,12 @@ use Rattle.std.proofs.Common.{List, arith, inl, inr, length, refl, subst, suc, s
 use Rattle.std.proofs.Common.{◌+◌, ◌<◌, ◌∙◌, ◌≡◌, ◌≤◌}
 use Rattle.std.proofs.lemmas.Bool.{cases_Bool, cases_lt, true≢false}
 use Rattle.std.proofs.lemmas.Map.Views.{Contains-from_any, list_any-from_Contains}
-use Rattle.std.specs.Cmp.{nat_eq_equiv}
-use Rattle.std.specs.List.{Contains, list_any}
-use Rattle.std.specs.Prelude.{nat_eq}
+use Rattle.std.specs.{Cmp.nat_eq_equiv, List.Contains, List.list_any, Prelude.nat_eq}
 use Rattle.std.proofs.lemmas.Bool.{eqb-true}
 use Rattle.dnssec_run.proofs.Chain.History.{base-lies-below, not_in_empty}
 use Rattle.dnssec_run.proofs.Chain.Trust.{chain-holds, each-holds}
 use Rattle.dnssec_run.specs.ByAlgorithm.{HasChainByEach, KeepsWhole, algorithm_of}
-use Rattle.dnssec_run.specs.Published.{Id}
-use Rattle.dnssec_run.proofs.Since.{origin-le, origin-same}
+use Rattle.dnssec_run.{specs.Published.Id, proofs.Since.origin-le, proofs.Since.origin-same}
 use Rattle.dnssec_run.specs.Origins.{CachedSet, origin}
 use Rattle.dnssec_run.specs.Safe.{Dnskey, Ds, HasChain, MayBeCached, Position, SetKind, TrustsKeys}
 use Rattle.dnssec_run.specs.Safe.{TrustsZone, ZoneSigners, position_at}

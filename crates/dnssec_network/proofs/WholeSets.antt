@@ -2,32 +2,21 @@
 use Rattle.std.proofs.Common.{◌≡◌, ℕ, zero, suc, ◌+◌, ◌*◌, ◌<◌, ◌≤◌, ◌⊎◌, inl, inr, Bool}
 use Rattle.std.proofs.Common.{List, [], ◌∷◌, length, take, drop, Option, None, Some, true}
 use Rattle.std.proofs.Common.{false, ◌&&◌, ◌||◌, refl, sym, ap, ◌∙◌, subst, arith, Global}
-use Rattle.std.proofs.Common.{slice_index_or}
-use Rattle.std.proofs.Common.{slice_get, nat_eq, nat_le, true≢false, is_none, cond}
+use Rattle.std.proofs.Common.{slice_index_or, slice_get, nat_eq, nat_le, true≢false, is_none, cond}
 use Rattle.std.proofs.lemmas.{Option.none-some, Option.same_Some, Bool.cases_Bool}
-use Rattle.std.specs.{FinMap.find, FinMap.get, List.Contains}
-use Rattle.std.specs.Option.{option_map_or}
+use Rattle.std.specs.{FinMap.find, FinMap.get, List.Contains, Option.option_map_or}
 use Rattle.std.specs.Ordering.{eq_by_cmp}
 use Rattle.dnssec_key.specs.declared.roll.RollState.TheVariants.{Propagation1}
-use Rattle.dnssec_key.specs.declared.roll.RollType.{RollType}
-use Rattle.dnssec_key.specs.declared.roll.RollType.TheVariants.{AlgorithmRoll}
-use Rattle.dnssec_key.specs.Key.{KeyParts}
-use Rattle.dnssec_key.specs.RollTable.{column}
+use Rattle.dnssec_key.specs.declared.roll.RollType.{RollType, TheVariants.AlgorithmRoll}
+use Rattle.dnssec_key.specs.{Key.KeyParts, RollTable.column}
 use Rattle.dnssec_zone.specs.Rolls.{same_roll}
-use Rattle.dnssec_run.proofs.Grow.{world_front}
-use Rattle.dnssec_run.specs.declared.call.Call.{Call}
-use Rattle.dnssec_run.specs.declared.record.Entry.{Entry}
-use Rattle.dnssec_run.specs.declared.record.Mark.{Mark}
-use Rattle.dnssec_run.specs.declared.record.Mark.TheVariants.{Report}
+use Rattle.dnssec_run.{proofs.Grow.world_front, specs.declared.call.Call.Call}
+use Rattle.dnssec_run.specs.declared.record.{Entry.Entry, Mark.Mark, Mark.TheVariants.Report}
 use Rattle.dnssec_run.specs.ByAlgorithm.{HasKeyOf, KeepsWhole, algorithm_of, keeps_ksk, keeps_zsk}
 use Rattle.dnssec_run.specs.Plain.{DoesAt, IsPlain, needs_algorithm_roll, sets_only_others}
-use Rattle.dnssec_run.specs.Plain.{start_of}
-use Rattle.dnssec_run.specs.Published.{Id, World}
-use Rattle.dnssec_run.specs.Record.{world_at}
+use Rattle.dnssec_run.specs.{Plain.start_of, Published.Id, Published.World, Record.world_at}
 use Rattle.dnssec_run.specs.Safe.{Position, blank, position_at, position_of}
-use Rattle.dnssec_network.proofs.CallByCall.{Entries, Reached}
-use Rattle.dnssec_network.proofs.CallByCall.{gets, order}
-use Rattle.dnssec_network.proofs.CallByCall.{world_of}
+use Rattle.dnssec_network.proofs.CallByCall.{Entries, Reached, gets, order, world_of}
 use Rattle.dnssec_network.proofs.Models.{premises_can_be_met}
 use Rattle.dnssec_network.specs.Models.{IsByTheClock, NoTtlBelow}
 use Rattle.dnssec_network.specs.WholeSets.{HasDsBy, WholeSetsCanBeKept}

@@ -1,7 +1,6 @@
 -- What resolvers find that ask for a chain by each algorithm of the DS set.
 use Rattle.std.specs.Prelude.{ℕ, List}
-use Rattle.dnssec_run.specs.declared.call.Call.{Call}
-use Rattle.dnssec_run.specs.declared.record.Entry.{Entry}
+use Rattle.dnssec_run.specs.declared.{call.Call.Call, record.Entry.Entry}
 use Rattle.dnssec_run.specs.ByAlgorithm.{HasChainByEach, KeepsWhole, algorithm_of}
 use Rattle.dnssec_network.specs.Network.{Network, NoneLiesAhead, OfAllHeld, OfPlainLists}
 use Rattle.dnssec_network.specs.Network.{ReportsAreTrue}

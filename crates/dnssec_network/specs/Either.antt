@@ -1,8 +1,7 @@
 -- Two signers of whom one is asked for a while only, as one that joins or leaves: sets of either.
 use Rattle.std.specs.Prelude.{◌≡◌, ℕ, ◌⊎◌, List, [], map}
 use Rattle.std.specs.List.{Contains}
-use Rattle.dnssec_run.specs.Published.{Id}
-use Rattle.dnssec_run.specs.Safe.{Dnskey, Ds, SetKind, ZoneSigners}
+use Rattle.dnssec_run.specs.{Published.Id, Safe.Dnskey, Safe.Ds, Safe.SetKind, Safe.ZoneSigners}
 use Rattle.dnssec_network.specs.Guide.{HasDs, HaveDsTogether, KeepKeyRules, ds_of_both}
 use Rattle.dnssec_network.specs.Network.{MayBeHeld}
 use Rattle.dnssec_network.specs.TwoSigners.{KeepsRules, Signer, shown}

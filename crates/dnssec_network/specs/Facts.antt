@@ -1,10 +1,8 @@
 -- What an operator notes of a zone, and when that is true of the network.
 use Rattle.std.specs.Prelude.{◌≡◌, ℕ, suc, ◌<◌, ◌≤◌, Bool, List, [], ◌∷◌, map, filter, nat_eq}
-use Rattle.dnssec_run.specs.declared.caches.ByKind.{ByKind}
-use Rattle.dnssec_run.specs.ByKind.{at_kind}
+use Rattle.dnssec_run.specs.{declared.caches.ByKind.ByKind, ByKind.at_kind}
 use Rattle.dnssec_run.specs.Safe.{SetKind, Ds, Dnskey, ZoneSigners, kind_of}
-use Rattle.dnssec_network.specs.declared.fact.Fact.{Fact}
-use Rattle.dnssec_network.specs.declared.fact.News.{News}
+use Rattle.dnssec_network.specs.declared.fact.{Fact.Fact, News.News}
 use Rattle.dnssec_network.specs.declared.fact.News.TheVariants.{Published, Everywhere}
 use Rattle.dnssec_network.specs.Network.{Network}
 

@@ -1,8 +1,7 @@
 -- The rules of the guide for two signers (docs/OPERATORS.md, "A zone with two signers"), and what
 -- resolvers find if both keep them.
 use Rattle.std.specs.Prelude.{◌≡◌, ℕ, suc, ◌+◌, ◌*◌, ◌<◌, ◌≤◌, ◌⊎◌, max, List, [], ◌++◌, length}
-use Rattle.std.specs.Prelude.{map, true}
-use Rattle.std.specs.List.{Contains}
+use Rattle.std.specs.{Prelude.map, Prelude.true, List.Contains}
 use Rattle.dnssec_run.specs.Published.{Id}
 use Rattle.dnssec_run.specs.Safe.{Dnskey, Ds, ZoneSigners, position_at, retires}
 use Rattle.dnssec_network.specs.Network.{IsGiven, IsPublished, MayBeHeld, PastReport}

@@ -4,8 +4,7 @@ use Rattle.std.specs.Prelude.{ℕ, ◌<◌, ◌≤◌}
 use Rattle.dnssec_run.specs.Safe.{Ds, SetKind}
 use Rattle.dnssec_network.specs.Either.{BothKeepRules, HaveDsOfOne, HaveDsOfOneByEach, OfEither}
 use Rattle.dnssec_network.specs.Either.{One, Other, Which}
-use Rattle.dnssec_network.specs.Guide.{HaveSameAlgorithms, ds_of_both}
-use Rattle.dnssec_network.specs.Network.{MayBeHeld}
+use Rattle.dnssec_network.specs.{Guide.HaveSameAlgorithms, Guide.ds_of_both, Network.MayBeHeld}
 use Rattle.dnssec_network.specs.TwoSigners.{KeepsAlgorithms, KeepsRules, PublicChain}
 use Rattle.dnssec_network.specs.TwoSigners.{PublicChainByEach, Signer}
 

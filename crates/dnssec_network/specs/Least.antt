@@ -2,14 +2,12 @@
 use Rattle.std.specs.Prelude.{◌≡◌, ℕ, ◌+◌, ◌*◌, ◌<◌, ◌≤◌, Bool, true, List, [], ◌∷◌, Ok}
 use Rattle.dnssec_key.specs.declared.roll.RollType.{RollType}
 use Rattle.dnssec_run.specs.Safe.{SetKind, retires}
-use Rattle.dnssec_network.specs.declared.fact.Fact.{Fact}
-use Rattle.dnssec_network.specs.declared.fact.News.{News}
+use Rattle.dnssec_network.specs.declared.fact.{Fact.Fact, News.News}
 use Rattle.dnssec_network.specs.declared.fact.News.TheVariants.{Published, Everywhere}
 use Rattle.dnssec_network.specs.declared.progress.Newest.{Newest}
 use Rattle.dnssec_network.specs.Facts.{Before, AreTrue, news_of}
 use Rattle.dnssec_network.specs.Network.{MayBeHeld, Network, NeverGoesBack}
-use Rattle.dnssec_network.specs.Notes.{first_newest, newest_after}
-use Rattle.dnssec_network.specs.Reports.{due}
+use Rattle.dnssec_network.specs.{Notes.first_newest, Notes.newest_after, Reports.due}
 
 -- The news of a kind come one after another, after a version with the sets of the position `last`.
 abbrev pub ComeInOrder : ℕ → ℕ → Newest → List News → Type 0

@@ -1,8 +1,7 @@
 -- One of two signers leaves the zone (docs/RUNBOOKS.md, "Two signers"): what resolvers find
 -- meanwhile, and afterwards.
 use Rattle.std.specs.Prelude.{◌≡◌, ℕ, ◌+◌, ◌-◌, ◌*◌, ◌<◌, ◌≤◌, ◌⊎◌, List, [], length, map, nat_lt}
-use Rattle.std.specs.Prelude.{if◌then◌else◌}
-use Rattle.std.specs.List.{Contains}
+use Rattle.std.specs.{Prelude.if◌then◌else◌, List.Contains}
 use Rattle.dnssec_run.specs.Published.{Id}
 use Rattle.dnssec_run.specs.Safe.{Dnskey, Ds, SetKind, ZoneSigners, position_at}
 use Rattle.dnssec_network.specs.Either.{BothKeepRules, HaveDsOfOne, HaveDsOfOneByEach, OfEither}

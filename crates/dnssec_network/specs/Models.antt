@@ -2,12 +2,10 @@
 use Rattle.std.specs.Prelude.{◌≡◌, ℕ, ◌+◌, ◌*◌, ◌-◌, ◌/◌, ◌<◌, ◌≤◌, Bool, List, length, min, Some}
 use Rattle.std.specs.Prelude.{if◌then◌else◌, nat_lt}
 use Rattle.dnssec_key.specs.declared.roll.RollType.{RollType}
-use Rattle.dnssec_run.specs.declared.record.Entry.{Entry}
-use Rattle.dnssec_run.specs.declared.record.Mark.TheVariants.{Report}
+use Rattle.dnssec_run.specs.declared.record.{Entry.Entry, Mark.TheVariants.Report}
 use Rattle.dnssec_run.specs.Safe.{position_at}
 use Rattle.dnssec_network.specs.Network.{IsNetworkOf, Network, NoneLiesAhead, ReportsAreTrue}
-use Rattle.dnssec_network.specs.Network.{second_of}
-use Rattle.dnssec_network.specs.Reports.{NoneGoesBack, ReportsAreByNotes}
+use Rattle.dnssec_network.specs.{Network.second_of, Reports.NoneGoesBack, Reports.ReportsAreByNotes}
 use Rattle.dnssec_network.specs.Validity.{IsRenewed}
 
 -- made at the start up to the position `first`, then one call each second

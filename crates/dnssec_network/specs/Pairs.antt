@@ -1,10 +1,7 @@
 -- Two signers that meet the guide's rules: none of these is asked in vain.
 use Rattle.std.specs.Prelude.{◌≡◌, ℕ, ◌≤◌, ◌⊎◌, [], length, max}
 use Rattle.std.specs.List.{Contains}
-use Rattle.dnssec_run.specs.Plain.{IsPlain}
-use Rattle.dnssec_run.specs.Published.{Id}
-use Rattle.dnssec_run.specs.Record.{IsRun}
-use Rattle.dnssec_run.specs.Safe.{position_at}
+use Rattle.dnssec_run.specs.{Plain.IsPlain, Published.Id, Record.IsRun, Safe.position_at}
 use Rattle.dnssec_network.specs.Guide.{HaveDsTogether, KeepKeyRules, both_from}
 use Rattle.dnssec_network.specs.Models.{IsByTheClock, NoTtlBelow, prompt}
 use Rattle.dnssec_network.specs.TwoSigners.{HasKey, IsNow, KeepsRules, Signer, SignsZone}

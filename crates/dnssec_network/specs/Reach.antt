@@ -3,10 +3,8 @@ use Rattle.std.specs.Prelude.{ℕ, ◌≤◌, ◌&&◌, nat_le, nat_lt, if◌the
 use Rattle.dnssec_run.specs.Safe.{SetKind}
 use Rattle.dnssec_network.specs.declared.reach.Reach.{Reach}
 use Rattle.dnssec_network.specs.declared.reach.Reach.TheVariants.{Unpublished, Spreading}
-use Rattle.dnssec_network.specs.declared.reach.Reach.TheVariants.{Everywhere}
-use Rattle.dnssec_network.specs.declared.spread.Spread.{Spread}
-use Rattle.dnssec_network.specs.Network.{IsGiven, Network}
-use Rattle.dnssec_network.specs.Spread.{is_none_older}
+use Rattle.dnssec_network.specs.declared.{reach.Reach.TheVariants.Everywhere, spread.Spread.Spread}
+use Rattle.dnssec_network.specs.{Network.IsGiven, Network.Network, Spread.is_none_older}
 
 -- at this moment no version has them or later ones yet; or servers may still give older ones; or
 -- all servers give them, or later ones

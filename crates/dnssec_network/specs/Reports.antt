@@ -3,21 +3,16 @@ use Rattle.std.specs.Prelude.{◌≡◌, ℕ, ◌≤◌, Bool, max, List, Option
 use Rattle.std.specs.Prelude.{if◌then◌else◌, true, nat_lt, option_and_then, unwrap_or}
 use Rattle.std.specs.Option.{option_map}
 use Rattle.dnssec_key.specs.RollTable.{is_second}
-use Rattle.dnssec_key.specs.declared.roll.Half.{Half}
-use Rattle.dnssec_key.specs.declared.roll.Half.TheVariants.{First, Second}
+use Rattle.dnssec_key.specs.declared.roll.Half.{Half, TheVariants.First, TheVariants.Second}
 use Rattle.dnssec_key.specs.declared.roll.RollState.{RollState}
 use Rattle.dnssec_key.specs.declared.roll.RollState.TheVariants.{Propagation1, Propagation2}
 use Rattle.dnssec_key.specs.declared.roll.RollType.{RollType}
-use Rattle.dnssec_run.specs.Moments.{moment_of_call}
-use Rattle.dnssec_run.specs.declared.record.Entry.{Entry}
-use Rattle.dnssec_run.specs.declared.steps.LastStep.{LastStep}
-use Rattle.dnssec_run.specs.Origins.{origin}
-use Rattle.dnssec_run.specs.declared.caches.SetKind.{SetKind as Kind}
+use Rattle.dnssec_run.specs.{Moments.moment_of_call, declared.record.Entry.Entry}
+use Rattle.dnssec_run.specs.{declared.steps.LastStep.LastStep, Origins.origin}
 use Rattle.dnssec_run.specs.declared.caches.SetKind.TheVariants.{Ds, Dnskey, ZoneSigners}
-use Rattle.dnssec_run.specs.Safe.{SetKind, kind_of, retires}
-use Rattle.dnssec_run.specs.Steps.{origin_in}
-use Rattle.dnssec_network.specs.declared.due.DueReport.{DueReport}
-use Rattle.dnssec_network.specs.declared.due.NotYet.{NotYet}
+use Rattle.dnssec_run.specs.{Safe.SetKind, Safe.kind_of, Safe.retires, Steps.origin_in}
+use Rattle.dnssec_run.specs.declared.caches.SetKind.{SetKind as Kind}
+use Rattle.dnssec_network.specs.declared.due.{DueReport.DueReport, NotYet.NotYet}
 use Rattle.dnssec_network.specs.declared.due.NotYet.TheVariants.{WaitsFor, WaitsUntil}
 use Rattle.dnssec_network.specs.declared.fact.Fact.{Fact}
 use Rattle.dnssec_network.specs.Facts.{Before, AreTrue, news_of, ttl_before}

@@ -1,8 +1,7 @@
 -- A zone that was signed before its record begins, and a new record in place of an old one: when
 -- the record may begin, and that other keys beside those of the record do no harm.
 use Rattle.std.specs.Prelude.{◌≡◌, ℕ, ◌+◌, ◌*◌, ◌<◌, ◌≤◌, List, length}
-use Rattle.dnssec_run.specs.declared.record.Entry.{Entry}
-use Rattle.dnssec_run.specs.Safe.{SetKind}
+use Rattle.dnssec_run.specs.{declared.record.Entry.Entry, Safe.SetKind}
 use Rattle.dnssec_network.specs.Network.{FindChain, IsPublished, MayBeHeld, Network}
 use Rattle.dnssec_network.specs.TwoSigners.{HasDsOf, IsKeysOf, IsZoneOf, PublicChain, Signer}
 

@@ -1,7 +1,6 @@
 -- The texts of refused facts.
 use Rattle.std.specs.Prelude.{ℕ, List, codes}
-use Rattle.dnssec_network.specs.declared.fact.NoteFault.{NoteFault}
-use Rattle.dnssec_network.specs.declared.fact.NoteFault.TheVariants.{CallNotMade}
+use Rattle.dnssec_network.specs.declared.fact.NoteFault.{NoteFault, TheVariants.CallNotMade}
 use Rattle.dnssec_network.specs.declared.fact.NoteFault.TheVariants.{PublishedBeforeCall}
 use Rattle.dnssec_network.specs.declared.fact.NoteFault.TheVariants.{SeenBeforePublished}
 use Rattle.dnssec_network.specs.declared.fact.NoteFault.TheVariants.{MomentFalls, OutOfMemory}

@@ -1,14 +1,9 @@
 -- A list that keeps sets whole: the premises of a chain by each algorithm are not asked in vain.
 use Rattle.std.specs.Prelude.{◌≡◌, ℕ, ◌≤◌, List, length}
-use Rattle.std.specs.List.{Contains}
-use Rattle.std.specs.Global.{Global}
-use Rattle.dnssec_run.specs.declared.call.Call.{Call}
-use Rattle.dnssec_run.specs.declared.record.Entry.{Entry}
+use Rattle.std.specs.{List.Contains, Global.Global}
+use Rattle.dnssec_run.specs.declared.{call.Call.Call, record.Entry.Entry}
 use Rattle.dnssec_run.specs.ByAlgorithm.{KeepsWhole, algorithm_of}
-use Rattle.dnssec_run.specs.Plain.{IsPlain}
-use Rattle.dnssec_run.specs.Published.{Id}
-use Rattle.dnssec_run.specs.Record.{IsRun}
-use Rattle.dnssec_run.specs.Safe.{position_at}
+use Rattle.dnssec_run.specs.{Plain.IsPlain, Published.Id, Record.IsRun, Safe.position_at}
 use Rattle.dnssec_network.specs.Models.{MeetsPremises, prompt}
 
 -- at some position the DS set has a key of this algorithm, and all its keys have it

@@ -4,14 +4,12 @@ use Rattle.std.proofs.Common.{Some, refl, sym, ap, subst, ◌∙◌, arith, map}
 use Rattle.std.proofs.lemmas.Bool.{and_parts, eqb-true, false_from_ne_true, or_parts, true≢false}
 use Rattle.std.proofs.lemmas.Option.{same_Some}
 use Rattle.std.specs.Prelude.{T, filter, ◌&&◌, ◌||◌, nat_eq, is_none, Result, Ok, Err}
-use Rattle.std.specs.List.{list_all}
-use Rattle.std.specs.{Cmp.Lexicographic.bytes_decides, Cmp.Lexicographic.slice_cmp}
+use Rattle.std.specs.{List.list_all, Cmp.Lexicographic.bytes_decides, Cmp.Lexicographic.slice_cmp}
 use Rattle.std.specs.{Ordering.nat_cmp, FinMap.find, FinMap.Entries.is_sorted, Str.bytes_eq}
 use Rattle.std.specs.FinMap.{entries, entries_sorted, get, get-entries}
 use Rattle.dnssec_base.specs.declared.error.Error.{Error}
 use Rattle.dnssec_key.specs.declared.kind.KeyType.{KeyType}
-use Rattle.dnssec_key.specs.declared.roll.RollType.{RollType}
-use Rattle.dnssec_key.specs.declared.roll.RollType.TheVariants.{AlgorithmRoll}
+use Rattle.dnssec_key.specs.declared.roll.RollType.{RollType, TheVariants.AlgorithmRoll}
 use Rattle.dnssec_key.specs.Key.{KeyParts, all_states, ksk_role, zsk_role}
 use Rattle.dnssec_key.specs.State.{is_any, is_fresh}
 use Rattle.dnssec_zone.specs.Keys.{some_key}
@@ -23,13 +21,11 @@ use Rattle.dnssec_keyset.specs.KeySet.{KeySetParts}
 use Rattle.dnssec_keyset.specs.Step as keyset
 use Rattle.dnssec_policy.specs.declared.policy.KeyRole.{KeyRole}
 use Rattle.dnssec_policy.specs.declared.policy.KeyRole.TheVariants.{Ksk, Zsk, Csk}
-use Rattle.dnssec_policy.specs.declared.policy.Policy.{Policy}
-use Rattle.dnssec_policy.specs.declared.policy.Scheme.{Scheme}
+use Rattle.dnssec_policy.specs.declared.policy.{Policy.Policy, Scheme.Scheme}
 use Rattle.dnssec_policy.specs.declared.policy.Scheme.TheVariants.{Split, SingleType}
 use Rattle.dnssec_policy.specs.Keys.{first_of, goes, has_role, is_in_use, is_new, is_unwanted}
 use Rattle.dnssec_policy.specs.Keys.{new_keys, references_where, role_of, roles_of, serves}
-use Rattle.dnssec_policy.specs.Keys.{with_key}
-use Rattle.dnssec_policy.specs.View.{View}
+use Rattle.dnssec_policy.specs.{Keys.with_key, View.View}
 use Rattle.dnssec_policy.proofs.May.{IsChange, IsRenewal, IsStart, is_renewal}
 
 abbrev Entry : Type 0

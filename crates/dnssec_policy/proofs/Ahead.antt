@@ -3,49 +3,38 @@ use Rattle.std.proofs.Common.{◌≡◌, ℕ, ◌+◌, ◌<◌, Bool, true, fals
 use Rattle.std.proofs.Common.{Option, None, Some, refl, arith}
 use Rattle.std.proofs.lemmas.Bool.{leb-false}
 use Rattle.std.specs.Prelude.{if◌then◌else◌, Result, Ok, Err, nat_le, ◌&&◌, not}
-use Rattle.std.specs.{List.fold}
-use Rattle.std.specs.FinMap.{entries, values}
+use Rattle.std.specs.{List.fold, FinMap.entries, FinMap.values}
 use Rattle.dnssec_key.specs.declared.roll.RollState.{RollState}
 use Rattle.dnssec_key.specs.declared.roll.RollState.TheVariants.{Propagation1, CacheExpire1}
 use Rattle.dnssec_key.specs.declared.roll.RollState.TheVariants.{Propagation2, CacheExpire2, Done}
 use Rattle.dnssec_key.specs.declared.roll.RollType.{RollType}
 use Rattle.dnssec_key.specs.declared.roll.RollType.TheVariants.{AlgorithmRoll, CskRoll}
 use Rattle.dnssec_key.specs.Key.{KeyParts}
-use Rattle.dnssec_key.specs.declared.roll.Half.{Half}
-use Rattle.dnssec_key.specs.declared.roll.Half.TheVariants.{First, Second}
+use Rattle.dnssec_key.specs.declared.roll.Half.{Half, TheVariants.First, TheVariants.Second}
 use Rattle.dnssec_key.specs.RollTable.{is_second}
-use Rattle.dnssec_zone.specs.Keys.{some_key}
-use Rattle.dnssec_zone.specs.Rolls.{all_rolls, phase_of}
+use Rattle.dnssec_zone.specs.{Keys.some_key, Rolls.all_rolls, Rolls.phase_of}
 use Rattle.dnssec_keyset.specs.Step as keyset
-use Rattle.dnssec_keyset.specs.declared.wait.WaitEnd.{WaitEnd}
-use Rattle.dnssec_keyset.specs.declared.wait.WaitEnd.TheVariants.{At, PastTime}
+use Rattle.dnssec_keyset.specs.declared.wait.WaitEnd.{WaitEnd, TheVariants.At, TheVariants.PastTime}
 use Rattle.dnssec_run.specs.declared.caches.SetKind.{SetKind}
 use Rattle.dnssec_run.specs.declared.caches.SetKind.TheVariants.{Ds, Dnskey, ZoneSigners}
 use Rattle.dnssec_run.specs.declared.{steps.LastStep.LastStep, steps.Origins.Origins}
 use Rattle.dnssec_run.specs.{Safe.kind_of, Steps.origin_in}
 use Rattle.dnssec_network.specs.declared.reach.Reach.{Reach}
 use Rattle.dnssec_network.specs.declared.reach.Reach.TheVariants.{Unpublished, Spreading}
-use Rattle.dnssec_network.specs.declared.reach.Reach.TheVariants.{Everywhere}
-use Rattle.dnssec_network.specs.Reports.{due}
-use Rattle.dnssec_policy.specs.declared.policy.KeyRole.{KeyRole}
-use Rattle.dnssec_policy.specs.declared.policy.Policy.{Policy}
-use Rattle.dnssec_policy.specs.declared.policy.Scheme.{Scheme}
+use Rattle.dnssec_network.specs.{declared.reach.Reach.TheVariants.Everywhere, Reports.due}
+use Rattle.dnssec_policy.specs.declared.policy.{KeyRole.KeyRole, Policy.Policy, Scheme.Scheme}
 use Rattle.dnssec_policy.specs.declared.policy.Scheme.TheVariants.{Split, SingleType}
 use Rattle.dnssec_policy.specs.InProgress.{awaited, end_next, ends_with, once, once_settled}
 use Rattle.dnssec_policy.specs.declared.why.Why.{Why}
-use Rattle.dnssec_policy.specs.InProgress.{later, once_there, report_next, report_or}
-use Rattle.dnssec_policy.specs.InProgress.{wait_next}
+use Rattle.dnssec_policy.specs.InProgress.{later, once_there, report_next, report_or, wait_next}
 use Rattle.dnssec_policy.specs.Keys.{first_over, has_left, is_unwanted, ksk_roll, leaves_from}
 use Rattle.dnssec_policy.specs.Keys.{new_keys, renewal_of, role_of, roles_of, wants_others}
 use Rattle.dnssec_policy.specs.Keys.{zsk_roll}
 use Rattle.dnssec_policy.specs.Next.{at_moment, change, deletion, deletions, may_begin, next_of}
 use Rattle.dnssec_policy.specs.Next.{once_all_ended, once_ended, phase_next, renewal, renewals}
-use Rattle.dnssec_policy.specs.Next.{rolls_next, start_with}
-use Rattle.dnssec_policy.specs.Stuck.{stuck, stuck_of}
-use Rattle.dnssec_policy.specs.Todo.{Todo, Make, NotBefore, Rest, is_sooner}
-use Rattle.dnssec_policy.specs.Todo.{sooner}
-use Rattle.dnssec_policy.specs.Ttls.{lasting}
-use Rattle.dnssec_policy.specs.View.{View, reach_in}
+use Rattle.dnssec_policy.specs.{Next.rolls_next, Next.start_with, Stuck.stuck, Stuck.stuck_of}
+use Rattle.dnssec_policy.specs.Todo.{Todo, Make, NotBefore, Rest, is_sooner, sooner}
+use Rattle.dnssec_policy.specs.{Ttls.lasting, View.View, View.reach_in}
 
 module _ (v : View) where
   abbrev IsAhead : Todo → Type 0

@@ -1,12 +1,10 @@
 -- How long a report counts, and that it is said once all servers have its sets.
 use Rattle.std.proofs.Common.{◌≡◌, ℕ, ◌+◌, ◌≤◌, Bool, true, false, List, [], ◌∷◌, Option, None}
-use Rattle.std.proofs.Common.{Some, Ok, max, refl, sym, ap, subst, ◌∙◌, arith, fold}
-use Rattle.std.proofs.Common.{if◌then◌else◌}
+use Rattle.std.proofs.Common.{Some, Ok, max, refl, sym, ap, subst, ◌∙◌, arith, fold, if◌then◌else◌}
 use Rattle.std.proofs.lemmas.Bool.{and_parts, le-leb}
 use Rattle.std.specs.Prelude.{◌&&◌, ◌-◌, nat_le, nat_lt, unwrap_or}
 use Rattle.std.specs.List.{list_all}
-use Rattle.dnssec_key.specs.declared.roll.RollType.{RollType}
-use Rattle.dnssec_key.specs.declared.roll.Half.{Half}
+use Rattle.dnssec_key.specs.declared.roll.{RollType.RollType, Half.Half}
 use Rattle.dnssec_key.specs.declared.roll.Half.TheVariants.{First, Second}
 use Rattle.dnssec_key.specs.RollTable.{is_second}
 use Rattle.dnssec_zone.specs.Rolls.{phase_of}
@@ -14,27 +12,22 @@ use Rattle.dnssec_keyset.specs.Step as keyset
 use Rattle.dnssec_run.specs.declared.caches.SetKind.{SetKind as Kind}
 use Rattle.dnssec_run.specs.declared.caches.SetKind.TheVariants as code
 use Rattle.dnssec_run.specs.Safe.{SetKind, Ds, Dnskey, ZoneSigners, kind_of, retires}
-use Rattle.dnssec_run.specs.Steps.{origin_in}
-use Rattle.dnssec_run.specs.WholeRolls.{propagation}
-use Rattle.dnssec_network.specs.declared.{fact.News.News}
+use Rattle.dnssec_run.specs.{Steps.origin_in, WholeRolls.propagation}
+use Rattle.dnssec_network.specs.declared.fact.News.{News}
 use Rattle.dnssec_network.specs.declared.fact.News.TheVariants.{Published, Everywhere}
 use Rattle.dnssec_network.specs.declared.reach.Reach.{Reach}
-use Rattle.dnssec_network.specs.declared.reach.Reach.TheVariants as reach
-use Rattle.dnssec_network.specs.Facts.{moment_of, news_of, ttl_before}
-use Rattle.dnssec_network.specs.Reach.{reach_of}
+use Rattle.dnssec_network.specs.{Facts.moment_of, Facts.news_of, Facts.ttl_before, Reach.reach_of}
 use Rattle.dnssec_network.specs.Reports.{due, due_of, due_or, higher}
 use Rattle.dnssec_network.specs.Spread.{after, due_for, end_of, expired_after, first_spread}
-use Rattle.dnssec_network.specs.Spread.{is_none_older, known}
-use Rattle.dnssec_network.specs.Spread.{seconds_left, seconds_until}
+use Rattle.dnssec_network.specs.Spread.{is_none_older, known, seconds_left, seconds_until}
+use Rattle.dnssec_network.specs.declared.reach.Reach.TheVariants as reach
 use Rattle.dnssec_policy.specs.InProgress.{end_next, once_there, later, report_next}
 use Rattle.dnssec_policy.specs.InProgress.{ends_with, once, report_or}
 use Rattle.dnssec_policy.specs.Laws.{EndsAreInTime, NoneLiesAheadOf, ReportsAreInTime}
-use Rattle.dnssec_policy.specs.Laws.{ReportsCountNoLonger}
-use Rattle.dnssec_policy.specs.Next.{next_of, phase_next}
+use Rattle.dnssec_policy.specs.{Laws.ReportsCountNoLonger, Next.next_of, Next.phase_next}
 use Rattle.dnssec_policy.specs.Todo.{Make, Todo, rank}
 use Rattle.dnssec_policy.specs.Ttls.{at_most_due, higher_with, highest_of, if_retired, keeps}
-use Rattle.dnssec_policy.specs.Ttls.{lasting, report_takes}
-use Rattle.dnssec_policy.specs.View.{View, reach_in}
+use Rattle.dnssec_policy.specs.{Ttls.lasting, Ttls.report_takes, View.View, View.reach_in}
 use Rattle.dnssec_policy.proofs.{Dues.due-parts, InTime.by-rank, Said.may, Spreads.Spread}
 use Rattle.dnssec_policy.proofs.Order.{rank-le, roll-said}
 

@@ -1,27 +1,22 @@
 -- Automatic calls aren't by hand; and the first call that is, call by call.
 use Rattle.std.proofs.Common.{◌≡◌, ℕ, zero, suc, ◌≤◌, ◌⊎◌, inl, inr, Bool, true, false, List, []}
 use Rattle.std.proofs.Common.{◌∷◌, ◌++◌, Option, None, Some, length, length-append, refl, sym, ap}
-use Rattle.std.proofs.Common.{◌∙◌, arith}
-use Rattle.std.proofs.lemmas.Bool.{true≢false}
+use Rattle.std.proofs.{Common.◌∙◌, Common.arith, lemmas.Bool.true≢false}
 use Rattle.std.specs.Prelude.{◌&&◌, if◌then◌else◌, not, slice_get}
 use Rattle.std.specs.Option.{option_or}
 use Rattle.dnssec_keyset.specs.KeySet.{KeySetParts}
 use Rattle.dnssec_keyset.specs.Step as keyset
-use Rattle.dnssec_run.specs.declared.call.Call.{Call}
-use Rattle.dnssec_run.specs.declared.call.Call.TheVariants as call
-use Rattle.dnssec_run.specs.declared.record.Entry.{Entry}
+use Rattle.dnssec_run.specs.declared.{call.Call.Call, record.Entry.Entry}
 use Rattle.dnssec_run.specs.Record.{call_of, is_accepted, world_at}
 use Rattle.dnssec_run.proofs.Grow.{at_end, front, world_front}
-use Rattle.dnssec_policy.specs.declared.policy.Policy.{Policy}
-use Rattle.dnssec_policy.specs.declared.why.Why.{Why}
+use Rattle.dnssec_run.specs.declared.call.Call.TheVariants as call
+use Rattle.dnssec_policy.specs.declared.{policy.Policy.Policy, why.Why.Why}
 use Rattle.dnssec_policy.specs.Automatic.{is_add}
 use Rattle.dnssec_policy.specs.ByHand.{at_if_by_hand, by_hand_at, first_by_hand, is_by_hand}
-use Rattle.dnssec_policy.specs.ByHand.{is_others}
-use Rattle.dnssec_policy.specs.Laws.{AutomaticRunsAreUntouched}
+use Rattle.dnssec_policy.specs.{ByHand.is_others, Laws.AutomaticRunsAreUntouched}
 use Rattle.dnssec_policy.specs.Next.{answer_of, lasts, next_of, stuck_of, unless_by_hand}
 use Rattle.dnssec_policy.specs.Next.{unless_lasting}
-use Rattle.dnssec_policy.specs.Todo.{Make, NotBefore, Stuck, Todo}
-use Rattle.dnssec_policy.specs.View.{View}
+use Rattle.dnssec_policy.specs.{Todo.Make, Todo.NotBefore, Todo.Stuck, Todo.Todo, View.View}
 use Rattle.dnssec_policy.proofs.{PlainCalls.only, May.May, Said.may}
 
 -- ---- automatic calls

@@ -2,20 +2,16 @@
 use Rattle.std.proofs.lemmas.Bool.{and_parts}
 use Rattle.dnssec_key.specs.{Key.all_states, State.is_stale}
 use Rattle.std.proofs.Common.{◌≡◌, ℕ, ◌≤◌, Option, None, Some, refl, sym, ap, ◌∙◌, arith}
-use Rattle.dnssec_key.specs.declared.roll.RollState.{RollState}
-use Rattle.dnssec_key.specs.declared.roll.RollType.{RollType}
-use Rattle.dnssec_key.specs.declared.roll.Half.{Half}
+use Rattle.dnssec_key.specs.declared.roll.{RollState.RollState, RollType.RollType, Half.Half}
 use Rattle.dnssec_key.specs.declared.roll.Half.TheVariants.{First, Second}
 use Rattle.dnssec_key.specs.RollTable.{cache_expire}
-use Rattle.dnssec_zone.specs.Rolls.{phase_of}
-use Rattle.dnssec_zone.specs.Refusals.{end_refusal, report_refusal}
+use Rattle.dnssec_zone.specs.{Rolls.phase_of, Refusals.end_refusal, Refusals.report_refusal}
 use Rattle.dnssec_zone.specs.Wait.{Clear, ttl_in, wait_in_phase, barred_by}
 use Rattle.dnssec_keyset.specs.Step as keyset
 use Rattle.dnssec_keyset.specs.WaitEnd.{EndsAt, TellsEnd}
 use Rattle.dnssec_keyset.specs.declared.wait.WaitEnd.TheVariants.{At}
 use Rattle.dnssec_run.specs.WholeRolls.{propagation}
-use Rattle.dnssec_policy.specs.declared.policy.Policy.{Policy}
-use Rattle.dnssec_policy.specs.View.{View}
+use Rattle.dnssec_policy.specs.{declared.policy.Policy.Policy, View.View}
 use Rattle.dnssec_policy.proofs.{May.May, Accepted.free}
 
 -- the half in which a roll waits, and for how long

@@ -1,56 +1,40 @@
 -- A roll is done after its delays and its waits, and a lag for each call made meanwhile.
 use Rattle.std.proofs.Common.{◌≡◌, ℕ, zero, suc, ◌+◌, ◌*◌, ◌^◌, ◌<◌, ◌≤◌, ◌⊎◌, inl, inr, Bool, true}
 use Rattle.std.proofs.Common.{false, List, Option, None, Some, length, max, refl, sym, ap, subst}
-use Rattle.std.proofs.Common.{◌∙◌, arith}
-use Rattle.std.proofs.lemmas.Bool.{cases_lt, true≢false}
+use Rattle.std.proofs.{Common.◌∙◌, Common.arith, lemmas.Bool.cases_lt, lemmas.Bool.true≢false}
 use Rattle.std.proofs.lemmas.Option.{none-some, same_Some, slice_get_within}
-use Rattle.std.specs.Prelude.{if◌then◌else◌, slice_get, ◌&&◌}
-use Rattle.std.specs.Option.{option_map}
-use Rattle.dnssec_key.specs.declared.roll.RollState.{RollState}
-use Rattle.dnssec_key.specs.declared.roll.RollState.TheVariants.{Done}
-use Rattle.dnssec_key.specs.declared.roll.RollType.{RollType}
-use Rattle.dnssec_key.specs.declared.roll.Half.{Half}
+use Rattle.std.specs.{Prelude.if◌then◌else◌, Prelude.slice_get, Prelude.◌&&◌, Option.option_map}
+use Rattle.dnssec_key.specs.declared.roll.RollState.{RollState, TheVariants.Done}
+use Rattle.dnssec_key.specs.declared.roll.{RollType.RollType, Half.Half}
 use Rattle.dnssec_key.specs.declared.roll.Half.TheVariants.{First, Second}
 use Rattle.dnssec_key.specs.RollTable.{cache_expire, is_second}
 use Rattle.dnssec_zone.specs.Rolls.{phase_of, same_roll}
-use Rattle.dnssec_zone.specs.Start.{together}
-use Rattle.dnssec_zone.specs.Wait.{ttl_in, wait_in_phase}
+use Rattle.dnssec_zone.specs.{Start.together, Wait.ttl_in, Wait.wait_in_phase}
 use Rattle.dnssec_zone.specs.Wait as waits
-use Rattle.dnssec_keyset.specs.KeySet.{KeySetParts}
+use Rattle.dnssec_keyset.specs.{KeySet.KeySetParts, WaitEnd.EndsAt, WaitEnd.TellsEnd}
+use Rattle.dnssec_keyset.specs.declared.wait.WaitEnd.{WaitEnd, TheVariants.At, TheVariants.PastTime}
 use Rattle.dnssec_keyset.specs.Step as keyset
-use Rattle.dnssec_keyset.specs.WaitEnd.{EndsAt, TellsEnd}
-use Rattle.dnssec_keyset.specs.declared.wait.WaitEnd.{WaitEnd}
-use Rattle.dnssec_keyset.specs.declared.wait.WaitEnd.TheVariants.{At, PastTime}
-use Rattle.dnssec_run.specs.declared.call.Call.{Call}
-use Rattle.dnssec_run.specs.declared.record.Entry.{Entry}
-use Rattle.dnssec_run.specs.declared.record.Mark.TheVariants.{Report}
-use Rattle.dnssec_run.specs.Plain.{DoesAt}
+use Rattle.dnssec_run.specs.declared.{call.Call.Call, record.Entry.Entry}
+use Rattle.dnssec_run.specs.{declared.record.Mark.TheVariants.Report, Plain.DoesAt}
 use Rattle.dnssec_run.specs.Record.{IsRun, call_moment, call_of, is_accepted, world_at}
 use Rattle.dnssec_run.specs.Safe.{SetKind, Ds, Dnskey, ZoneSigners, base_below}
-use Rattle.dnssec_run.specs.Safe.{position_at, retires}
-use Rattle.dnssec_run.specs.Steps.{step_at}
+use Rattle.dnssec_run.specs.{Safe.position_at, Safe.retires, Steps.step_at}
 use Rattle.dnssec_run.specs.WholeRolls.{LastReport, NeverFalls, counts_from, propagation}
-use Rattle.dnssec_run.specs.WholeRolls as rolls
-use Rattle.dnssec_run.proofs.Chain.Rolls.{same-same, same-sym}
-use Rattle.dnssec_run.proofs.Chain.Trust.{mark, plainly}
+use Rattle.dnssec_run.proofs.Chain.{Rolls.same-same, Rolls.same-sym, Trust.mark, Trust.plainly}
 use Rattle.dnssec_run.proofs.Effects.{is_on}
 use Rattle.dnssec_run.proofs.Premise.{SetsNothing, end_of, same-rolls, sets-nothing}
 use Rattle.dnssec_run.proofs.WholeRolls.Waits.{clear-from}
+use Rattle.dnssec_run.specs.WholeRolls as rolls
 use Rattle.dnssec_network.specs.Network.{Network}
 use Rattle.dnssec_policy.specs.Automatic.{IsAutomatic, is_add, last_below}
 use Rattle.dnssec_policy.specs.Delays.{AreMade, Delays, HasTtls, IsAfter}
 use Rattle.dnssec_policy.specs.Delays.{SpreadWithin, Watch, delay_of, said}
 use Rattle.dnssec_policy.specs.Laws.{IsPrompt, UntilOver}
-use Rattle.dnssec_policy.specs.Todo.{Make, Todo, rank}
-use Rattle.dnssec_policy.specs.Ttls.{report_takes}
-use Rattle.dnssec_policy.specs.View.{View}
+use Rattle.dnssec_policy.specs.{Todo.Make, Todo.Todo, Todo.rank, Ttls.report_takes, View.View}
 use Rattle.dnssec_policy.proofs.PlainCalls.{automatic-plain}
-use Rattle.dnssec_policy.proofs.Bound.{ends-in-time, in-time, no-longer}
-use Rattle.dnssec_policy.proofs.May.{May}
+use Rattle.dnssec_policy.proofs.{Bound.ends-in-time, Bound.in-time, Bound.no-longer, May.May}
 use Rattle.dnssec_policy.proofs.Notes.{add-moment, at-now, none-ahead}
-use Rattle.dnssec_policy.proofs.Prompt.{prompt}
-use Rattle.dnssec_policy.proofs.Said.{may}
-use Rattle.dnssec_policy.proofs.Steps.{second_of}
+use Rattle.dnssec_policy.proofs.{Prompt.prompt, Said.may, Steps.second_of}
 
 -- ---- higher TTLs
 

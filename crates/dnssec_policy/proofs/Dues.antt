@@ -4,8 +4,7 @@ use Rattle.dnssec_key.specs.declared.roll.RollType.{RollType}
 use Rattle.dnssec_run.specs.declared.caches.SetKind.{SetKind as Kind}
 use Rattle.dnssec_run.specs.declared.caches.SetKind.TheVariants as code
 use Rattle.dnssec_run.specs.Safe.{SetKind, Ds, Dnskey, ZoneSigners, retires}
-use Rattle.dnssec_network.specs.declared.fact.Fact.{Fact}
-use Rattle.dnssec_network.specs.Facts.{Before}
+use Rattle.dnssec_network.specs.{declared.fact.Fact.Fact, Facts.Before}
 use Rattle.dnssec_network.specs.Reports.{due, due_of, higher}
 
 parts : (a b c : Result ℕ Kind) (n : ℕ) → higher (higher a b) c ≡ Ok n

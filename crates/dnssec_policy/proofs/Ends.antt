@@ -2,22 +2,15 @@
 use Rattle.std.proofs.Common.{◌≡◌, ℕ, ◌≤◌, ap, arith, inl, inr, List, subst, sym, false, true, ◌∙◌}
 use Rattle.std.proofs.lemmas.{Bool.and_parts, Option.same_Some}
 use Rattle.std.specs.{FinMap.get, Prelude.not}
-use Rattle.dnssec_key.specs.Key.{all_states}
-use Rattle.dnssec_key.specs.State.{is_stale}
-use Rattle.dnssec_key.specs.declared.roll.RollType.{RollType}
+use Rattle.dnssec_key.specs.{Key.all_states, State.is_stale, declared.roll.RollType.RollType}
 use Rattle.dnssec_keyset.specs.KeySet.{KeySetParts}
 use Rattle.dnssec_keyset.specs.Step as keyset
-use Rattle.dnssec_run.specs.declared.call.Call.{Call}
-use Rattle.dnssec_run.specs.declared.caches.SetKind.{SetKind}
-use Rattle.dnssec_run.specs.Record.{call_of}
-use Rattle.dnssec_run.specs.Safe.{kind_of}
-use Rattle.dnssec_network.specs.declared.reach.Reach.TheVariants.{Everywhere}
-use Rattle.dnssec_network.specs.Facts.{AreTrue}
+use Rattle.dnssec_run.specs.declared.{call.Call.Call, caches.SetKind.SetKind}
+use Rattle.dnssec_run.specs.{Record.call_of, Safe.kind_of}
+use Rattle.dnssec_network.specs.{declared.reach.Reach.TheVariants.Everywhere, Facts.AreTrue}
 use Rattle.dnssec_network.specs.Network.{Network, NeverGoesBack}
-use Rattle.dnssec_network.specs.Reach.{AllGive}
-use Rattle.dnssec_network.proofs.Reached.{all-give}
-use Rattle.dnssec_policy.specs.Automatic.{is_add}
-use Rattle.dnssec_policy.specs.Keys.{is_rolled}
+use Rattle.dnssec_network.{specs.Reach.AllGive, proofs.Reached.all-give}
+use Rattle.dnssec_policy.specs.{Automatic.is_add, Keys.is_rolled}
 use Rattle.dnssec_policy.specs.Laws.{AutomaticDeletionsFollow, AutomaticEndsFollow}
 use Rattle.dnssec_policy.specs.{Next.next_of, Todo.Make, declared.policy.Policy.Policy}
 use Rattle.dnssec_policy.specs.View.{View, reach_in}

@@ -7,12 +7,9 @@ use Rattle.std.proofs.lemmas.{Bool.cases_lt, Option.same_Some, Option.slice_get_
 use Rattle.std.specs.Prelude.{if◌then◌else◌, slice_get, ◌&&◌}
 use Rattle.std.specs.Option.{option_map, option_map_or}
 use Rattle.dnssec_key.specs.declared.roll.RollType.{RollType}
-use Rattle.dnssec_run.specs.declared.call.Call.{Call}
-use Rattle.dnssec_run.specs.declared.call.Call.TheVariants.{CacheExpired2}
+use Rattle.dnssec_run.specs.declared.call.Call.{Call, TheVariants.CacheExpired2}
 use Rattle.dnssec_zone.specs.Rolls.{same_roll}
-use Rattle.dnssec_run.specs.Record.{is_accepted}
-use Rattle.dnssec_run.specs.declared.record.Entry.{Entry}
-use Rattle.dnssec_run.specs.Published.{World}
+use Rattle.dnssec_run.specs.{Record.is_accepted, declared.record.Entry.Entry, Published.World}
 use Rattle.dnssec_run.specs.Safe.{base_below, blank, is_step, position_at, position_of}
 use Rattle.dnssec_run.specs.Steps.{last_step, origins_at, step_at}
 use Rattle.dnssec_run.proofs.Chain.History.{base-lies-below}

@@ -3,8 +3,7 @@ use Rattle.std.proofs.Common.{◌≡◌, ℕ, ◌≤◌, [], ◌∷◌, Option, 
 use Rattle.std.proofs.lemmas.Bool.{le-leb}
 use Rattle.std.specs.Prelude.{if◌then◌else◌, nat_le, Ok, not, ◌&&◌}
 use Rattle.std.specs.FinMap.{values}
-use Rattle.dnssec_key.specs.declared.roll.RollType.{RollType}
-use Rattle.dnssec_key.specs.declared.roll.RollType.TheVariants.{AlgorithmRoll}
+use Rattle.dnssec_key.specs.declared.roll.RollType.{RollType, TheVariants.AlgorithmRoll}
 use Rattle.dnssec_zone.specs.Keys.{some_key}
 use Rattle.dnssec_policy.specs.Keys.{first_over, is_unwanted, new_keys, renewal_of, role_of}
 use Rattle.dnssec_policy.specs.Keys.{roles_of, wants_others}

@@ -4,28 +4,20 @@ use Rattle.std.proofs.Common.{Some, map, max, refl, ap, ◌∙◌, arith}
 use Rattle.std.specs.Prelude.{if◌then◌else◌}
 use Rattle.dnssec_key.specs.declared.roll.RollType.{RollType}
 use Rattle.dnssec_keyset.specs.Step as keyset
-use Rattle.dnssec_run.specs.declared.call.Call.{Call}
-use Rattle.dnssec_run.specs.declared.record.Entry.{Entry}
-use Rattle.dnssec_run.specs.declared.record.Mark.TheVariants.{Report}
-use Rattle.dnssec_run.specs.declared.steps.LastStep.{LastStep}
-use Rattle.dnssec_run.specs.{Steps.origin_in}
-use Rattle.dnssec_run.specs.Record.{call_of}
+use Rattle.dnssec_run.specs.declared.{call.Call.Call, record.Entry.Entry}
+use Rattle.dnssec_run.specs.declared.{record.Mark.TheVariants.Report, steps.LastStep.LastStep}
+use Rattle.dnssec_run.specs.{Steps.origin_in, Record.call_of}
 use Rattle.dnssec_run.specs.Safe.{SetKind, Ds, Dnskey, ZoneSigners, retires}
 use Rattle.dnssec_run.proofs.Chain.Trust.{each-holds, mark, moment}
-use Rattle.dnssec_network.specs.Facts.{AreTrue}
-use Rattle.dnssec_network.specs.Network.{MayBeHeld, Network}
-use Rattle.dnssec_network.specs.Network.{ReportsAreTrue}
-use Rattle.dnssec_network.specs.Reports.{IsByNotes, NoneGoesBack}
-use Rattle.dnssec_network.proofs.Held.{held-cached, held-each}
-use Rattle.dnssec_network.proofs.Noted.{notes_make_reports_true}
-use Rattle.dnssec_policy.specs.declared.policy.Policy.{Policy}
-use Rattle.dnssec_policy.specs.Automatic.{IsAutomatic}
+use Rattle.dnssec_network.specs.{Facts.AreTrue, Network.MayBeHeld, Network.Network}
+use Rattle.dnssec_network.specs.{Network.ReportsAreTrue, Reports.IsByNotes, Reports.NoneGoesBack}
+use Rattle.dnssec_network.proofs.{Held.held-cached, Held.held-each, Noted.notes_make_reports_true}
+use Rattle.dnssec_policy.specs.{declared.policy.Policy.Policy, Automatic.IsAutomatic}
 use Rattle.dnssec_policy.specs.Kept.{AutomaticRunsServeKeepers, IsAutomaticKeeping, IsHeldBy}
 use Rattle.dnssec_policy.specs.Kept.{KeptAlgorithmsSign, keeping}
-use Rattle.dnssec_policy.specs.Ttls.{keeps, lasting}
-use Rattle.dnssec_policy.specs.View.{View}
+use Rattle.dnssec_policy.specs.{Ttls.keeps, Ttls.lasting, View.View}
 use Rattle.dnssec_policy.proofs.{PlainCalls.automatic-plain, May.May, Said.may}
-use Rattle.dnssec_policy.proofs.{Whole.automatic-whole}
+use Rattle.dnssec_policy.proofs.Whole.{automatic-whole}
 use Rattle.dnssec_policy.proofs.Kept.{kept_before, kept_fact, still-due, still-true}
 use Rattle.dnssec_policy.proofs.Notes.{all-by-notes, as-said, none-ahead}
 

@@ -16,9 +16,7 @@ use Rattle.dnssec_network.specs.Network.{Network}
 use Rattle.dnssec_network.specs.Reports.{due, due_of, due_or, higher}
 use Rattle.dnssec_network.specs.Spread.{after, due_for, expired_after, first_spread}
 use Rattle.dnssec_network.specs.Spread.{is_none_older, known, seconds_left, seconds_until}
-use Rattle.dnssec_policy.specs.Kept.{keeping}
-use Rattle.dnssec_policy.proofs.Dues.{due-parts}
-use Rattle.dnssec_policy.proofs.Spreads.{Spread}
+use Rattle.dnssec_policy.{specs.Kept.keeping, proofs.Dues.due-parts, proofs.Spreads.Spread}
 
 -- ---- the same notes, with a higher TTL for each DS set
 

@@ -8,46 +8,31 @@ use Rattle.std.specs.Prelude.{if◌then◌else◌, nat_lt, slice_get, unwrap_or,
 use Rattle.std.specs.List.{list_any}
 use Rattle.std.specs.{Cmp.Lexicographic.slice_cmp, Ordering.is_eq, Ordering.nat_cmp, FinMap.find}
 use Rattle.std.specs.FinMap.{entries as entries_of, get, get-entries}
-use Rattle.dnssec_key.specs.declared.roll.RollType.{RollType}
-use Rattle.dnssec_key.specs.declared.roll.RollType.TheVariants.{AlgorithmRoll}
+use Rattle.dnssec_key.specs.declared.roll.RollType.{RollType, TheVariants.AlgorithmRoll}
 use Rattle.dnssec_key.specs.Key.{KeyParts}
-use Rattle.dnssec_zone.specs.Rolls.{same_roll}
-use Rattle.dnssec_zone.specs.Start.{is_listed, texts}
-use Rattle.dnssec_keyset.specs.KeySet.{KeySetParts}
+use Rattle.dnssec_zone.specs.{Rolls.same_roll, Start.is_listed, Start.texts}
+use Rattle.dnssec_keyset.{specs.KeySet.KeySetParts, proofs.Laws.same-is}
 use Rattle.dnssec_keyset.specs.Step as keyset
-use Rattle.dnssec_keyset.proofs.Laws.{same-is}
-use Rattle.dnssec_run.specs.declared.call.Call.{Call}
-use Rattle.dnssec_run.specs.declared.call.Call.TheVariants.{StartRoll}
-use Rattle.dnssec_run.specs.declared.record.Entry.{Entry}
-use Rattle.dnssec_run.specs.Plain.{DoesAt, start_of}
+use Rattle.dnssec_run.specs.declared.call.Call.{Call, TheVariants.StartRoll}
+use Rattle.dnssec_run.specs.{declared.record.Entry.Entry, Plain.DoesAt, Plain.start_of}
 use Rattle.dnssec_run.specs.Record.{IsRun, call_of, is_accepted}
-use Rattle.dnssec_run.specs.WholeRolls.{IsAccepted}
-use Rattle.dnssec_run.proofs.Chain.Rolls.{same-same}
-use Rattle.dnssec_run.proofs.WholeRolls.Completion.{rolls-finish}
-use Rattle.dnssec_run.proofs.WholeRolls.Replies.{since}
+use Rattle.dnssec_run.{specs.WholeRolls.IsAccepted, proofs.Chain.Rolls.same-same}
+use Rattle.dnssec_run.proofs.WholeRolls.{Completion.rolls-finish, Replies.since}
 use Rattle.dnssec_network.specs.Network.{Network}
-use Rattle.dnssec_policy.specs.declared.policy.KeyRole.{KeyRole}
-use Rattle.dnssec_policy.specs.declared.policy.KskMethod.TheVariants as ksks
-use Rattle.dnssec_policy.specs.declared.policy.Policy.{Policy}
-use Rattle.dnssec_policy.specs.declared.policy.Scheme.{Scheme}
+use Rattle.dnssec_policy.specs.declared.policy.{KeyRole.KeyRole, Policy.Policy, Scheme.Scheme}
 use Rattle.dnssec_policy.specs.declared.policy.Scheme.TheVariants.{Split, SingleType}
-use Rattle.dnssec_policy.specs.declared.policy.Term.{Term}
-use Rattle.dnssec_policy.specs.declared.policy.ZskMethod.TheVariants as zsks
-use Rattle.dnssec_policy.specs.Automatic.{is_add}
+use Rattle.dnssec_policy.specs.{declared.policy.Term.Term, Automatic.is_add}
 use Rattle.dnssec_policy.specs.Delays.{AreMade, IsAfter, IsDue, KeysLeave, Watch, said}
 use Rattle.dnssec_policy.specs.Keys.{earlier, first_from, goes, over_by_age}
 use Rattle.dnssec_policy.specs.Keys.{over_from, over_on_demand, renewal_of, role_of}
-use Rattle.dnssec_policy.specs.Keys.{rolls_of, serves}
-use Rattle.dnssec_policy.specs.Next.{next_of}
-use Rattle.dnssec_policy.specs.Todo.{Make, rank}
-use Rattle.dnssec_policy.specs.View.{View}
-use Rattle.dnssec_policy.proofs.Accepted.{listed-in, works-goes}
-use Rattle.dnssec_policy.proofs.PlainCalls.{automatic-plain}
-use Rattle.dnssec_policy.proofs.Delays.{auto, in-turn}
+use Rattle.dnssec_policy.specs.{Keys.rolls_of, Keys.serves, Next.next_of, Todo.Make, Todo.rank}
+use Rattle.dnssec_policy.{specs.View.View, proofs.Accepted.listed-in, proofs.Accepted.works-goes}
+use Rattle.dnssec_policy.proofs.{PlainCalls.automatic-plain, Delays.auto, Delays.in-turn}
 use Rattle.dnssec_policy.proofs.InTime.{renewals-in-time}
 use Rattle.dnssec_policy.proofs.Lags.{costs-grow, more-by, none-by, sum-by}
-use Rattle.dnssec_policy.proofs.{May.May, May.is_renewal, Said.may}
-use Rattle.dnssec_policy.proofs.RollsEnd.{rolls-end}
+use Rattle.dnssec_policy.proofs.{May.May, May.is_renewal, Said.may, RollsEnd.rolls-end}
+use Rattle.dnssec_policy.specs.declared.policy.KskMethod.TheVariants as ksks
+use Rattle.dnssec_policy.specs.declared.policy.ZskMethod.TheVariants as zsks
 
 -- ---- whose time is over
 

@@ -1,19 +1,15 @@
 -- The line of a call that is said is read as that call, also after the lines of its script.
 use Rattle.std.proofs.Common.{◌≡◌, ℕ, suc, ◌≤◌, ◌*◌, ◌∙◌, inl, inr, true, List}
-use Rattle.std.proofs.Common.{[], ◌∷◌, Some, length, refl, sym, subst, ap}
-use Rattle.std.proofs.Common.{arith}
-use Rattle.std.proofs.Math.Bool.{or-true}
-use Rattle.std.proofs.lemmas.{Bool.true≢false, Option.none-some}
+use Rattle.std.proofs.Common.{[], ◌∷◌, Some, length, refl, sym, subst, ap, arith}
+use Rattle.std.proofs.{Math.Bool.or-true, lemmas.Bool.true≢false, lemmas.Option.none-some}
 use Rattle.std.specs.Prelude.{◌||◌, Ok, slice_get}
-use Rattle.std.specs.{Cmp.Lexicographic.bytes_decides, Cmp.Lexicographic.slice_cmp}
+use Rattle.std.specs.Cmp.Lexicographic.{bytes_decides, slice_cmp}
 use Rattle.std.specs.{FinMap.get-empty, Ordering.nat_cmp, Str.bytes_eq}
 use Rattle.dnssec_key.specs.declared.roll.RollType.{RollType}
 use Rattle.dnssec_zone.specs.Start.{is_listed}
-use Rattle.dnssec_keyset.specs.KeySet.{KeySetParts}
+use Rattle.dnssec_keyset.{specs.KeySet.KeySetParts, proofs.Changes.Changes}
 use Rattle.dnssec_keyset.specs.Step as keyset
-use Rattle.dnssec_keyset.proofs.Changes.{Changes}
-use Rattle.dnssec_run.specs.declared.call.Call.{Call}
-use Rattle.dnssec_run.specs.declared.record.Entry.{Entry}
+use Rattle.dnssec_run.specs.declared.{call.Call.Call, record.Entry.Entry}
 use Rattle.dnssec_run.specs.Record.{IsRun, call_of, reference_added, world_at}
 use Rattle.dnssec_run.proofs.Effects.{adds, came}
 use Rattle.dnssec_script.specs.Script.{IsLineOf, IsScript, is_reference}
@@ -21,18 +17,14 @@ use Rattle.dnssec_script.proofs.Added.{added-named}
 use Rattle.dnssec_record.proofs.Sessions.{script_more}
 use Rattle.dnssec_policy.specs.declared.policy.KeyRole.{KeyRole}
 use Rattle.dnssec_policy.specs.declared.policy.KeyRole.TheVariants.{Csk, Ksk, Zsk}
-use Rattle.dnssec_policy.specs.declared.policy.Policy.{Policy}
-use Rattle.dnssec_policy.specs.declared.policy.Scheme.{Scheme}
+use Rattle.dnssec_policy.specs.declared.policy.{Policy.Policy, Scheme.Scheme}
 use Rattle.dnssec_policy.specs.declared.policy.Scheme.TheVariants.{SingleType, Split}
 use Rattle.dnssec_policy.specs.Automatic.Said.{AnswersGoOn, CanNameKeys, SaidLinesAreRead}
-use Rattle.dnssec_policy.specs.Automatic.Said.{ScriptsNameKeys}
-use Rattle.dnssec_policy.specs.Automatic.Lines.{todo_line}
+use Rattle.dnssec_policy.specs.Automatic.{Said.ScriptsNameKeys, Lines.todo_line}
 use Rattle.dnssec_policy.specs.Keys.{goes, new_keys, references_where, role_of, roles_of}
 use Rattle.dnssec_policy.specs.View.{View}
 use Rattle.dnssec_policy.proofs.Accepted.{old-goes, one-new, two-new}
-use Rattle.dnssec_policy.proofs.ByHand.{answered}
-use Rattle.dnssec_policy.proofs.{May.May, Said.may}
-use Rattle.dnssec_policy.proofs.May.{IsStart}
+use Rattle.dnssec_policy.proofs.{ByHand.answered, May.May, Said.may, May.IsStart}
 use Rattle.dnssec_policy.proofs.PlainCalls.{each-set}
 use Rattle.dnssec_policy.proofs.Texts.Calls.{AreNamed, IsSaidAt, call-back}
 

@@ -2,9 +2,7 @@
 use Rattle.std.proofs.Common.{◌≡◌, ℕ, Bool, true, false, List, [], ◌∷◌, Option, None, Some, refl}
 use Rattle.std.proofs.Common.{sym, ap, ◌∙◌, map, string_bytes, Bor, String}
 use Rattle.std.specs.Prelude.{if◌then◌else◌, ◌&&◌, filter, ◌++◌, Result, Ok, Err}
-use Rattle.std.proofs.lemmas.List.{append_assoc}
-use Rattle.std.proofs.lemmas.List.{map-append}
-use Rattle.std.proofs.Math.Seq.{drop-cons}
+use Rattle.std.proofs.{lemmas.List.append_assoc, lemmas.List.map-append, Math.Seq.drop-cons}
 use Rattle.std.proofs.Common.{suc, ◌<◌, drop, get_or, length}
 use Rattle.std.specs.Prelude.{slice_get}
 use Rattle.dnssec_zone.specs.Start.{texts}
@@ -13,23 +11,17 @@ use Rattle.dnssec_policy.specs.Keys.{first_of, is_new, new_keys, references_wher
 use Rattle.dnssec_policy.specs.declared.policy.KeyRole.{KeyRole}
 use Rattle.std.specs.{Global.Global, List.list_all, List.list_any, FinMap.entries}
 use Rattle.dnssec_keyset.specs.declared.wait.WaitEnd.{WaitEnd}
-use Rattle.dnssec_key.specs.declared.roll.RollType.{RollType}
-use Rattle.dnssec_key.specs.Key.{KeyParts}
-use Rattle.dnssec_zone.specs.Keys.{Keys, some_key}
-use Rattle.dnssec_zone.proofs.Quantified.{list_any-map}
+use Rattle.dnssec_key.specs.{declared.roll.RollType.RollType, Key.KeyParts}
+use Rattle.dnssec_zone.{specs.Keys.Keys, specs.Keys.some_key, proofs.Quantified.list_any-map}
 use Rattle.dnssec_run.specs.InOrder.{entry_of}
 use Rattle.dnssec_policy.specs.Code.{passing}
 use Rattle.dnssec_policy.specs.Keys.{earlier, first_over, over_from, serves, with_key}
 use Rattle.dnssec_policy.specs.declared.policy.Term.{Term}
 use Rattle.dnssec_policy.specs.Next.{deletion, deletions, once_ended}
-use Rattle.dnssec_policy.specs.Todo.{Rest, Todo, sooner}
-use Rattle.dnssec_policy.specs.View.{View}
+use Rattle.dnssec_policy.specs.{Todo.Rest, Todo.Todo, Todo.sooner, View.View}
 use Rattle.std.specs.List.{fold}
-use Rattle.std.proofs.lemmas.List.Folds.{fold-map}
-use Rattle.std.proofs.lemmas.List.Sums.{fold-append}
-use Rattle.std.proofs.lemmas.List.{take_more}
-use Rattle.std.proofs.Common.{take, ◌+◌}
-use Rattle.std.specs.FinMap.{values}
+use Rattle.std.proofs.lemmas.List.{Folds.fold-map, Sums.fold-append, take_more}
+use Rattle.std.{proofs.Common.take, proofs.Common.◌+◌, specs.FinMap.values}
 use mathlib.Core.List.{map-map}
 
 abbrev pub Lent : Type 0

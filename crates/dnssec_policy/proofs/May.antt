@@ -1,31 +1,19 @@
 -- What a call that is said says of the set and the notes by which it is said.
-use Rattle.std.proofs.Common.{◌≡◌, ℕ, ◌≤◌, ◌⊎◌, Bool, true, false, List, [], ◌∷◌}
-use Rattle.std.proofs.Common.{Some}
-use Rattle.std.specs.Prelude.{Ok}
-use Rattle.std.specs.FinMap.{get}
-use Rattle.dnssec_key.specs.declared.roll.RollState.TheVariants.{Done}
-use Rattle.dnssec_key.specs.declared.roll.RollType.{RollType}
-use Rattle.dnssec_key.specs.declared.roll.RollType.TheVariants.{AlgorithmRoll}
-use Rattle.dnssec_key.specs.Key.{KeyParts}
+use Rattle.std.proofs.Common.{◌≡◌, ℕ, ◌≤◌, ◌⊎◌, Bool, true, false, List, [], ◌∷◌, Some}
+use Rattle.std.specs.{Prelude.Ok, FinMap.get}
+use Rattle.dnssec_key.specs.declared.roll.{RollState.TheVariants.Done, RollType.RollType}
+use Rattle.dnssec_key.specs.{declared.roll.RollType.TheVariants.AlgorithmRoll, Key.KeyParts}
 use Rattle.dnssec_key.specs.RollTable.{cache_expire, is_second}
-use Rattle.dnssec_zone.specs.Keys.{some_key}
-use Rattle.dnssec_zone.specs.Rolls.{phase_of}
+use Rattle.dnssec_zone.specs.{Keys.some_key, Rolls.phase_of}
 use Rattle.dnssec_keyset.specs.Step as keyset
 use Rattle.dnssec_keyset.specs.declared.wait.WaitEnd.TheVariants.{At}
-use Rattle.dnssec_run.specs.declared.caches.SetKind.{SetKind}
-use Rattle.dnssec_run.specs.declared.steps.LastStep.{LastStep}
-use Rattle.dnssec_run.specs.{Steps.origin_in}
-use Rattle.dnssec_run.specs.WholeRolls.{propagation}
-use Rattle.dnssec_network.specs.declared.reach.Reach.TheVariants.{Everywhere}
-use Rattle.dnssec_network.specs.Reports.{due}
-use Rattle.dnssec_policy.specs.declared.policy.Policy.{Policy}
-use Rattle.dnssec_policy.specs.InProgress.{ends_with}
-use Rattle.dnssec_policy.specs.Keys.{goes, has_left, is_unwanted}
-use Rattle.dnssec_policy.specs.Keys.{new_keys, references_where}
+use Rattle.dnssec_run.specs.declared.{caches.SetKind.SetKind, steps.LastStep.LastStep}
+use Rattle.dnssec_run.specs.{Steps.origin_in, WholeRolls.propagation}
+use Rattle.dnssec_network.specs.{declared.reach.Reach.TheVariants.Everywhere, Reports.due}
+use Rattle.dnssec_policy.specs.{declared.policy.Policy.Policy, InProgress.ends_with}
+use Rattle.dnssec_policy.specs.Keys.{goes, has_left, is_unwanted, new_keys, references_where}
 use Rattle.dnssec_policy.specs.Keys.{role_of, roles_of, serves}
-use Rattle.dnssec_policy.specs.Next.{may_begin}
-use Rattle.dnssec_policy.specs.Ttls.{lasting}
-use Rattle.dnssec_policy.specs.View.{View, reach_in}
+use Rattle.dnssec_policy.specs.{Next.may_begin, Ttls.lasting, View.View, View.reach_in}
 
 -- a roll that renews keys
 abbrev pub is_renewal : RollType → Bool

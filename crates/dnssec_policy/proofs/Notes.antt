@@ -1,33 +1,27 @@
 -- Reports that are said are by notes, and no moment that is said lies ahead of the clock.
 use Rattle.std.proofs.Common.{◌≡◌, ℕ, zero, suc, inl, inr, Bool, true, List}
 use Rattle.std.proofs.Common.{None, Some, length, refl, sym, ap, subst, ◌∙◌, arith}
-use Rattle.std.proofs.lemmas.Bool.{cases_lt}
-use Rattle.std.proofs.lemmas.Option.{none-some, slice_get_past}
+use Rattle.std.proofs.lemmas.{Bool.cases_lt, Option.none-some, Option.slice_get_past}
 use Rattle.std.specs.Option.{option_map}
 use Rattle.std.specs.Prelude.{◌+◌, ◌≤◌, ◌⊎◌, Ok, false, if◌then◌else◌, max, slice_get}
 use Rattle.dnssec_key.specs.declared.roll.RollType.{RollType}
 use Rattle.dnssec_key.specs.declared.roll.Half.TheVariants.{First, Second}
 use Rattle.dnssec_key.specs.RollTable.{is_second}
 use Rattle.dnssec_keyset.specs.Step as keyset
-use Rattle.dnssec_run.specs.declared.call.Call.{Call}
-use Rattle.dnssec_run.specs.declared.record.Entry.{Entry}
+use Rattle.dnssec_run.specs.declared.{call.Call.Call, record.Entry.Entry}
 use Rattle.dnssec_run.specs.declared.record.Mark.TheVariants.{Other, Report}
 use Rattle.dnssec_run.specs.declared.steps.LastStep.{LastStep}
 use Rattle.dnssec_run.specs.{Origins.origin, Steps.last_step, Steps.origin_in, Steps.step_at}
 use Rattle.dnssec_run.specs.Record.{IsRun, call_moment, call_of}
 use Rattle.dnssec_run.specs.Safe.{SetKind, Ds, ZoneSigners, base_below, position_at, retires}
 use Rattle.dnssec_run.proofs.Chain.Trust.{mark, moment, plainly}
-use Rattle.dnssec_run.proofs.Laws.{made-at}
-use Rattle.dnssec_run.proofs.Since.{origin-of}
+use Rattle.dnssec_run.proofs.{Laws.made-at, Since.origin-of}
 use Rattle.dnssec_run.proofs.WholeRolls.Replies.{outcome, position-is}
-use Rattle.dnssec_network.specs.Facts.{AreTrue}
-use Rattle.dnssec_network.specs.Network.{Network, NoneLiesAhead}
+use Rattle.dnssec_network.specs.{Facts.AreTrue, Network.Network, Network.NoneLiesAhead}
 use Rattle.dnssec_network.specs.Reports.{IsByNotes, ReportsAreByNotes, due}
 use Rattle.dnssec_policy.specs.declared.policy.Policy.{Policy}
-use Rattle.dnssec_policy.specs.Automatic.{IsAutomatic, is_add}
-use Rattle.dnssec_policy.specs.Ttls.{keeps, lasting}
-use Rattle.dnssec_policy.specs.View.{View}
-use Rattle.dnssec_policy.proofs.{PlainCalls.said, May.May}
+use Rattle.dnssec_policy.specs.{Automatic.IsAutomatic, Automatic.is_add, Ttls.keeps, Ttls.lasting}
+use Rattle.dnssec_policy.{specs.View.View, proofs.PlainCalls.said, proofs.May.May}
 
 -- ---- one call
 

@@ -5,8 +5,7 @@ use Rattle.std.proofs.lemmas.Bool.{cases_Bool, or_parts, true≢false}
 use Rattle.std.specs.Prelude.{if◌then◌else◌, ◌||◌, ◌&&◌, nat_lt, nat_eq}
 use Rattle.std.specs.List.{fold, list_any}
 use Rattle.dnssec_key.specs.declared.roll.RollType.{RollType}
-use Rattle.std.proofs.Common.{Some, cond}
-use Rattle.std.proofs.lemmas.Option.{same_Some}
+use Rattle.std.proofs.{Common.Some, Common.cond, lemmas.Option.same_Some}
 use Rattle.std.specs.{Cmp.Lexicographic.slice_cmp, Ordering.nat_cmp, Ordering.is_eq}
 use Rattle.std.specs.FinMap.{entries, find}
 use Rattle.dnssec_key.specs.Key.{KeyParts}
@@ -14,13 +13,11 @@ use Rattle.dnssec_zone.proofs.Quantified.{same_key}
 use Rattle.dnssec_zone.specs.Rolls.{all_rolls, phase_of, same_roll}
 use Rattle.dnssec_keyset.proofs.{Laws.same-is}
 use Rattle.dnssec_key.specs.declared.roll.RollType.TheVariants.{CskRoll}
-use Rattle.dnssec_policy.specs.declared.policy.Policy.{Policy}
-use Rattle.dnssec_policy.specs.declared.policy.Scheme.{Scheme}
+use Rattle.dnssec_policy.specs.declared.policy.{Policy.Policy, Scheme.Scheme}
 use Rattle.dnssec_policy.specs.declared.policy.Scheme.TheVariants.{Split, SingleType}
 use Rattle.dnssec_policy.specs.Keys.{ksk_roll, rolls_of, zsk_roll}
 use Rattle.dnssec_policy.specs.Next.{change, deletion, deletions, next_of, phase_next, renewal}
-use Rattle.dnssec_policy.specs.Next.{renewals, rolls_next}
-use Rattle.dnssec_policy.specs.Stuck.{stuck, stuck_of}
+use Rattle.dnssec_policy.specs.{Next.renewals, Next.rolls_next, Stuck.stuck, Stuck.stuck_of}
 use Rattle.dnssec_policy.specs.Todo.{Todo, Rest, is_sooner, moment_of, rank, sooner}
 use Rattle.dnssec_policy.specs.View.{View}
 

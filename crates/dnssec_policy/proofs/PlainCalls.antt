@@ -6,39 +6,29 @@ use Rattle.std.proofs.lemmas.Bool.{and_parts, cases_Bool, true≢false}
 use Rattle.std.proofs.lemmas.Option.{none-some, slice_get_within}
 use Rattle.std.specs.Prelude.{slice_get}
 use Rattle.std.specs.{Cmp.Lexicographic.slice_cmp, Ordering.nat_cmp, FinMap.get, FinMap.get-empty}
-use Rattle.dnssec_key.specs.declared.kind.KeyType.{KeyType}
-use Rattle.dnssec_key.specs.declared.roll.RollState.{RollState}
-use Rattle.dnssec_key.specs.declared.roll.RollType.{RollType}
-use Rattle.dnssec_key.specs.declared.roll.RollType.TheVariants.{AlgorithmRoll}
+use Rattle.dnssec_key.specs.declared.{kind.KeyType.KeyType, roll.RollState.RollState}
+use Rattle.dnssec_key.specs.declared.roll.RollType.{RollType, TheVariants.AlgorithmRoll}
 use Rattle.dnssec_key.specs.Key.{KeyParts}
-use Rattle.dnssec_key.specs.declared.roll.Half.{Half}
-use Rattle.dnssec_key.specs.declared.roll.Half.TheVariants.{First, Second}
+use Rattle.dnssec_key.specs.declared.roll.Half.{Half, TheVariants.First, TheVariants.Second}
 use Rattle.dnssec_key.specs.RollTable.{column, half_of, cache_expire}
-use Rattle.dnssec_zone.specs.Rolls.{phase_of}
-use Rattle.dnssec_zone.specs.Start.{is_listed}
+use Rattle.dnssec_zone.specs.{Rolls.phase_of, Start.is_listed}
 use Rattle.dnssec_zone.specs.Wait as waits
-use Rattle.dnssec_keyset.specs.KeySet.{KeySetParts}
+use Rattle.dnssec_keyset.{specs.KeySet.KeySetParts, proofs.Changes.Changes, proofs.Laws.same-is}
 use Rattle.dnssec_keyset.specs.Step as keyset
-use Rattle.dnssec_keyset.proofs.{Changes.Changes, Laws.same-is}
-use Rattle.dnssec_run.specs.declared.call.Call.{Call}
-use Rattle.dnssec_run.specs.declared.call.Call.TheVariants as call
-use Rattle.dnssec_run.specs.declared.record.Entry.{Entry}
+use Rattle.dnssec_run.specs.declared.{call.Call.Call, record.Entry.Entry}
 use Rattle.dnssec_run.specs.Plain.{IsPlain, needs_algorithm_roll, sets_only_others}
 use Rattle.dnssec_run.specs.Published.{in_ds}
 use Rattle.dnssec_run.specs.Record.{IsRun, call_of, is_accepted, world_at}
 use Rattle.dnssec_run.specs.WholeRolls.{propagation}
-use Rattle.dnssec_run.proofs.Chain.RollFacts.{still_ds}
-use Rattle.dnssec_run.proofs.Chain.Trust.{adds_blank, plainly}
+use Rattle.dnssec_run.proofs.Chain.{RollFacts.still_ds, Trust.adds_blank, Trust.plainly}
 use Rattle.dnssec_run.proofs.Effects.{came, is_on, key_added, moved_key, phase-came, phase_put}
 use Rattle.dnssec_run.proofs.Effects.{start-kind}
-use Rattle.dnssec_run.proofs.Premise.{DoesAt, first_wait_of, start_of, same-rolls}
-use Rattle.dnssec_run.proofs.Premise.{first_wait-made}
+use Rattle.dnssec_run.proofs.Premise.{DoesAt, first_wait_of, start_of, same-rolls, first_wait-made}
 use Rattle.dnssec_run.proofs.WholeRolls.Replies.{does, outcome, since}
+use Rattle.dnssec_run.specs.declared.call.Call.TheVariants as call
 use Rattle.dnssec_network.specs.Network.{Network}
 use Rattle.dnssec_policy.specs.Automatic.{IsAutomatic, IsSaid, is_add}
-use Rattle.dnssec_policy.specs.declared.policy.Policy.{Policy}
-use Rattle.dnssec_policy.specs.Keys.{role_of, serves}
-use Rattle.dnssec_policy.specs.View.{View}
+use Rattle.dnssec_policy.specs.{declared.policy.Policy.Policy, Keys.role_of, Keys.serves, View.View}
 use Rattle.dnssec_policy.proofs.{May.IsStart, May.May, Said.may}
 
 -- ---- a run

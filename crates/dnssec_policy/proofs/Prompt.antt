@@ -8,48 +8,38 @@ use Rattle.dnssec_base.specs.declared.error.Error.{Error}
 use Rattle.dnssec_key.specs.declared.roll.RollState.{RollState}
 use Rattle.dnssec_key.specs.declared.roll.RollState.TheVariants.{Propagation1, CacheExpire1}
 use Rattle.dnssec_key.specs.declared.roll.RollState.TheVariants.{Propagation2, CacheExpire2, Done}
-use Rattle.dnssec_key.specs.declared.roll.RollType.{RollType}
-use Rattle.dnssec_key.specs.declared.roll.Half.{Half}
+use Rattle.dnssec_key.specs.declared.roll.{RollType.RollType, Half.Half}
 use Rattle.dnssec_key.specs.declared.roll.Half.TheVariants.{First, Second}
 use Rattle.dnssec_key.specs.RollTable.{cache_expire, is_second}
-use Rattle.dnssec_zone.specs.Rolls.{phase_of}
-use Rattle.dnssec_zone.specs.Wait.{longest_left}
+use Rattle.dnssec_zone.specs.{Rolls.phase_of, Wait.longest_left}
 use Rattle.dnssec_zone.specs.Wait as waits
-use Rattle.dnssec_keyset.specs.KeySet.{KeySetParts}
+use Rattle.dnssec_keyset.specs.{KeySet.KeySetParts, WaitEnd.HasNoWait}
+use Rattle.dnssec_keyset.specs.declared.wait.WaitEnd.{WaitEnd, TheVariants.At, TheVariants.PastTime}
 use Rattle.dnssec_keyset.specs.Step as keyset
-use Rattle.dnssec_keyset.specs.WaitEnd.{HasNoWait}
-use Rattle.dnssec_keyset.specs.declared.wait.WaitEnd.{WaitEnd}
-use Rattle.dnssec_keyset.specs.declared.wait.WaitEnd.TheVariants.{At, PastTime}
-use Rattle.dnssec_run.specs.declared.call.Call.{Call}
-use Rattle.dnssec_run.specs.declared.caches.SetKind.{SetKind}
+use Rattle.dnssec_run.specs.declared.{call.Call.Call, caches.SetKind.SetKind}
 use Rattle.dnssec_run.specs.declared.caches.SetKind.TheVariants.{Ds, Dnskey, ZoneSigners}
 use Rattle.dnssec_run.specs.declared.record.Entry.{Entry}
-use Rattle.dnssec_run.specs.declared.{steps.LastStep.LastStep, steps.Origins.Origins}
+use Rattle.dnssec_run.specs.declared.steps.{LastStep.LastStep, Origins.Origins}
 use Rattle.dnssec_run.specs.Record.{IsRun, world_at}
 use Rattle.dnssec_run.specs.{Safe.kind_of, Steps.origin_in, Steps.step_at}
 use Rattle.dnssec_run.proofs.Premise.{sets-nothing}
 use Rattle.dnssec_run.proofs.WholeRolls.Order.{by-time, in-order}
 use Rattle.dnssec_network.specs.declared.reach.Reach.{Reach}
 use Rattle.dnssec_network.specs.declared.reach.Reach.TheVariants.{Unpublished, Spreading}
-use Rattle.dnssec_network.specs.declared.reach.Reach.TheVariants.{Everywhere}
-use Rattle.dnssec_network.specs.Network.{Network}
+use Rattle.dnssec_network.specs.{declared.reach.Reach.TheVariants.Everywhere, Network.Network}
 use Rattle.dnssec_network.specs.Reports.{due}
 use Rattle.dnssec_policy.specs.declared.policy.Policy.{Policy}
 use Rattle.dnssec_policy.specs.Automatic.{IsAutomatic, IsViewAt}
 use Rattle.dnssec_policy.specs.InProgress.{awaited, end_next, ends_with, once, once_settled}
-use Rattle.dnssec_policy.specs.declared.why.Why.TheVariants as why
 use Rattle.dnssec_policy.specs.InProgress.{later, once_there, report_next, report_or, report_with}
 use Rattle.dnssec_policy.specs.InProgress.{roll_next, wait_next}
-use Rattle.dnssec_policy.specs.Laws.{IsPrompt, IsSoon, UntilOver}
-use Rattle.dnssec_policy.specs.Next.{next_of}
-use Rattle.dnssec_policy.specs.Next.{phase_next}
-use Rattle.dnssec_policy.specs.Todo.{Todo, Make, NotBefore, Stuck}
-use Rattle.dnssec_policy.specs.Todo.{rank}
-use Rattle.dnssec_policy.specs.Ttls.{lasting}
-use Rattle.dnssec_policy.specs.View.{View, reach_in}
+use Rattle.dnssec_policy.specs.{Laws.IsPrompt, Laws.IsSoon, Laws.UntilOver, Next.next_of}
+use Rattle.dnssec_policy.specs.{Next.phase_next, Todo.Todo, Todo.Make, Todo.NotBefore, Todo.Stuck}
+use Rattle.dnssec_policy.specs.{Todo.rank, Ttls.lasting, View.View, View.reach_in}
 use Rattle.dnssec_policy.proofs.PlainCalls.{automatic-plain}
 use Rattle.dnssec_policy.proofs.Order.{NotLater, no-later, rank-le, roll-said}
 use Rattle.dnssec_policy.proofs.Steps.{lasted, stepped}
+use Rattle.dnssec_policy.specs.declared.why.Why.TheVariants as why
 
 -- ---- what is said is no later
 

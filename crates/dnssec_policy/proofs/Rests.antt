@@ -3,45 +3,35 @@ use Rattle.std.proofs.Common.{◌≡◌, ℕ, ◌≤◌, Bool, true, false, List
 use Rattle.std.proofs.Common.{refl, sym, ap, subst, ◌∙◌, arith}
 use Rattle.std.proofs.lemmas.Bool.{or_parts, true≢false}
 use Rattle.std.specs.Prelude.{if◌then◌else◌, Result, Ok, Err, nat_le, is_none, is_some, not, ◌&&◌}
-use Rattle.std.specs.{List.fold, List.list_any}
-use Rattle.std.specs.FinMap.{get, get-entries, values}
+use Rattle.std.specs.{List.fold, List.list_any, FinMap.get, FinMap.get-entries, FinMap.values}
 use Rattle.dnssec_key.specs.declared.roll.RollState.{RollState}
 use Rattle.dnssec_key.specs.declared.roll.RollState.TheVariants.{Propagation1, CacheExpire1}
 use Rattle.dnssec_key.specs.declared.roll.RollState.TheVariants.{Propagation2, CacheExpire2, Done}
-use Rattle.dnssec_key.specs.declared.roll.RollType.{RollType}
-use Rattle.dnssec_key.specs.declared.roll.RollType.TheVariants.{AlgorithmRoll}
-use Rattle.dnssec_key.specs.declared.kind.KeyType.{KeyType}
-use Rattle.dnssec_key.specs.Key.{KeyParts, all_states}
+use Rattle.dnssec_key.specs.declared.roll.RollType.{RollType, TheVariants.AlgorithmRoll}
+use Rattle.dnssec_key.specs.{declared.kind.KeyType.KeyType, Key.KeyParts, Key.all_states}
 use Rattle.dnssec_key.specs.State.{is_stale}
-use Rattle.dnssec_key.specs.declared.roll.Half.{Half}
-use Rattle.dnssec_key.specs.declared.roll.Half.TheVariants.{First, Second}
+use Rattle.dnssec_key.specs.declared.roll.Half.{Half, TheVariants.First, TheVariants.Second}
 use Rattle.dnssec_key.specs.RollTable.{is_second}
 use Rattle.dnssec_zone.specs.Keys.{some_key}
 use Rattle.dnssec_zone.specs.Rolls.{Rolls, all_rolls, phase_of, same_roll}
 use Rattle.dnssec_zone.specs.Start.{conflict, has_conflict, lists_kind, side_of, together}
 use Rattle.dnssec_keyset.specs.Step as keyset
-use Rattle.dnssec_keyset.specs.declared.wait.WaitEnd.{WaitEnd}
-use Rattle.dnssec_keyset.specs.declared.wait.WaitEnd.TheVariants.{At, PastTime}
+use Rattle.dnssec_keyset.specs.declared.wait.WaitEnd.{WaitEnd, TheVariants.At, TheVariants.PastTime}
 use Rattle.dnssec_run.specs.declared.caches.SetKind.{SetKind}
 use Rattle.dnssec_run.specs.declared.{steps.LastStep.LastStep, steps.Origins.Origins}
 use Rattle.dnssec_run.specs.{Safe.kind_of, Steps.origin_in}
-use Rattle.dnssec_network.specs.declared.reach.Reach.{Reach}
-use Rattle.dnssec_network.specs.Reports.{due}
-use Rattle.dnssec_policy.specs.declared.policy.KeyRole.{KeyRole}
-use Rattle.dnssec_policy.specs.declared.policy.Policy.{Policy}
+use Rattle.dnssec_network.specs.{declared.reach.Reach.Reach, Reports.due}
+use Rattle.dnssec_policy.specs.declared.policy.{KeyRole.KeyRole, Policy.Policy}
 use Rattle.dnssec_policy.specs.InProgress.{awaited, end_next, report_next, report_or, roll_next}
-use Rattle.dnssec_policy.specs.InProgress.{later, wait_next}
-use Rattle.dnssec_policy.specs.declared.why.Why.{Why}
+use Rattle.dnssec_policy.specs.{InProgress.later, InProgress.wait_next, declared.why.Why.Why}
 use Rattle.dnssec_policy.specs.Keys.{first_over, has_left, is_rolled, is_unwanted, leaves_from}
 use Rattle.dnssec_policy.specs.Keys.{new_keys, renewal_of, role_of, roles_of, rolls_of}
-use Rattle.dnssec_policy.specs.Keys.{wants_others}
-use Rattle.dnssec_policy.specs.Laws.{RestIsAsWanted}
+use Rattle.dnssec_policy.specs.{Keys.wants_others, Laws.RestIsAsWanted}
 use Rattle.dnssec_policy.specs.Next.{at_moment, change, deletion, may_begin, next_of}
 use Rattle.dnssec_policy.specs.Next.{once_all_ended, once_ended, phase_next, renewal, start_with}
 use Rattle.dnssec_policy.specs.Stuck.{stuck, stuck_of}
 use Rattle.dnssec_policy.specs.Todo.{Make, NotBefore, Rest, Todo, rank}
-use Rattle.dnssec_policy.specs.Ttls.{lasting}
-use Rattle.dnssec_policy.specs.View.{View, reach_in}
+use Rattle.dnssec_policy.specs.{Ttls.lasting, View.View, View.reach_in}
 use Rattle.dnssec_policy.proofs.Order.{NotLater, cause-said, change-said, rank-le}
 use Rattle.dnssec_policy.proofs.Order.{entry-said, renewal-said, roll-said}
 use Rattle.dnssec_policy.proofs.Prompt.{settled-rank, wait-rank as timed-rank}

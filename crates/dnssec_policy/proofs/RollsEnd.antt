@@ -15,19 +15,18 @@ use Rattle.dnssec_zone.specs.Wait as waits
 use Rattle.dnssec_keyset.specs.KeySet.{KeySetParts}
 use Rattle.dnssec_keyset.specs.Step as keyset
 use Rattle.dnssec_keyset.proofs.{Changes.Changes, Laws.no_cause, Laws.same-is}
-use Rattle.dnssec_run.specs.declared.call.Call.{Call}
-use Rattle.dnssec_run.specs.declared.record.Entry.{Entry}
+use Rattle.dnssec_run.specs.declared.{call.Call.Call, record.Entry.Entry}
 use Rattle.dnssec_run.specs.declared.record.Mark.TheVariants.{Other, Report, Step}
 use Rattle.dnssec_run.specs.Plain.{DoesAt}
 use Rattle.dnssec_run.specs.Record.{IsRun, call_of, is_accepted, world_at}
 use Rattle.dnssec_run.specs.Safe.{SetKind, base_below, is_step, position_at}
 use Rattle.dnssec_run.specs.WholeRolls.{IsAccepted, propagation}
-use Rattle.dnssec_run.specs.WholeRolls as rolls
 use Rattle.dnssec_run.proofs.Chain.{Allowed.spreads, Allowed.waits_in_phase, Rolls.same-same}
 use Rattle.dnssec_run.proofs.Chain.{History.base_here, History.base_same, Trust.mark}
 use Rattle.dnssec_run.proofs.{Effects.is_on, Effects.phase_put, Effects.phases, Premise.end_of}
 use Rattle.dnssec_run.proofs.Asked.Reports.{unstepped}
 use Rattle.dnssec_run.proofs.WholeRolls.Replies.{outcome, since, start-beside, world_of}
+use Rattle.dnssec_run.specs.WholeRolls as rolls
 use Rattle.dnssec_network.specs.Network.{Network}
 use Rattle.dnssec_policy.specs.Automatic.{is_last, last_below}
 use Rattle.dnssec_policy.specs.Delays.{AreMade, Delays, HasTtls, IsAfter, IsDone, RollsEnd}

@@ -3,8 +3,7 @@ use Rattle.std.proofs.Common.{◌≡◌, ℕ, ◌⊎◌, inl, inr, Bool, true, f
 use Rattle.std.proofs.Common.{Option, None, Some, refl, sym, ap, subst, ◌∙◌, arith, map}
 use Rattle.std.proofs.lemmas.Bool.{and_parts, cases_Bool, leb-true, true≢false}
 use Rattle.std.specs.Prelude.{if◌then◌else◌, Result, Ok, Err, T, nat_le, not, ◌&&◌, ◌||◌}
-use Rattle.std.specs.List.{fold, list_any}
-use Rattle.std.specs.{Cmp.Lexicographic.slice_cmp, Ordering.nat_cmp}
+use Rattle.std.specs.{List.fold, List.list_any, Cmp.Lexicographic.slice_cmp, Ordering.nat_cmp}
 use Rattle.std.specs.FinMap.{entries, entries_sorted, find, get, get-entries, values}
 use Rattle.std.specs.FinMap.Entries.{is_sorted}
 use Rattle.dnssec_key.specs.declared.roll.RollState.{RollState}
@@ -13,35 +12,24 @@ use Rattle.dnssec_key.specs.declared.roll.RollState.TheVariants.{Propagation2, C
 use Rattle.dnssec_key.specs.declared.roll.RollType.{RollType}
 use Rattle.dnssec_key.specs.declared.roll.RollType.TheVariants.{AlgorithmRoll, CskRoll}
 use Rattle.dnssec_key.specs.Key.{KeyParts}
-use Rattle.dnssec_key.specs.declared.roll.Half.{Half}
-use Rattle.dnssec_key.specs.declared.roll.Half.TheVariants.{First, Second}
+use Rattle.dnssec_key.specs.declared.roll.Half.{Half, TheVariants.First, TheVariants.Second}
 use Rattle.dnssec_key.specs.RollTable.{cache_expire, is_second}
-use Rattle.dnssec_zone.specs.Keys.{some_key}
-use Rattle.dnssec_zone.specs.Rolls.{all_rolls, phase_of, same_roll}
+use Rattle.dnssec_zone.specs.{Keys.some_key, Rolls.all_rolls, Rolls.phase_of, Rolls.same_roll}
 use Rattle.dnssec_zone.proofs.Quantified.{here-found, later-found, second}
 use Rattle.dnssec_keyset.proofs.Laws.{same-is}
+use Rattle.dnssec_keyset.specs.declared.wait.WaitEnd.{WaitEnd, TheVariants.At, TheVariants.PastTime}
 use Rattle.dnssec_keyset.specs.Step as keyset
-use Rattle.dnssec_keyset.specs.declared.wait.WaitEnd.{WaitEnd}
-use Rattle.dnssec_keyset.specs.declared.wait.WaitEnd.TheVariants.{At, PastTime}
 use Rattle.dnssec_run.specs.declared.caches.SetKind.{SetKind}
 use Rattle.dnssec_run.specs.declared.caches.SetKind.TheVariants.{Ds, Dnskey, ZoneSigners}
-use Rattle.dnssec_run.specs.declared.steps.LastStep.{LastStep}
-use Rattle.dnssec_run.specs.{Safe.kind_of, Steps.origin_in}
+use Rattle.dnssec_run.specs.{declared.steps.LastStep.LastStep, Safe.kind_of, Steps.origin_in}
 use Rattle.dnssec_run.specs.WholeRolls.{propagation}
 use Rattle.dnssec_network.specs.declared.reach.Reach.{Reach}
 use Rattle.dnssec_network.specs.declared.reach.Reach.TheVariants.{Unpublished, Spreading}
-use Rattle.dnssec_network.specs.declared.reach.Reach.TheVariants.{Everywhere}
-use Rattle.dnssec_network.specs.Reports.{due}
-use Rattle.dnssec_policy.specs.declared.policy.KeyRole.{KeyRole}
-use Rattle.dnssec_policy.specs.declared.policy.KskMethod.{KskMethod}
-use Rattle.dnssec_policy.specs.declared.policy.KskMethod.TheVariants as ksks
-use Rattle.dnssec_policy.specs.declared.policy.Policy.{Policy}
-use Rattle.dnssec_policy.specs.declared.policy.Term.{Term}
-use Rattle.dnssec_policy.specs.declared.policy.Scheme.{Scheme}
+use Rattle.dnssec_network.specs.{declared.reach.Reach.TheVariants.Everywhere, Reports.due}
+use Rattle.dnssec_policy.specs.declared.policy.{KeyRole.KeyRole, KskMethod.KskMethod, Policy.Policy}
+use Rattle.dnssec_policy.specs.declared.policy.{Term.Term, Scheme.Scheme}
 use Rattle.dnssec_policy.specs.declared.policy.Scheme.TheVariants.{Split, SingleType}
-use Rattle.dnssec_policy.specs.declared.policy.ZskMethod.{ZskMethod}
-use Rattle.dnssec_policy.specs.declared.policy.ZskMethod.TheVariants as zsks
-use Rattle.dnssec_policy.specs.declared.why.Why.{Why}
+use Rattle.dnssec_policy.specs.declared.{policy.ZskMethod.ZskMethod, why.Why.Why}
 use Rattle.dnssec_policy.specs.InProgress.{awaited, end_next, ends_with, later, once, once_settled}
 use Rattle.dnssec_policy.specs.InProgress.{once_there, report_next, report_or, wait_next}
 use Rattle.dnssec_policy.specs.Keys.{earlier, first_from, first_over, goes, has_left, is_unwanted}
@@ -49,12 +37,12 @@ use Rattle.dnssec_policy.specs.Keys.{ksk_roll, leaves_from, new_keys, over_from,
 use Rattle.dnssec_policy.specs.Keys.{renewal_of, role_of, roles_of, serves, wants_others, zsk_roll}
 use Rattle.dnssec_policy.specs.Next.{at_moment, change, deletion, deletions, may_begin, next_of}
 use Rattle.dnssec_policy.specs.Next.{once_all_ended, once_ended, phase_next, renewal, renewals}
-use Rattle.dnssec_policy.specs.Next.{rolls_next, start_with}
-use Rattle.dnssec_policy.specs.Stuck.{stuck, stuck_of}
+use Rattle.dnssec_policy.specs.{Next.rolls_next, Next.start_with, Stuck.stuck, Stuck.stuck_of}
 use Rattle.dnssec_policy.specs.Todo.{Todo, Make, NotBefore, Rest, is_sooner, sooner}
-use Rattle.dnssec_policy.specs.Ttls.{lasting}
-use Rattle.dnssec_policy.specs.View.{View, reach_in}
+use Rattle.dnssec_policy.specs.{Ttls.lasting, View.View, View.reach_in}
 use Rattle.dnssec_policy.proofs.May.{IsChange, IsRenewal, IsSettled, May, is_renewal}
+use Rattle.dnssec_policy.specs.declared.policy.KskMethod.TheVariants as ksks
+use Rattle.dnssec_policy.specs.declared.policy.ZskMethod.TheVariants as zsks
 
 -- ---- of two
 

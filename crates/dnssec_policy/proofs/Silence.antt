@@ -3,33 +3,24 @@ use Rattle.std.proofs.Common.{◌≡◌, ℕ, ◌≤◌, inl, inr, Bool, true, f
 use Rattle.std.proofs.Common.{None, Some, refl, sym, ap, subst, ◌∙◌, arith}
 use Rattle.std.proofs.lemmas.Bool.{cases_Bool, or_parts, true≢false}
 use Rattle.std.specs.Prelude.{◌&&◌, ◌||◌, not, Result, Ok, Err, if◌then◌else◌}
-use Rattle.std.specs.List.{fold, list_any}
-use Rattle.std.specs.Option.{option_or}
-use Rattle.std.specs.FinMap.{get, values}
-use Rattle.dnssec_key.specs.declared.roll.RollState.{RollState}
-use Rattle.dnssec_key.specs.declared.roll.RollType.{RollType}
+use Rattle.std.specs.{List.fold, List.list_any, Option.option_or, FinMap.get, FinMap.values}
+use Rattle.dnssec_key.specs.declared.roll.{RollState.RollState, RollType.RollType}
 use Rattle.dnssec_key.specs.declared.roll.RollType.TheVariants.{AlgorithmRoll, CskRoll}
 use Rattle.dnssec_key.specs.Key.{KeyParts}
-use Rattle.dnssec_zone.specs.Keys.{some_key}
-use Rattle.dnssec_zone.specs.Rolls.{all_rolls, phase_of, same_roll}
+use Rattle.dnssec_zone.specs.{Keys.some_key, Rolls.all_rolls, Rolls.phase_of, Rolls.same_roll}
 use Rattle.dnssec_zone.proofs.Quantified.{some_key-none}
 use Rattle.dnssec_keyset.proofs.Laws.{same-is}
-use Rattle.dnssec_policy.specs.declared.policy.KeyRole.{KeyRole}
-use Rattle.dnssec_policy.specs.declared.policy.Policy.{Policy}
-use Rattle.dnssec_policy.specs.declared.policy.Scheme.{Scheme}
+use Rattle.dnssec_policy.specs.declared.policy.{KeyRole.KeyRole, Policy.Policy, Scheme.Scheme}
 use Rattle.dnssec_policy.specs.declared.policy.Scheme.TheVariants.{Split, SingleType}
-use Rattle.dnssec_policy.specs.declared.why.Why.{Why}
-use Rattle.dnssec_policy.specs.declared.why.Why.TheVariants.{Barred, OldKeyInUse}
+use Rattle.dnssec_policy.specs.declared.why.Why.{Why, TheVariants.Barred, TheVariants.OldKeyInUse}
 use Rattle.dnssec_policy.specs.InProgress.{roll_next}
 use Rattle.dnssec_policy.specs.Keys.{first_over, is_left_over, is_unwanted, ksk_roll, new_keys}
 use Rattle.dnssec_policy.specs.Keys.{renewal_of, role_of, roles_of, rolls_of, wants_others}
-use Rattle.dnssec_policy.specs.Keys.{zsk_roll}
-use Rattle.dnssec_policy.specs.Laws.{IsStuck, IsUnderWay, NothingIsSilent}
+use Rattle.dnssec_policy.specs.{Keys.zsk_roll, Laws.IsStuck, Laws.IsUnderWay, Laws.NothingIsSilent}
 use Rattle.dnssec_policy.specs.Next.{at_moment, change, next_of, renewal, start_with}
 use Rattle.dnssec_policy.specs.Stuck.{barred_if, is_over, is_reached, keys_why, may_begin}
 use Rattle.dnssec_policy.specs.Stuck.{phase_why, renewal_why, renewals_why, rolls_why, starts_why}
-use Rattle.dnssec_policy.specs.Stuck.{why_of}
-use Rattle.dnssec_policy.specs.Todo.{NotBefore, Rest, Todo, rank}
+use Rattle.dnssec_policy.specs.{Stuck.why_of, Todo.NotBefore, Todo.Rest, Todo.Todo, Todo.rank}
 use Rattle.dnssec_policy.specs.View.{View}
 use Rattle.dnssec_policy.proofs.Order.{change-said, rank-le, renewal-said}
 

@@ -6,34 +6,26 @@ use Rattle.std.proofs.Common.{◌≡◌, ◌≢◌, ℕ, suc, ◌≤◌, inl, in
 use Rattle.std.proofs.Common.{Option, None, Some, length, refl, sym, ap, subst, ◌∙◌, arith}
 use Rattle.std.proofs.lemmas.Bool.{false_from_ne_true, true≢false}
 use Rattle.std.proofs.lemmas.Option.{none-some, same_Some, slice_get_within}
-use Rattle.std.specs.Prelude.{slice_get}
-use Rattle.std.specs.{Cmp.Lexicographic.slice_cmp}
+use Rattle.std.specs.{Prelude.slice_get, Cmp.Lexicographic.slice_cmp}
 use Rattle.std.specs.{FinMap.get-empty, Ordering.nat_cmp}
-use Rattle.dnssec_key.specs.declared.roll.RollType.{RollType}
-use Rattle.dnssec_key.specs.declared.roll.RollType.TheVariants.{AlgorithmRoll}
+use Rattle.dnssec_key.specs.declared.roll.RollType.{RollType, TheVariants.AlgorithmRoll}
 use Rattle.dnssec_key.specs.Key.{KeyParts}
 use Rattle.dnssec_zone.specs.Wait as waits
-use Rattle.dnssec_keyset.specs.KeySet.{KeySetParts}
+use Rattle.dnssec_keyset.{specs.KeySet.KeySetParts, proofs.Changes.Changes}
 use Rattle.dnssec_keyset.specs.Step as keyset
-use Rattle.dnssec_keyset.proofs.Changes.{Changes}
-use Rattle.dnssec_run.specs.declared.call.Call.{Call}
-use Rattle.dnssec_run.specs.declared.call.Call.TheVariants as call
-use Rattle.dnssec_run.specs.declared.record.Entry.{Entry}
+use Rattle.dnssec_run.specs.declared.{call.Call.Call, record.Entry.Entry}
 use Rattle.dnssec_run.specs.ByAlgorithm.{KeepsWhole, keeps_ksk, keeps_zsk}
-use Rattle.dnssec_run.specs.Plain.{start_of}
-use Rattle.dnssec_run.specs.Record.{IsRun, call_of, world_at}
+use Rattle.dnssec_run.specs.{Plain.start_of, Record.IsRun, Record.call_of, Record.world_at}
 use Rattle.dnssec_run.proofs.Chain.Trust.{adds_blank, plainly}
+use Rattle.dnssec_run.proofs.{Effects.moved_key, WholeRolls.Replies.did}
+use Rattle.dnssec_run.specs.declared.call.Call.TheVariants as call
 use Rattle.dnssec_run.proofs.Effects.{came, deleted-stale, deletes, goes as stays}
-use Rattle.dnssec_run.proofs.Effects.{moved_key}
-use Rattle.dnssec_run.proofs.WholeRolls.Replies.{did}
 use Rattle.dnssec_key.specs.declared.roll.Half.{Half}
 use Rattle.dnssec_key.specs.{RollTable.half_of, declared.kind.KeyType.KeyType}
 use Rattle.dnssec_network.specs.Network.{Network}
 use Rattle.dnssec_policy.specs.declared.policy.Policy.{Policy}
-use Rattle.dnssec_policy.specs.Automatic.{IsAutomatic, is_add}
-use Rattle.dnssec_policy.specs.View.{View}
-use Rattle.dnssec_policy.proofs.PlainCalls.{added, each-set, said}
-use Rattle.dnssec_policy.proofs.May.{May}
+use Rattle.dnssec_policy.specs.{Automatic.IsAutomatic, Automatic.is_add, View.View}
+use Rattle.dnssec_policy.proofs.{PlainCalls.added, PlainCalls.each-set, PlainCalls.said, May.May}
 use Rattle.dnssec_policy.proofs.Whole.Keys.{HasOf, is_alike, IsWhole, waited-alike, waited-ksk}
 use Rattle.dnssec_policy.proofs.Whole.Keys.{waited-zsk, stale-zsk, blank-kept}
 use Rattle.dnssec_policy.proofs.Whole.Starts.{none-new, started-whole}

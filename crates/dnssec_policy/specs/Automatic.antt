@@ -17,15 +17,10 @@ use Rattle.dnssec_run.specs.declared.call.Call.TheVariants.{AddKeyKsk, AddKeyZsk
 use Rattle.dnssec_run.specs.declared.call.Call.TheVariants.{AddPublicKey, CacheExpired2}
 use Rattle.dnssec_run.specs.declared.record.Entry.{Entry}
 use Rattle.dnssec_run.specs.Record.{call_of, is_accepted, world_at}
-use Rattle.dnssec_run.specs.Safe.{SetKind}
-use Rattle.dnssec_run.specs.Steps.{last_step}
-use Rattle.dnssec_network.specs.Facts.{AreTrue}
-use Rattle.dnssec_network.specs.Network.{Network}
-use Rattle.dnssec_policy.specs.declared.policy.Policy.{Policy}
-use Rattle.dnssec_policy.specs.Next.{next_of}
-use Rattle.dnssec_policy.specs.Todo.{Make}
-use Rattle.dnssec_policy.specs.Ttls.{highest_of}
-use Rattle.dnssec_policy.specs.View.{View}
+use Rattle.dnssec_run.specs.{Safe.SetKind, Steps.last_step}
+use Rattle.dnssec_network.specs.{Facts.AreTrue, Network.Network}
+use Rattle.dnssec_policy.specs.{declared.policy.Policy.Policy, Next.next_of, Todo.Make}
+use Rattle.dnssec_policy.specs.{Ttls.highest_of, View.View}
 
 -- ---- the last second wait of a roll
 

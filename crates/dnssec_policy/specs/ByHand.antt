@@ -1,18 +1,13 @@
 -- Calls that a person makes by hand: no policy says them, so no law says what may follow.
 use Rattle.std.specs.Prelude.{ℕ, zero, suc, ◌&&◌, not, Bool, true, false, List, slice_get}
 use Rattle.std.specs.Prelude.{Option, None, Some, if◌then◌else◌}
-use Rattle.std.specs.Option.{option_or}
-use Rattle.std.specs.FinMap.{get}
-use Rattle.dnssec_key.specs.declared.kind.KeyType.{KeyType}
-use Rattle.dnssec_key.specs.declared.kind.KeyType.TheVariants.{Include}
+use Rattle.std.specs.{Option.option_or, FinMap.get}
+use Rattle.dnssec_key.specs.declared.kind.KeyType.{KeyType, TheVariants.Include}
 use Rattle.dnssec_key.specs.Key.{KeyParts}
 use Rattle.dnssec_keyset.specs.KeySet.{KeySetParts}
-use Rattle.dnssec_run.specs.declared.call.Call.{Call}
-use Rattle.dnssec_run.specs.declared.call.Call.TheVariants.{AbortRoll}
-use Rattle.dnssec_run.specs.declared.record.Entry.{Entry}
-use Rattle.dnssec_run.specs.declared.record.Reply.{Reply}
-use Rattle.dnssec_run.specs.Plain.{sets_only_others}
-use Rattle.dnssec_run.specs.Record.{is_accepted, world_at}
+use Rattle.dnssec_run.specs.declared.call.Call.{Call, TheVariants.AbortRoll}
+use Rattle.dnssec_run.specs.declared.record.{Entry.Entry, Reply.Reply}
+use Rattle.dnssec_run.specs.{Plain.sets_only_others, Record.is_accepted, Record.world_at}
 
 -- ---- one call
 

@@ -1,37 +1,25 @@
 -- What the code keeps and answers, in the words of the definitions.
 use denote.Ref.{Bor}
 use Rattle.std.specs.Prelude.{◌≡◌, ℕ, Bool, false, List, map, filter, Option, None, Some, get_or}
-use Rattle.std.specs.Prelude.{if◌then◌else◌}
-use Rattle.std.specs.Prelude.{Result, Ok, Err}
-use Rattle.std.specs.FinMap.{entries}
-use Rattle.std.specs.Global.{Global}
-use Rattle.std.specs.declared.string.String.{String}
-use Rattle.std.specs.declared.vec.Vec.{Vec}
+use Rattle.std.specs.Prelude.{if◌then◌else◌, Result, Ok, Err}
+use Rattle.std.specs.{FinMap.entries, Global.Global}
+use Rattle.std.specs.declared.{string.String.String, vec.Vec.Vec}
 use Rattle.dnssec_keyset.specs.KeySet.{KeySetParts}
 use Rattle.dnssec_policy.specs.declared.policy.KeyRole.{KeyRole}
-use Rattle.dnssec_key.specs.declared.roll.RollType.{RollType}
-use Rattle.dnssec_key.specs.Key.{KeyParts}
-use Rattle.dnssec_zone.specs.Rolls.{roll_number, same_roll}
-use Rattle.dnssec_zone.specs.Start.{texts}
+use Rattle.dnssec_key.specs.{declared.roll.RollType.RollType, Key.KeyParts}
+use Rattle.dnssec_zone.specs.{Rolls.roll_number, Rolls.same_roll, Start.texts}
 use Rattle.dnssec_keyset.specs.Step as keyset
 use Rattle.dnssec_keyset.specs.declared.wait.WaitEnd.{WaitEnd}
-use Rattle.dnssec_run.specs.declared.call.Call.{Call}
-use Rattle.dnssec_run.specs.declared.call.Call.TheVariants.{CacheExpired2}
-use Rattle.dnssec_run.specs.declared.record.Reply.{Reply}
-use Rattle.dnssec_run.specs.InOrder.{entry_of}
-use Rattle.dnssec_run.specs.Record.{is_accepted}
+use Rattle.dnssec_run.specs.declared.call.Call.{Call, TheVariants.CacheExpired2}
+use Rattle.dnssec_run.specs.{declared.record.Reply.Reply, InOrder.entry_of, Record.is_accepted}
 use Rattle.dnssec_run.specs.Steps.{step_of}
-use Rattle.dnssec_policy.specs.declared.last_waits.LastWaits.{LastWaits}
-use Rattle.dnssec_policy.specs.declared.keys.Pick.{Pick}
+use Rattle.dnssec_policy.specs.declared.{last_waits.LastWaits.LastWaits, keys.Pick.Pick}
 use Rattle.dnssec_policy.specs.declared.keys.Pick.TheVariants.{Old, New}
-use Rattle.dnssec_policy.specs.declared.state.Ends.{Ends}
-use Rattle.dnssec_policy.specs.declared.state.State.{State}
-use Rattle.dnssec_policy.specs.declared.todo.Next.{Next}
-use Rattle.dnssec_policy.specs.declared.todo.Next.TheVariants as code
-use Rattle.dnssec_policy.specs.Keys.{goes, is_new}
-use Rattle.dnssec_policy.specs.Ttls.{ttl_in}
+use Rattle.dnssec_policy.specs.declared.{state.Ends.Ends, state.State.State, todo.Next.Next}
+use Rattle.dnssec_policy.specs.{Keys.goes, Keys.is_new, Ttls.ttl_in}
 use Rattle.dnssec_policy.specs.Todo.{Make, NeedKey, NotBefore, Publish, Rest, Stuck, Todo, Watch}
 use Rattle.dnssec_policy.specs.View.{View}
+use Rattle.dnssec_policy.specs.declared.todo.Next.TheVariants as code
 
 -- ---- last second waits
 

@@ -3,35 +3,24 @@
 use Rattle.std.specs.Prelude.{◌≡◌, ◌⊎◌, ℕ, suc, ◌+◌, ◌-◌, ◌*◌, ◌^◌, ◌<◌, ◌≤◌, true, false, List, []}
 use Rattle.std.specs.Prelude.{◌∷◌, length, slice_get, unwrap_or, Some, Ok}
 use Rattle.std.specs.{FinMap.get, List.list_any}
-use Rattle.dnssec_key.specs.declared.roll.RollState.TheVariants.{Done}
-use Rattle.dnssec_key.specs.declared.roll.RollType.{RollType}
+use Rattle.dnssec_key.specs.declared.roll.{RollState.TheVariants.Done, RollType.RollType}
 use Rattle.dnssec_key.specs.Key.{KeyParts}
-use Rattle.dnssec_key.specs.declared.roll.Half.{Half}
-use Rattle.dnssec_key.specs.declared.roll.Half.TheVariants.{First, Second}
+use Rattle.dnssec_key.specs.declared.roll.Half.{Half, TheVariants.First, TheVariants.Second}
 use Rattle.dnssec_key.specs.RollTable.{is_second}
-use Rattle.dnssec_zone.specs.Keys.{some_key}
-use Rattle.dnssec_zone.specs.Rolls.{phase_of, same_roll}
+use Rattle.dnssec_zone.specs.{Keys.some_key, Rolls.phase_of, Rolls.same_roll}
 use Rattle.dnssec_keyset.specs.Step as keyset
-use Rattle.dnssec_run.specs.declared.call.Call.{Call}
-use Rattle.dnssec_run.specs.declared.record.Entry.{Entry}
-use Rattle.dnssec_run.specs.declared.caches.SetKind.{SetKind}
-use Rattle.dnssec_run.specs.declared.steps.LastStep.{LastStep}
-use Rattle.dnssec_run.specs.Plain.{DoesAt, start_of}
-use Rattle.dnssec_run.specs.Record.{IsRun, call_of, world_at}
-use Rattle.dnssec_run.specs.Safe.{SetKind as AnyKind, kind_of, retires}
-use Rattle.dnssec_run.specs.Steps.{origin_in}
+use Rattle.dnssec_run.specs.declared.{call.Call.Call, record.Entry.Entry, caches.SetKind.SetKind}
+use Rattle.dnssec_run.specs.{declared.steps.LastStep.LastStep, Plain.DoesAt, Plain.start_of}
+use Rattle.dnssec_run.specs.{Record.IsRun, Record.call_of, Record.world_at, Steps.origin_in}
 use Rattle.dnssec_run.specs.WholeRolls.{HasLeft, IsAccepted, end_of, propagation}
-use Rattle.dnssec_network.specs.declared.reach.Reach.TheVariants.{Everywhere}
-use Rattle.dnssec_network.specs.Network.{Network}
-use Rattle.dnssec_policy.specs.declared.policy.Policy.{Policy}
-use Rattle.dnssec_policy.specs.Automatic.{IsViewAt, is_add}
+use Rattle.dnssec_run.specs.Safe.{SetKind as AnyKind, kind_of, retires}
+use Rattle.dnssec_network.specs.{declared.reach.Reach.TheVariants.Everywhere, Network.Network}
+use Rattle.dnssec_policy.specs.{declared.policy.Policy.Policy, Automatic.IsViewAt, Automatic.is_add}
 use Rattle.dnssec_policy.specs.InProgress.{ends_with}
 use Rattle.dnssec_policy.specs.Keys.{is_unwanted, new_keys, renewal_of, role_of, rolls_of, serves}
-use Rattle.dnssec_policy.specs.Laws.{NoneLiesAheadOf}
-use Rattle.dnssec_policy.specs.Next.{may_begin, next_of}
+use Rattle.dnssec_policy.specs.{Laws.NoneLiesAheadOf, Next.may_begin, Next.next_of}
 use Rattle.dnssec_policy.specs.Todo.{Make, Todo, rank}
-use Rattle.dnssec_policy.specs.Ttls.{report_takes, roll_takes}
-use Rattle.dnssec_policy.specs.View.{View, reach_in}
+use Rattle.dnssec_policy.specs.{Ttls.report_takes, Ttls.roll_takes, View.View, View.reach_in}
 
 -- ---- calls that are made once they are said
 

@@ -1,16 +1,13 @@
 -- How a roll in progress goes on: a report once it is due by the notes, a wait once it is over, and
 -- the end once what the last actions wait for is on all servers.
 use Rattle.std.specs.Prelude.{ℕ, ◌+◌, Bool, true, false, nat_le, Option, None, Some}
-use Rattle.std.specs.Prelude.{if◌then◌else◌, Result, Ok, Err}
-use Rattle.std.specs.List.{list_any}
-use Rattle.dnssec_key.specs.declared.roll.Action.{Action}
-use Rattle.dnssec_key.specs.declared.roll.Action.TheVariants.{WaitDnskeyPropagated}
+use Rattle.std.specs.{Prelude.if◌then◌else◌, Prelude.Result, Prelude.Ok, Prelude.Err, List.list_any}
+use Rattle.dnssec_key.specs.declared.roll.Action.{Action, TheVariants.WaitDnskeyPropagated}
 use Rattle.dnssec_key.specs.declared.roll.Action.TheVariants.{WaitDsPropagated, WaitRrsigPropagated}
 use Rattle.dnssec_key.specs.declared.roll.RollState.{RollState}
 use Rattle.dnssec_key.specs.declared.roll.RollState.TheVariants.{Propagation1, CacheExpire1}
 use Rattle.dnssec_key.specs.declared.roll.RollState.TheVariants.{Propagation2, CacheExpire2, Done}
-use Rattle.dnssec_key.specs.declared.roll.RollType.{RollType}
-use Rattle.dnssec_key.specs.declared.roll.Half.{Half}
+use Rattle.dnssec_key.specs.declared.roll.{RollType.RollType, Half.Half}
 use Rattle.dnssec_key.specs.declared.roll.Half.TheVariants.{First, Second}
 use Rattle.dnssec_key.specs.RollTable.{actions_of, is_second}
 use Rattle.dnssec_keyset.specs.Step.{Report, RollDone, Wait}
@@ -18,14 +15,11 @@ use Rattle.dnssec_keyset.specs.declared.wait.WaitEnd.{WaitEnd}
 use Rattle.dnssec_keyset.specs.declared.wait.WaitEnd.TheVariants as end
 use Rattle.dnssec_run.specs.declared.caches.SetKind.{SetKind}
 use Rattle.dnssec_run.specs.declared.caches.SetKind.TheVariants.{Ds, Dnskey, ZoneSigners}
-use Rattle.dnssec_run.specs.declared.steps.LastStep.{LastStep}
-use Rattle.dnssec_run.specs.declared.steps.Origins.{Origins}
-use Rattle.dnssec_run.specs.Safe.{kind_of}
-use Rattle.dnssec_run.specs.Steps.{origin_in}
+use Rattle.dnssec_run.specs.declared.steps.{LastStep.LastStep, Origins.Origins}
+use Rattle.dnssec_run.specs.{Safe.kind_of, Steps.origin_in}
 use Rattle.dnssec_network.specs.declared.reach.Reach.{Reach}
 use Rattle.dnssec_network.specs.declared.reach.Reach.TheVariants.{Unpublished, Spreading}
-use Rattle.dnssec_network.specs.declared.reach.Reach.TheVariants.{Everywhere}
-use Rattle.dnssec_network.specs.Reports.{due}
+use Rattle.dnssec_network.specs.{declared.reach.Reach.TheVariants.Everywhere, Reports.due}
 use Rattle.dnssec_policy.specs.Ttls.{lasting}
 use Rattle.dnssec_policy.specs.Todo.{Todo, Make, Publish, Watch, NotBefore, Stuck}
 use Rattle.dnssec_policy.specs.declared.why.Why.TheVariants.{NoStep, NoStamp, PastTime, NoLastWait}

@@ -4,16 +4,13 @@
 use Rattle.std.specs.Prelude.{◌≡◌, ℕ, ◌+◌, ◌*◌, ◌<◌, ◌≤◌, ◌⊎◌, true, List, slice_get, Some}
 use Rattle.std.specs.List.{Contains}
 use Rattle.dnssec_run.specs.ByAlgorithm.{TrustsZoneBy, algorithm_of}
-use Rattle.dnssec_run.specs.declared.call.Call.{Call}
-use Rattle.dnssec_run.specs.declared.record.Entry.{Entry}
-use Rattle.dnssec_run.specs.Published.{Id}
-use Rattle.dnssec_run.specs.Record.{IsRun}
+use Rattle.dnssec_run.specs.declared.{call.Call.Call, record.Entry.Entry}
+use Rattle.dnssec_run.specs.{Published.Id, Record.IsRun}
 use Rattle.dnssec_run.specs.Safe.{SetKind, Ds, Dnskey, ZoneSigners, position_at}
 use Rattle.dnssec_network.specs.ByAlgorithm.{FindChainByEach}
 use Rattle.dnssec_network.specs.Network.{IsGiven, IsNetworkOf, MayBeHeld, Network}
 use Rattle.dnssec_network.specs.Reports.{NoneGoesBack}
-use Rattle.dnssec_policy.specs.Automatic.{IsSaid, is_add}
-use Rattle.dnssec_policy.specs.Ttls.{keeps}
+use Rattle.dnssec_policy.specs.{Automatic.IsSaid, Automatic.is_add, Ttls.keeps}
 
 -- ---- as if DS sets were held for longer
 

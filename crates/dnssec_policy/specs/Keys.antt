@@ -2,31 +2,25 @@
 use Rattle.std.specs.Prelude.{ℕ, ◌+◌, ◌*◌, ◌&&◌, ◌||◌, not, Bool, List, [], ◌∷◌, is_some}
 use Rattle.std.specs.Prelude.{map, filter, nat_eq, nat_lt, Option, None, Some, unwrap_or}
 use Rattle.std.specs.Prelude.{if◌then◌else◌, Result, Ok, Err}
-use Rattle.std.specs.List.{fold, list_all, list_any}
-use Rattle.std.specs.FinMap.{entries}
-use Rattle.dnssec_key.specs.declared.kind.KeyType.{KeyType}
-use Rattle.dnssec_key.specs.declared.roll.RollType.{RollType}
+use Rattle.std.specs.{List.fold, List.list_all, List.list_any, FinMap.entries}
+use Rattle.dnssec_key.specs.declared.{kind.KeyType.KeyType, roll.RollType.RollType}
 use Rattle.dnssec_key.specs.declared.roll.RollType.TheVariants.{KskRoll, KskDoubleDsRoll, ZskRoll}
 use Rattle.dnssec_key.specs.declared.roll.RollType.TheVariants.{ZskDoubleSignatureRoll, CskRoll}
 use Rattle.dnssec_key.specs.Key.{KeyParts, all_states, either, ksk, zsk, ksk_role, zsk_role}
 use Rattle.dnssec_key.specs.State.{Flags, is_active_ksk, is_active_zsk, is_any, is_fresh, is_kept}
 use Rattle.dnssec_key.specs.State.{is_leaving, is_stale, is_used}
-use Rattle.dnssec_key.specs.Sides.{side_of}
-use Rattle.dnssec_key.specs.declared.roll.Side.{Side}
+use Rattle.dnssec_key.specs.{Sides.side_of, declared.roll.Side.Side}
 use Rattle.dnssec_key.specs.declared.roll.Side.TheVariants.{KskSide, ZskSide, BothSides}
 use Rattle.dnssec_zone.specs.Keys.{Keys, some_key}
-use Rattle.dnssec_zone.specs.Rolls.{Rolls, all_rolls, phase_of}
-use Rattle.dnssec_zone.specs.Start.{lists_kind}
+use Rattle.dnssec_zone.specs.{Rolls.Rolls, Rolls.all_rolls, Rolls.phase_of, Start.lists_kind}
 use Rattle.dnssec_policy.specs.declared.policy.KeyRole.{KeyRole}
 use Rattle.dnssec_policy.specs.declared.policy.KeyRole.TheVariants.{Ksk, Zsk, Csk}
-use Rattle.dnssec_policy.specs.declared.policy.KskMethod.{KskMethod}
-use Rattle.dnssec_policy.specs.declared.policy.KskMethod.TheVariants as ksks
-use Rattle.dnssec_policy.specs.declared.policy.ZskMethod.{ZskMethod}
-use Rattle.dnssec_policy.specs.declared.policy.ZskMethod.TheVariants as zsks
+use Rattle.dnssec_policy.specs.declared.policy.{KskMethod.KskMethod, ZskMethod.ZskMethod}
 use Rattle.dnssec_policy.specs.declared.policy.Scheme.{Scheme}
 use Rattle.dnssec_policy.specs.declared.policy.Scheme.TheVariants.{Split, SingleType}
-use Rattle.dnssec_policy.specs.declared.policy.Term.{Term}
-use Rattle.dnssec_policy.specs.declared.policy.Policy.{Policy}
+use Rattle.dnssec_policy.specs.declared.policy.{Term.Term, Policy.Policy}
+use Rattle.dnssec_policy.specs.declared.policy.KskMethod.TheVariants as ksks
+use Rattle.dnssec_policy.specs.declared.policy.ZskMethod.TheVariants as zsks
 
 -- the references of the keys that pass, in their order
 abbrev pub references_where : (KeyParts → Bool) → Keys → List (List ℕ)

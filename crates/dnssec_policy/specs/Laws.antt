@@ -1,57 +1,37 @@
 -- What holds of calls that a zone makes by itself.
 use Rattle.std.specs.Prelude.{◌≡◌, ◌⊎◌, ◌++◌, ◌∷◌, ℕ, suc, ◌+◌, ◌<◌, ◌≤◌, Bool, true, false, List}
-use Rattle.std.specs.Prelude.{[]}
-use Rattle.std.specs.Prelude.{length, slice_get, Option, None, Some, Ok}
-use Rattle.std.specs.Prelude.{nat_le}
+use Rattle.std.specs.Prelude.{[], length, slice_get, Option, None, Some, Ok, nat_le}
 use Rattle.std.specs.{FinMap.get, FinMap.values, List.list_all, List.list_any}
 use Rattle.dnssec_key.specs.declared.roll.RollState.{RollState}
-use Rattle.dnssec_key.specs.declared.roll.RollState.TheVariants.{CacheExpire1, CacheExpire2}
-use Rattle.dnssec_key.specs.declared.roll.RollState.TheVariants.{Done}
-use Rattle.dnssec_key.specs.declared.roll.Half.{Half}
-use Rattle.dnssec_key.specs.RollTable.{is_second}
-use Rattle.dnssec_key.specs.declared.roll.RollType.{RollType}
-use Rattle.dnssec_key.specs.declared.roll.RollType.TheVariants.{AlgorithmRoll}
-use Rattle.dnssec_key.specs.Key.{KeyParts, all_states}
-use Rattle.dnssec_key.specs.State.{is_stale}
-use Rattle.dnssec_zone.specs.Keys.{some_key}
-use Rattle.dnssec_zone.specs.Rolls.{phase_of, same_roll}
-use Rattle.dnssec_zone.specs.Wait.{Clear}
+use Rattle.dnssec_key.specs.declared.roll.RollState.TheVariants.{CacheExpire1, CacheExpire2, Done}
+use Rattle.dnssec_key.specs.{declared.roll.Half.Half, RollTable.is_second}
+use Rattle.dnssec_key.specs.declared.roll.RollType.{RollType, TheVariants.AlgorithmRoll}
+use Rattle.dnssec_key.specs.{Key.KeyParts, Key.all_states, State.is_stale}
+use Rattle.dnssec_zone.specs.{Keys.some_key, Rolls.phase_of, Rolls.same_roll, Wait.Clear}
 use Rattle.dnssec_keyset.specs.Step as keyset
 use Rattle.dnssec_keyset.specs.WaitEnd.{TellsEnd}
-use Rattle.dnssec_keyset.specs.declared.wait.WaitEnd.{WaitEnd}
-use Rattle.dnssec_keyset.specs.declared.wait.WaitEnd.TheVariants.{At, PastTime}
-use Rattle.dnssec_run.specs.declared.call.Call.{Call}
-use Rattle.dnssec_run.specs.declared.record.Entry.{Entry}
-use Rattle.dnssec_run.specs.declared.record.Reply.{Reply}
-use Rattle.dnssec_run.specs.declared.caches.SetKind.{SetKind}
-use Rattle.dnssec_run.specs.ByAlgorithm.{KeepsWhole}
-use Rattle.dnssec_run.specs.Plain.{IsPlain}
+use Rattle.dnssec_keyset.specs.declared.wait.WaitEnd.{WaitEnd, TheVariants.At, TheVariants.PastTime}
+use Rattle.dnssec_run.specs.declared.{call.Call.Call, record.Entry.Entry, record.Reply.Reply}
+use Rattle.dnssec_run.specs.{declared.caches.SetKind.SetKind, ByAlgorithm.KeepsWhole, Plain.IsPlain}
 use Rattle.dnssec_run.specs.Record.{IsRun, call_of, world_at}
+use Rattle.dnssec_run.specs.{declared.steps.LastStep.LastStep, Steps.origin_in}
+use Rattle.dnssec_run.specs.{WholeRolls.propagation, Steps.AreStepsOf}
 use Rattle.dnssec_run.specs.Safe.{SetKind as AnyKind, kind_of, retires}
-use Rattle.dnssec_run.specs.declared.steps.LastStep.{LastStep}
-use Rattle.dnssec_run.specs.Steps.{origin_in}
-use Rattle.dnssec_run.specs.WholeRolls.{propagation}
-use Rattle.dnssec_run.specs.Steps.{AreStepsOf}
 use Rattle.dnssec_network.specs.ByAlgorithm.{FindChainByEach}
 use Rattle.dnssec_network.specs.Facts.{AreTrue, moment_of, news_of}
 use Rattle.dnssec_network.specs.Network.{FindChain, IsNetworkOf, Network, NeverGoesBack}
-use Rattle.dnssec_network.specs.Network.{NoneLiesAhead}
-use Rattle.dnssec_network.specs.Reach.{AllGive}
+use Rattle.dnssec_network.specs.{Network.NoneLiesAhead, Reach.AllGive}
 use Rattle.dnssec_network.specs.declared.reach.Reach.TheVariants.{Everywhere}
 use Rattle.dnssec_network.specs.Reports.{NoneGoesBack, ReportsAreByNotes}
 use Rattle.dnssec_policy.specs.declared.by_hand.FirstByHand.{FirstByHand}
-use Rattle.dnssec_policy.specs.declared.last_waits.LastWaits.{LastWaits}
-use Rattle.dnssec_policy.specs.declared.policy.Policy.{Policy}
+use Rattle.dnssec_policy.specs.declared.{last_waits.LastWaits.LastWaits, policy.Policy.Policy}
 use Rattle.dnssec_policy.specs.declared.state.State.{State}
 use Rattle.dnssec_policy.specs.Automatic.{IsAutomatic, IsSaid, IsViewAt, is_add, last_below}
 use Rattle.dnssec_policy.specs.ByHand.{first_by_hand, is_by_hand}
 use Rattle.dnssec_policy.specs.Code.{last_of, second_wait_of, view_of}
-use Rattle.dnssec_policy.specs.InProgress.{ends_with}
-use Rattle.dnssec_policy.specs.InProgress.{roll_next}
+use Rattle.dnssec_policy.specs.InProgress.{ends_with, roll_next}
 use Rattle.dnssec_policy.specs.Keys.{first_over, is_left_over, is_rolled, is_unwanted, new_keys}
-use Rattle.dnssec_policy.specs.Keys.{renewal_of}
-use Rattle.dnssec_policy.specs.Stuck.{is_over, why_of}
-use Rattle.dnssec_policy.specs.declared.why.Why.{Why}
+use Rattle.dnssec_policy.specs.{Keys.renewal_of, Stuck.is_over, Stuck.why_of, declared.why.Why.Why}
 use Rattle.dnssec_policy.specs.Keys.{role_of, roles_of, rolls_of, wants_others}
 use Rattle.dnssec_policy.specs.Next.{answer_of, may_begin, next_of, stuck_of}
 use Rattle.dnssec_policy.specs.Todo.{Todo, Make, NotBefore, Rest, rank}

@@ -4,21 +4,15 @@
 -- why.
 use Rattle.std.specs.Prelude.{ℕ, ◌&&◌, not, List, ◌∷◌, [], nat_le, Option, None, Some}
 use Rattle.std.specs.Prelude.{if◌then◌else◌, Result, Ok, Err}
-use Rattle.std.specs.List.{fold}
-use Rattle.std.specs.FinMap.{entries, values}
-use Rattle.dnssec_key.specs.declared.roll.RollState.{RollState}
-use Rattle.dnssec_key.specs.declared.roll.RollType.{RollType}
+use Rattle.std.specs.{List.fold, FinMap.entries, FinMap.values}
+use Rattle.dnssec_key.specs.declared.roll.{RollState.RollState, RollType.RollType}
 use Rattle.dnssec_key.specs.declared.roll.RollType.TheVariants.{AlgorithmRoll, CskRoll}
 use Rattle.dnssec_key.specs.Key.{KeyParts}
-use Rattle.dnssec_zone.specs.Keys.{some_key}
-use Rattle.dnssec_zone.specs.Rolls.{all_rolls, phase_of}
+use Rattle.dnssec_zone.specs.{Keys.some_key, Rolls.all_rolls, Rolls.phase_of}
 use Rattle.dnssec_keyset.specs.Step.{DeleteKey, StartRoll}
-use Rattle.dnssec_policy.specs.declared.policy.KeyRole.{KeyRole}
-use Rattle.dnssec_policy.specs.declared.policy.Policy.{Policy}
-use Rattle.dnssec_policy.specs.declared.policy.Scheme.{Scheme}
+use Rattle.dnssec_policy.specs.declared.policy.{KeyRole.KeyRole, Policy.Policy, Scheme.Scheme}
 use Rattle.dnssec_policy.specs.declared.policy.Scheme.TheVariants.{Split, SingleType}
-use Rattle.dnssec_policy.specs.declared.why.Why.{Why}
-use Rattle.dnssec_policy.specs.declared.why.Why.TheVariants.{ByHand}
+use Rattle.dnssec_policy.specs.declared.why.Why.{Why, TheVariants.ByHand}
 use Rattle.dnssec_policy.specs.InProgress.{once_settled, roll_next}
 use Rattle.dnssec_policy.specs.Keys.{first_over, goes, has_left, is_unwanted, ksk_roll, leaves_from}
 use Rattle.dnssec_policy.specs.Keys.{new_keys, references_where, renewal_of, role_of, roles_of}

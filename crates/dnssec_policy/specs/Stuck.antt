@@ -1,26 +1,20 @@
 -- What a policy wants and doesn't get, and why.
 use Rattle.std.specs.Prelude.{ℕ, ◌&&◌, not, Bool, true, false, nat_le, Option, None, Some}
 use Rattle.std.specs.Prelude.{if◌then◌else◌, is_none}
-use Rattle.std.specs.Option.{option_or}
-use Rattle.std.specs.List.{fold}
-use Rattle.std.specs.FinMap.{values}
+use Rattle.std.specs.{Option.option_or, List.fold, FinMap.values}
 use Rattle.dnssec_key.specs.declared.roll.RollState.{RollState}
 use Rattle.dnssec_key.specs.declared.roll.RollState.TheVariants.{Propagation1, Propagation2}
 use Rattle.dnssec_key.specs.declared.roll.RollType.{RollType}
 use Rattle.dnssec_key.specs.declared.roll.RollType.TheVariants.{AlgorithmRoll, CskRoll}
-use Rattle.dnssec_zone.specs.Keys.{some_key}
-use Rattle.dnssec_zone.specs.Rolls.{all_rolls, phase_of}
-use Rattle.dnssec_zone.specs.Start.{conflict}
-use Rattle.dnssec_policy.specs.declared.policy.Policy.{Policy}
-use Rattle.dnssec_policy.specs.declared.policy.Scheme.{Scheme}
+use Rattle.dnssec_zone.specs.{Keys.some_key, Rolls.all_rolls, Rolls.phase_of, Start.conflict}
+use Rattle.dnssec_policy.specs.declared.policy.{Policy.Policy, Scheme.Scheme}
 use Rattle.dnssec_policy.specs.declared.policy.Scheme.TheVariants.{Split, SingleType}
 use Rattle.dnssec_policy.specs.declared.why.Why.{Why}
 use Rattle.dnssec_policy.specs.declared.why.Why.TheVariants.{Barred, OldKeyInUse, TtlTooLong}
 use Rattle.dnssec_policy.specs.InProgress.{roll_next}
 use Rattle.dnssec_policy.specs.Keys.{first_over, is_left_over, ksk_roll, renewal_of, role_of}
 use Rattle.dnssec_policy.specs.Keys.{wants_others, zsk_roll}
-use Rattle.dnssec_policy.specs.Todo.{Todo, NotBefore, Rest, Stuck}
-use Rattle.dnssec_policy.specs.View.{View}
+use Rattle.dnssec_policy.specs.{Todo.Todo, Todo.NotBefore, Todo.Rest, Todo.Stuck, View.View}
 
 -- the roll may begin beside the rolls in progress
 abbrev pub may_begin : View → RollType → Bool

@@ -2,10 +2,8 @@
 use Rattle.std.specs.Prelude.{ℕ, Bool, ◌&&◌, ◌||◌, nat_eq, nat_lt, if◌then◌else◌}
 use Rattle.std.specs.Prelude.{Option, None, Some}
 use Rattle.dnssec_keyset.specs.Step.{Call}
-use Rattle.dnssec_run.specs.declared.caches.SetKind.{SetKind}
-use Rattle.dnssec_run.specs.declared.caches.SetKind.TheVariants.{Ds}
-use Rattle.dnssec_policy.specs.declared.policy.KeyRole.{KeyRole}
-use Rattle.dnssec_policy.specs.declared.todo.Cds.{Cds}
+use Rattle.dnssec_run.specs.declared.caches.SetKind.{SetKind, TheVariants.Ds}
+use Rattle.dnssec_policy.specs.declared.{policy.KeyRole.KeyRole, todo.Cds.Cds}
 use Rattle.dnssec_policy.specs.declared.todo.Cds.TheVariants.{In, Out}
 use Rattle.dnssec_policy.specs.declared.why.Why.{Why}
 

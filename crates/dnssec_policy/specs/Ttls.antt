@@ -5,8 +5,7 @@ use Rattle.dnssec_key.specs.declared.roll.RollType.{RollType}
 use Rattle.dnssec_run.specs.declared.caches.SetKind.{SetKind as Kind}
 use Rattle.dnssec_run.specs.declared.caches.SetKind.TheVariants as code
 use Rattle.dnssec_run.specs.Safe.{SetKind, Ds, Dnskey, ZoneSigners, retires}
-use Rattle.dnssec_network.specs.declared.fact.Fact.{Fact}
-use Rattle.dnssec_network.specs.declared.fact.News.{News}
+use Rattle.dnssec_network.specs.declared.fact.{Fact.Fact, News.News}
 use Rattle.dnssec_network.specs.declared.fact.News.TheVariants.{Published, Everywhere}
 use Rattle.dnssec_network.specs.Facts.{Before, news_of, ttl_before}
 use Rattle.dnssec_policy.specs.declared.ttls.HighestTtls.{HighestTtls}

@@ -1,16 +1,12 @@
 -- What is known of a zone at a moment.
 use Rattle.std.specs.Prelude.{ℕ, Option, List}
 use Rattle.dnssec_key.specs.declared.roll.RollType.{RollType}
-use Rattle.dnssec_keyset.specs.KeySet.{KeySetParts}
-use Rattle.dnssec_keyset.specs.declared.wait.WaitEnd.{WaitEnd}
-use Rattle.dnssec_run.specs.declared.caches.SetKind.{SetKind}
-use Rattle.dnssec_run.specs.declared.steps.LastStep.{LastStep}
+use Rattle.dnssec_keyset.specs.{KeySet.KeySetParts, declared.wait.WaitEnd.WaitEnd}
+use Rattle.dnssec_run.specs.declared.{caches.SetKind.SetKind, steps.LastStep.LastStep}
 use Rattle.dnssec_run.specs.Safe.{SetKind as SafeKind, kind_of}
-use Rattle.dnssec_network.specs.declared.fact.Fact.{Fact}
-use Rattle.dnssec_network.specs.declared.reach.Reach.{Reach}
+use Rattle.dnssec_network.specs.declared.{fact.Fact.Fact, reach.Reach.Reach}
 use Rattle.dnssec_network.specs.Facts.{Before, news_of, ttl_before}
-use Rattle.dnssec_network.specs.Reach.{reach_of}
-use Rattle.dnssec_network.specs.Spread.{known}
+use Rattle.dnssec_network.specs.{Reach.reach_of, Spread.known}
 
 pub record View : Type 0 where
   pub set : KeySetParts

@@ -3,13 +3,11 @@ use Rattle.std.proofs.Common.{List, None, Option, Some, [], ap, refl, sym, ℕ, 
 use Rattle.std.proofs.Common.{◌∙◌, ◌∷◌, ◌≡◌, ◌+◌, ◌-◌, ◌≤◌, ◌==◌, Bool, true, false, arith, length}
 use Rattle.std.proofs.Common.{if◌then◌else◌, take}
 use Rattle.std.proofs.lemmas.List.{length-take-le, Splits.length-slice_split}
-use Rattle.std.proofs.lemmas.List.Sums.{count_by-le-length}
-use Rattle.std.specs.Io.BufRead.{ends_with_byte}
+use Rattle.std.{proofs.lemmas.List.Sums.count_by-le-length, specs.Io.BufRead.ends_with_byte}
 use Rattle.dnssec_script.specs.Script.{lines_of, without_end}
 use Rattle.std.proofs.lemmas.{List.append-nil, List.append_assoc, List.map-append, Option.none-some}
 use Rattle.std.{proofs.lemmas.Option.same_Some, specs.Option.option_map}
-use Rattle.dnssec_network.specs.Notes.{NotesParts, refusal}
-use Rattle.dnssec_network.specs.declared.fact.{Fact.Fact}
+use Rattle.dnssec_network.specs.{Notes.NotesParts, Notes.refusal, declared.fact.Fact.Fact}
 use Rattle.dnssec_network.specs.Text.Reading.{AreFacts, AreNotes, AreTaken, HasLine, HasTaken}
 
 -- one fact more is taken

@@ -4,16 +4,13 @@ use Rattle.std.proofs.Common.{List, [], ◌∷◌, ap, arith, append_assoc, drop
 use Rattle.std.proofs.Common.{refl, subst, sym, take}
 use Rattle.std.specs.Prelude.{◌==◌, ◌||◌, not}
 use Rattle.std.specs.List.{flat_map, join_by, slice_range}
-use Rattle.std.proofs.Math.ListN.{drop_of_length-le}
-use Rattle.std.proofs.lemmas.Bool.{and_parts, ne_eqb}
+use Rattle.std.proofs.{Math.ListN.drop_of_length-le, lemmas.Bool.and_parts, lemmas.Bool.ne_eqb}
 use Rattle.std.proofs.lemmas.List.{append-nil, drop_more, get_or-drop, length-drop, take_more}
 use Rattle.std.proofs.lemmas.List.{get_or-map, length-map, take_all, take_rest}
-use Rattle.std.proofs.lemmas.Grind.{flat_map-append}
-use Rattle.std.proofs.lemmas.List.Folds.{flat_map-map}
+use Rattle.std.proofs.lemmas.{Grind.flat_map-append, List.Folds.flat_map-map}
 use Rattle.std.proofs.lemmas.Slice.Zip.{all_zipped_more}
 use Rattle.dnssec_record.specs.declared.session.Session.{Session}
-use Rattle.dnssec_script.specs.Script.{lines_of}
-use Rattle.dnssec_script.proofs.Texts.{blank}
+use Rattle.dnssec_script.{specs.Script.lines_of, proofs.Texts.blank}
 use Rattle.dnssec_network.specs.Text.Questions.{IsAnswersFault}
 use Rattle.dnssec_network.specs.Text.Scripts.{AnswersEach, AnswersOne, IsUnanswered, NotedScript}
 use Rattle.dnssec_network.specs.Text.Scripts.{as_noted, no_script, parts_after, scripts_after}

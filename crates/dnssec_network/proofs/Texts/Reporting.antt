@@ -2,14 +2,10 @@
 use Rattle.std.proofs.Common.{◌≡◌, ◌∙◌, ap, List, subst, sym, ℕ}
 use Rattle.dnssec_keyset.specs.KeySet.{KeySetParts}
 use Rattle.dnssec_network.specs.Notes.{NotesParts}
-use Rattle.dnssec_record.specs.Session.{Stands}
-use Rattle.dnssec_record.specs.declared.session.Session.{Session}
-use Rattle.dnssec_run.specs.Moments.{moments_of}
-use Rattle.dnssec_run.specs.Record.{world_at}
-use Rattle.dnssec_run.specs.Steps.{AreStepsOf, step_of}
+use Rattle.dnssec_record.specs.{Session.Stands, declared.session.Session.Session}
+use Rattle.dnssec_run.specs.{Moments.moments_of, Record.world_at, Steps.AreStepsOf, Steps.step_of}
 use Rattle.dnssec_run.specs.declared.{record.Entry.Entry, steps.Steps.Steps}
-use Rattle.dnssec_network.specs.Text.Due.{IsDueAfter, due_text}
-use Rattle.dnssec_network.specs.Text.Reading.{AreNotes}
+use Rattle.dnssec_network.specs.Text.{Due.IsDueAfter, Due.due_text, Reading.AreNotes}
 
 pub is_due_after : (lines notes : List (List ℕ)) (entries : List Entry) (session : Session)
     (keyset : KeySetParts) (steps : Steps) (moments : List ℕ) (noted : NotesParts) (seconds : ℕ)

@@ -2,27 +2,18 @@
 use Rattle.std.specs.Prelude.{◌≡◌, ℕ, ◌+◌, ◌*◌, ◌/◌, ◌++◌, suc, Bool, true, false, List, []}
 use Rattle.std.specs.Prelude.{length, codes, decimal, Option, None, Some, Result, Ok, Err}
 use Rattle.std.specs.List.{flat_map}
-use Rattle.dnssec_key.specs.declared.roll.RollType.{RollType}
-use Rattle.dnssec_key.specs.{RollTable.is_second, Texts.roll_name}
+use Rattle.dnssec_key.specs.{declared.roll.RollType.RollType, RollTable.is_second, Texts.roll_name}
 use Rattle.dnssec_zone.specs.Rolls.{Rolls, all_rolls, phase_of}
-use Rattle.dnssec_run.specs.declared.call.Call.{Call}
-use Rattle.dnssec_run.specs.declared.record.Entry.{Entry}
-use Rattle.dnssec_run.specs.Moments.{moments_of}
-use Rattle.dnssec_run.specs.declared.steps.LastStep.{LastStep}
-use Rattle.dnssec_run.specs.Record.{IsRun, world_at}
-use Rattle.dnssec_run.specs.Steps.{last_step}
-use Rattle.dnssec_network.specs.declared.due.DueReport.{DueReport}
-use Rattle.dnssec_network.specs.declared.due.NotYet.{NotYet}
+use Rattle.dnssec_run.specs.declared.{call.Call.Call, record.Entry.Entry}
+use Rattle.dnssec_run.specs.{Moments.moments_of, declared.steps.LastStep.LastStep}
+use Rattle.dnssec_run.specs.{Record.IsRun, Record.world_at, Steps.last_step}
+use Rattle.dnssec_network.specs.declared.due.{DueReport.DueReport, NotYet.NotYet}
 use Rattle.dnssec_network.specs.declared.due.NotYet.TheVariants.{WaitsFor, WaitsUntil}
-use Rattle.dnssec_network.specs.declared.fact.Fact.{Fact}
-use Rattle.dnssec_network.specs.Facts.{Before}
-use Rattle.dnssec_network.specs.Notes.{NotesParts}
+use Rattle.dnssec_network.specs.{declared.fact.Fact.Fact, Facts.Before, Notes.NotesParts}
 use Rattle.dnssec_network.specs.Reports.{due_report}
 use Rattle.dnssec_script.specs.Script.{AreScript, lines_of}
-use Rattle.dnssec_record.specs.Session.{HadMemory, Stands}
-use Rattle.dnssec_record.specs.declared.session.Session.{Session}
-use Rattle.dnssec_network.specs.Text.Lines.{kind_name}
-use Rattle.dnssec_network.specs.Text.Reading.{AreNotes, HasTaken}
+use Rattle.dnssec_record.specs.{Session.HadMemory, Session.Stands, declared.session.Session.Session}
+use Rattle.dnssec_network.specs.Text.{Lines.kind_name, Reading.AreNotes, Reading.HasTaken}
 
 -- the word of a report
 abbrev pub report_word : Bool → List ℕ

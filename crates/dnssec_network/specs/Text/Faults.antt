@@ -4,11 +4,10 @@ use Rattle.dnssec_network.specs.Texts.{fault_text, memory_text}
 use Rattle.dnssec_record.specs.Fault.{script_fault_text}
 use Rattle.dnssec_network.specs.declared.text.fault.DueFault.{DueFault}
 use Rattle.dnssec_network.specs.declared.text.fault.DueFault.TheVariants.{Script, Notes}
-use Rattle.dnssec_network.specs.declared.text.fault.LineFault.{LineFault}
-use Rattle.dnssec_network.specs.declared.text.fault.LineFault.TheVariants as line
-use Rattle.dnssec_network.specs.declared.text.fault.NotesFault.{NotesFault}
+use Rattle.dnssec_network.specs.declared.text.fault.{LineFault.LineFault, NotesFault.NotesFault}
 use Rattle.dnssec_network.specs.declared.text.fault.NotesFault.TheVariants.{Malformed, Refused}
 use Rattle.dnssec_network.specs.declared.text.fault.NotesFault.TheVariants.{OutOfMemory}
+use Rattle.dnssec_network.specs.declared.text.fault.LineFault.TheVariants as line
 
 -- what is said of a line
 abbrev pub line_fault_text : LineFault → List ℕ

@@ -1,12 +1,10 @@
 -- The lines of notes: what a line says, and which bytes are notes.
 use Rattle.std.specs.Prelude.{ℕ, if◌then◌else◌, List, [], ◌∷◌}
 use Rattle.std.specs.Prelude.{codes, Option, None, Some, option_and_then}
-use Rattle.std.specs.Option.{option_map}
-use Rattle.std.specs.Str.{bytes_eq}
+use Rattle.std.specs.{Option.option_map, Str.bytes_eq}
 use Rattle.dnssec_run.specs.declared.caches.SetKind.{SetKind}
 use Rattle.dnssec_run.specs.declared.caches.SetKind.TheVariants.{Ds, Dnskey, ZoneSigners}
-use Rattle.dnssec_network.specs.declared.fact.Fact.{Fact}
-use Rattle.dnssec_network.specs.declared.fact.News.{News}
+use Rattle.dnssec_network.specs.declared.fact.{Fact.Fact, News.News}
 use Rattle.dnssec_network.specs.declared.fact.News.TheVariants as news
 use Rattle.dnssec_script.specs.Script.{Form, Value, Number, Moment, as_number, as_time, as_ttl}
 use Rattle.dnssec_script.specs.Script.{fields_of, first_field, values_of}

@@ -2,20 +2,16 @@
 use Rattle.std.specs.Prelude.{◌≡◌, ◌⊎◌, ℕ, ◌+◌, ◌<◌, ◌++◌, List, [], ◌∷◌, length, take, codes}
 use Rattle.std.specs.Prelude.{Option, None, Some, IsSome, option_and_then, is_none}
 use Rattle.std.specs.Prelude.{if◌then◌else◌, slice_index_or}
-use Rattle.std.specs.List.{AllZip, filter}
-use Rattle.std.specs.Str.{bytes_eq}
-use Rattle.dnssec_run.specs.Moments.{moments_of}
-use Rattle.dnssec_run.specs.declared.record.Entry.{Entry}
+use Rattle.std.specs.{List.AllZip, List.filter, Str.bytes_eq}
+use Rattle.dnssec_run.specs.{Moments.moments_of, declared.record.Entry.Entry}
 use Rattle.dnssec_network.specs.Notes.{NotesParts}
 use Rattle.dnssec_script.specs.Script.{Form, Value, Number, as_number, fields_of, first_field}
 use Rattle.dnssec_script.specs.Script.{lines_of, values_of}
-use Rattle.dnssec_record.specs.Session.{Stands}
-use Rattle.dnssec_record.specs.declared.session.Session.{Session}
+use Rattle.dnssec_record.specs.{Session.Stands, declared.session.Session.Session}
 use Rattle.dnssec_network.specs.Text.Due.{IsAnswerTo, IsDueAfter, Question}
 use Rattle.dnssec_network.specs.Text.Reading.{HasTaken, IsTakeFault}
-use Rattle.dnssec_network.specs.declared.text.fault.LineFault.{LineFault}
+use Rattle.dnssec_network.specs.declared.text.fault.{LineFault.LineFault, NotesFault.NotesFault}
 use Rattle.dnssec_network.specs.declared.text.fault.LineFault.TheVariants as why
-use Rattle.dnssec_network.specs.declared.text.fault.NotesFault.{NotesFault}
 use Rattle.dnssec_network.specs.declared.text.fault.NotesFault.TheVariants as notes
 
 -- ---- which lines are questions

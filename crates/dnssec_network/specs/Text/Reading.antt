@@ -1,17 +1,14 @@
 -- Which lines are notes, and which line of other texts is the first that is not.
 use Rattle.std.specs.Prelude.{◌≡◌, ◌⊎◌, ℕ, ◌+◌, ◌<◌, ◌++◌, List, [], ◌∷◌, map, length, take}
 use Rattle.std.specs.Prelude.{Option, None, Some, slice_index_or}
-use Rattle.dnssec_run.specs.Moments.{moments_of}
-use Rattle.dnssec_run.specs.declared.record.Entry.{Entry}
-use Rattle.dnssec_network.specs.declared.fact.Fact.{Fact}
-use Rattle.dnssec_network.specs.Facts.{Before}
+use Rattle.dnssec_run.specs.{Moments.moments_of, declared.record.Entry.Entry}
+use Rattle.dnssec_network.specs.{declared.fact.Fact.Fact, Facts.Before}
 use Rattle.dnssec_network.specs.Notes.{NotesParts, refusal}
 use Rattle.dnssec_network.specs.Text.Lines.{as_before, as_fact, before_says, fact_says}
-use Rattle.dnssec_network.specs.declared.text.fault.LineFault.{LineFault}
-use Rattle.dnssec_network.specs.declared.text.fault.LineFault.TheVariants as why
-use Rattle.dnssec_network.specs.declared.text.fault.NotesFault.{NotesFault}
+use Rattle.dnssec_network.specs.declared.text.fault.{LineFault.LineFault, NotesFault.NotesFault}
 use Rattle.dnssec_network.specs.declared.text.fault.NotesFault.TheVariants.{Malformed, Refused}
 use Rattle.dnssec_network.specs.declared.text.fault.NotesFault.TheVariants.{OutOfMemory}
+use Rattle.dnssec_network.specs.declared.text.fault.LineFault.TheVariants as why
 
 -- ---- notes
 

@@ -2,16 +2,14 @@
 use Rattle.std.specs.Prelude.{◌≡◌, ◌⊎◌, ◌==◌, ◌&&◌, ◌||◌, ℕ, ◌<◌, ◌++◌, Bool, true, false, not}
 use Rattle.std.specs.Prelude.{List, [], ◌∷◌, length, take, codes, if◌then◌else◌, slice_index_or}
 use Rattle.std.specs.List.{AllZip, flat_map, join_by}
-use Rattle.dnssec_record.specs.Answer.{AnswerFault}
-use Rattle.dnssec_record.specs.Session.{Resumes}
+use Rattle.dnssec_record.specs.{Answer.AnswerFault, Session.Resumes}
 use Rattle.dnssec_record.specs.declared.session.Session.{Session}
 use Rattle.dnssec_script.specs.Script.{lines_of}
 use Rattle.dnssec_network.specs.Text.Questions.{AreAnswers, IsAnswersFault}
-use Rattle.dnssec_network.specs.declared.text.fault.DueFault.{DueFault}
-use Rattle.dnssec_network.specs.declared.text.fault.DueFault.TheVariants as due
-use Rattle.dnssec_network.specs.declared.text.fault.NotesFault.{NotesFault}
+use Rattle.dnssec_network.specs.declared.text.fault.{DueFault.DueFault, NotesFault.NotesFault}
 use Rattle.dnssec_network.specs.declared.text.fault.NotesFault.TheVariants.{Malformed, Refused}
 use Rattle.dnssec_network.specs.declared.text.fault.NotesFault.TheVariants.{OutOfMemory}
+use Rattle.dnssec_network.specs.declared.text.fault.DueFault.TheVariants as due
 use Rattle.dnssec_network.specs.declared.text.scripts.NotedScript as code
 
 -- ---- the scripts of a text

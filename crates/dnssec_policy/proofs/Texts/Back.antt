@@ -2,8 +2,7 @@
 use Rattle.std.proofs.Common.{◌≡◌, ℕ, suc, ◌≤◌, ◌/◌, ◌∙◌, ◌++◌, ◌∷◌, ◌==◌, ◌&&◌, List, []}
 use Rattle.std.proofs.Common.{Option, None, Some, IfSome, Ok, ap, append_assoc, arith, codes, not}
 use Rattle.std.proofs.Common.{Bool, decimal, refl, sym, true}
-use Rattle.std.proofs.lemmas.List.Folds.{list_all-append}
-use Rattle.std.specs.List.{list_all}
+use Rattle.std.{proofs.lemmas.List.Folds.list_all-append, specs.List.list_all}
 use Rattle.dnssec_script.specs.Script.{lines_of}
 use Rattle.dnssec_policy.specs.declared.policy.{KeyRole.KeyRole, Policy.Policy, Term.Term}
 use Rattle.dnssec_policy.specs.declared.policy.KeyRole.TheVariants.{Ksk, Zsk, Csk}
@@ -11,20 +10,17 @@ use Rattle.dnssec_policy.specs.declared.policy.{KskMethod.KskMethod, Scheme.Sche
 use Rattle.dnssec_policy.specs.declared.policy.Scheme.TheVariants.{Split, SingleType}
 use Rattle.dnssec_policy.specs.declared.policy.ZskMethod.{ZskMethod}
 use Rattle.dnssec_policy.specs.declared.text.wish.{PolicyDraft.PolicyDraft, WishWord.WishWord}
-use Rattle.dnssec_policy.specs.declared.text.wish.WishWord.TheVariants as word
 use Rattle.dnssec_policy.specs.Text.Reading.{line_after, of_draft, of_first, policy_of, read_from}
-use Rattle.dnssec_policy.specs.Text.Reading.{wish_said}
-use Rattle.dnssec_policy.specs.Text.Wishes.{no_wish}
+use Rattle.dnssec_policy.specs.Text.{Reading.wish_said, Wishes.no_wish}
 use Rattle.dnssec_policy.specs.Text.Writing.{HasNoOther, IsNumber, IsSayable, IsSayableRenewal}
 use Rattle.dnssec_policy.specs.Text.Writing.{IsSecond, first_line, lifetime_text, number_line}
 use Rattle.dnssec_policy.specs.Text.Writing.{once_text, policy_text, renewal_text, renewals_text}
 use Rattle.dnssec_policy.specs.Text.Writing.{rolls_text, word_name}
 use Rattle.dnssec_policy.proofs.Texts.Cut.{AllLack, lack-append, lacks, lines-back, text-append}
-use Rattle.dnssec_policy.proofs.Texts.Cut.{text_of}
-use Rattle.dnssec_policy.proofs.Texts.Numbers.{digits-lack}
-use Rattle.dnssec_policy.proofs.Texts.Steps.{one-more}
+use Rattle.dnssec_policy.proofs.Texts.{Cut.text_of, Numbers.digits-lack, Steps.one-more}
 use Rattle.dnssec_policy.proofs.Texts.Wishing.{bare, bare_first, deletion-back, first-back}
 use Rattle.dnssec_policy.proofs.Texts.Wishing.{lifetime-back, once-back, rolls-back, word-back}
+use Rattle.dnssec_policy.specs.declared.text.wish.WishWord.TheVariants as word
 
 -- ---- the lines of the text
 

@@ -10,21 +10,18 @@ use Rattle.std.specs.List.{flat_map, list_all, onto_first, slice_split}
 use Rattle.std.specs.Prelude.{if◌then◌else◌, None, option_and_then, slice_index_or}
 use Rattle.std.specs.Cmp.Lexicographic.{bytes_decides}
 use denote.Bor.{Bor, now}
-use Rattle.dnssec_key.specs.Texts.{roll_name}
-use Rattle.dnssec_key.specs.declared.roll.RollType.{RollType}
+use Rattle.dnssec_key.specs.{Texts.roll_name, declared.roll.RollType.RollType}
 use Rattle.dnssec_key.specs.declared.roll.RollType.TheVariants as rolls
 use Rattle.dnssec_keyset.specs.Step as keyset
-use Rattle.dnssec_run.specs.declared.call.Call.{Call}
+use Rattle.dnssec_run.specs.{declared.call.Call.Call, Record.call_of}
 use Rattle.dnssec_run.specs.declared.call.Call.TheVariants as call
-use Rattle.dnssec_run.specs.Record.{call_of}
 use Rattle.dnssec_script.specs.Script.{IsLineOf, Moment, Number, Reference, References, Roll}
 use Rattle.dnssec_script.specs.Script.{as_list, as_reference, as_roll, call_says, fields_of}
 use Rattle.dnssec_script.specs.Script.{forms_of_word, is_list, is_reference, is_reference_byte}
 use Rattle.dnssec_script.specs.Script.{references_of, report_forms, roll_named, said_after_word}
 use Rattle.dnssec_script.specs.Script.{says, wait_forms, word_at, word_named}
 use Rattle.dnssec_policy.specs.Automatic.Lines.{call_line, list_text, start_text}
-use Rattle.dnssec_policy.proofs.Texts.Cut.{first-field, lack-append, lacks, none-of}
-use Rattle.dnssec_policy.proofs.Texts.Cut.{one-field}
+use Rattle.dnssec_policy.proofs.Texts.Cut.{first-field, lack-append, lacks, none-of, one-field}
 use Rattle.dnssec_policy.proofs.Texts.Numbers.{digits-lack, number-back, time-back}
 
 -- ---- names of rolls

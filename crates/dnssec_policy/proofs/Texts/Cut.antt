@@ -1,11 +1,9 @@
 -- A text that is made of lines, or a line that is made of fields, is cut where it was joined.
 use Rattle.std.proofs.Common.{◌≡◌, ℕ, ◌==◌, ◌∙◌, ◌++◌, ◌∷◌, List, [], All, false, true, not}
 use Rattle.std.proofs.Common.{ap, sym, append_assoc, arith, refl}
-use Rattle.std.proofs.lemmas.Bool.{and_parts}
-use Rattle.std.proofs.lemmas.Bool.Decides.{nat_tests}
+use Rattle.std.proofs.lemmas.Bool.{and_parts, Decides.nat_tests}
 use Rattle.std.proofs.lemmas.List.Splits.{slice_split_at, slice_split_none}
-use Rattle.std.proofs.lemmas.List.Sums.{AllPass-from_list_all}
-use Rattle.std.proofs.lemmas.List.Folds.{list_all-append}
+use Rattle.std.proofs.lemmas.List.{Sums.AllPass-from_list_all, Folds.list_all-append}
 use Rattle.std.specs.List.{list_all, slice_split}
 use Rattle.dnssec_script.proofs.Judging.{without_end_last}
 use Rattle.dnssec_script.specs.Script.{fields_of, lines_of, without_end}

@@ -1,7 +1,6 @@
 -- A number that is written in decimal is read as the same number.
 use Rattle.std.proofs.Common.{◌≡◌, ℕ, ◌<◌, ◌≤◌, ◌*◌, ◌+◌, ◌-◌, ◌^◌, ◌==◌, Some}
-use Rattle.std.proofs.Common.{true, not, nat_le, arith, decimal, fold, length, refl}
-use Rattle.std.proofs.Common.{rules, le-leb}
+use Rattle.std.proofs.Common.{true, not, nat_le, arith, decimal, fold, length, refl, rules, le-leb}
 use Rattle.std.proofs.lemmas.Bool.Decides.{nat_tests}
 use Rattle.std.proofs.lemmas.Fmt.{decimal_nonempty, digits_decimal, digits_value-decimal}
 use Rattle.std.proofs.lemmas.Fmt.{length-decimal-le}

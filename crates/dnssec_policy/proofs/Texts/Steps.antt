@@ -1,7 +1,6 @@
 -- Reading on, line by line.
 use Rattle.std.proofs.Common.{◌≡◌, ℕ, suc, ◌∷◌, List, Ok, Err, ap}
-use Rattle.dnssec_policy.specs.declared.policy.Scheme.{Scheme}
-use Rattle.dnssec_policy.specs.declared.text.fault.WishFault.{WishFault}
+use Rattle.dnssec_policy.specs.declared.{policy.Scheme.Scheme, text.fault.WishFault.WishFault}
 use Rattle.dnssec_policy.specs.declared.text.wish.PolicyDraft.{PolicyDraft}
 use Rattle.dnssec_policy.specs.Text.Reading.{fault_at, line_after, onward, read_from}
 

@@ -1,25 +1,19 @@
 -- A set is whole if the algorithm of each KSK that stays is that of a ZSK that stays; and what a
 -- start or a wait does to the flags of one key.
-use Rattle.std.proofs.Common.{◌≡◌, ◌≢◌, ℕ, Bool, true, false, List}
-use Rattle.std.proofs.Common.{Some, refl, sym, arith}
+use Rattle.std.proofs.Common.{◌≡◌, ◌≢◌, ℕ, Bool, true, false, List, Some, refl, sym, arith}
 use Rattle.std.proofs.lemmas.Bool.{and_parts, or_parts, true≢false}
-use Rattle.std.specs.Prelude.{if◌then◌else◌, not}
-use Rattle.std.specs.{FinMap.get}
-use Rattle.dnssec_key.specs.declared.kind.KeyType.{KeyType}
-use Rattle.dnssec_key.specs.declared.kind.KeyType.TheVariants as kind
-use Rattle.dnssec_key.specs.declared.roll.RollType.{RollType}
+use Rattle.std.specs.{Prelude.if◌then◌else◌, Prelude.not, FinMap.get}
+use Rattle.dnssec_key.specs.declared.{kind.KeyType.KeyType, roll.RollType.RollType}
 use Rattle.dnssec_key.specs.declared.roll.RollType.TheVariants.{AlgorithmRoll, KskRoll}
 use Rattle.dnssec_key.specs.declared.roll.RollType.TheVariants.{KskDoubleDsRoll}
-use Rattle.dnssec_key.specs.Key.{KeyParts, all_states}
-use Rattle.dnssec_key.specs.State.{is_fresh}
-use Rattle.dnssec_key.specs.declared.roll.Half.{Half}
+use Rattle.dnssec_key.specs.{Key.KeyParts, Key.all_states, State.is_fresh, declared.roll.Half.Half}
 use Rattle.dnssec_key.specs.RollTable.{after_start, column, half_of}
+use Rattle.dnssec_key.specs.declared.kind.KeyType.TheVariants as kind
 use Rattle.dnssec_zone.proofs.Flags.{is_stale, started}
 use Rattle.dnssec_keyset.specs.KeySet.{KeySetParts}
 use Rattle.dnssec_keyset.specs.Step as keyset
 use Rattle.dnssec_run.specs.ByAlgorithm.{keeps_ksk, keeps_zsk}
-use Rattle.dnssec_run.proofs.Chain.Trust.{adds_blank}
-use Rattle.dnssec_run.proofs.Effects.{key_added}
+use Rattle.dnssec_run.proofs.{Chain.Trust.adds_blank, Effects.key_added}
 use Rattle.dnssec_policy.specs.declared.policy.KeyRole.{KeyRole}
 use Rattle.dnssec_policy.specs.declared.policy.KeyRole.TheVariants.{Ksk, Zsk, Csk}
 use Rattle.dnssec_policy.specs.Keys.{goes, has_role, role_of, serves}

@@ -3,31 +3,23 @@
 use Rattle.std.proofs.Common.{◌≡◌, ◌≢◌, ℕ, ◌⊎◌, inl, inr, Bool, true, false, List, [], ◌∷◌}
 use Rattle.std.proofs.Common.{Some, refl, sym, ap, subst, ◌∙◌, arith}
 use Rattle.std.proofs.lemmas.Bool.{cases_Bool, false_from_ne_true, or_parts, true≢false}
-use Rattle.std.proofs.lemmas.Option.{same_Some}
-use Rattle.std.specs.Prelude.{◌||◌, Ok}
-use Rattle.std.specs.{Cmp.Lexicographic.bytes_decides}
-use Rattle.std.specs.{FinMap.get, Str.bytes_eq}
-use Rattle.dnssec_key.specs.declared.roll.RollType.{RollType}
-use Rattle.dnssec_key.specs.declared.roll.RollType.TheVariants.{AlgorithmRoll}
-use Rattle.dnssec_key.specs.Key.{KeyParts}
-use Rattle.dnssec_key.specs.RollTable.{after_start}
-use Rattle.dnssec_zone.specs.Start.{is_listed}
+use Rattle.std.{proofs.lemmas.Option.same_Some, specs.Prelude.◌||◌, specs.Prelude.Ok}
+use Rattle.std.specs.{Cmp.Lexicographic.bytes_decides, FinMap.get, Str.bytes_eq}
+use Rattle.dnssec_key.specs.declared.roll.RollType.{RollType, TheVariants.AlgorithmRoll}
+use Rattle.dnssec_key.specs.{Key.KeyParts, RollTable.after_start}
+use Rattle.dnssec_zone.{specs.Start.is_listed, proofs.Flags.started}
 use Rattle.dnssec_zone.specs.Wait as waits
-use Rattle.dnssec_zone.proofs.Flags.{started}
-use Rattle.dnssec_keyset.specs.KeySet.{KeySetParts}
+use Rattle.dnssec_keyset.{specs.KeySet.KeySetParts, proofs.Changes.Changes}
 use Rattle.dnssec_keyset.specs.Step as keyset
-use Rattle.dnssec_keyset.proofs.Changes.{Changes}
 use Rattle.dnssec_run.specs.ByAlgorithm.{keeps_ksk, keeps_zsk}
 use Rattle.dnssec_run.proofs.Effects.{came, goes as stays}
 use Rattle.dnssec_run.proofs.Effects.{start-kind}
 use Rattle.dnssec_policy.specs.declared.policy.KeyRole.{KeyRole}
 use Rattle.dnssec_policy.specs.declared.policy.KeyRole.TheVariants.{Ksk, Zsk, Csk}
-use Rattle.dnssec_policy.specs.declared.policy.Policy.{Policy}
-use Rattle.dnssec_policy.specs.declared.policy.Scheme.{Scheme}
+use Rattle.dnssec_policy.specs.declared.policy.{Policy.Policy, Scheme.Scheme}
 use Rattle.dnssec_policy.specs.declared.policy.Scheme.TheVariants.{Split, SingleType}
 use Rattle.dnssec_policy.specs.Keys.{goes, has_role, new_keys, role_of, roles_of}
-use Rattle.dnssec_policy.specs.View.{View}
-use Rattle.dnssec_policy.proofs.May.{IsRenewal, IsStart}
+use Rattle.dnssec_policy.{specs.View.View, proofs.May.IsRenewal, proofs.May.IsStart}
 use Rattle.dnssec_policy.proofs.Accepted.{IsNewKey, goes-of, goes-old, old-goes, one-new, two-new}
 use Rattle.dnssec_policy.proofs.Accepted.{untaken, works-goes}
 use Rattle.dnssec_policy.proofs.Whole.Keys.{HasOf, is_alike, IsWhole, started-alike, started-ksk}

@@ -6,8 +6,7 @@ use Rattle.std.specs.List.{onto_first, slice_split}
 use Rattle.std.proofs.lemmas.List.{drop_more, take-append-drop, take_all, take_more}
 use Rattle.std.proofs.lemmas.List.Splits.{length-slice_split, slice_split-cons_no}
 use Rattle.std.proofs.lemmas.List.Splits.{slice_split-cons_yes}
-use Rattle.dnssec_script.proofs.Judging.{without_end_last}
-use Rattle.dnssec_script.specs.Script.{without_end}
+use Rattle.dnssec_script.{proofs.Judging.without_end_last, specs.Script.without_end}
 use Rattle.dnssec_policy.specs.Automatic.Asking.{IsLastLine}
 
 -- the first part grows, and the last parts stay

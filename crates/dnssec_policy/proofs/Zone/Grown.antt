@@ -1,28 +1,19 @@
 -- A zone whose calls are automatic goes on by a call that is said, or by an add; and with one fact
 -- more.
 use Rattle.std.proofs.Common.{◌≡◌, ◌⊎◌, ℕ, suc, ◌+◌, ◌≤◌, ◌∙◌, ◌++◌, ◌∷◌, List, [], ap, arith}
-use Rattle.std.proofs.Common.{filter, inl, inr, length, length-append, map, subst}
-use Rattle.std.proofs.Common.{sym, Bool, true}
+use Rattle.std.proofs.Common.{filter, inl, inr, length, length-append, map, subst, sym, Bool, true}
 use Rattle.std.proofs.Math.Seq.{get_or-append_seam}
-use Rattle.std.proofs.lemmas.{List.get_or_append_left, List.map-append}
-use Rattle.std.proofs.lemmas.List.Elements.{filter-append}
-use Rattle.dnssec_run.specs.declared.call.Call.{Call}
-use Rattle.dnssec_run.specs.declared.record.{Entry.Entry, Reply.Reply}
-use Rattle.dnssec_run.specs.Record.{call_of}
-use Rattle.dnssec_run.specs.Safe.{SetKind, kind_of}
+use Rattle.std.proofs.lemmas.List.{get_or_append_left, map-append, Elements.filter-append}
+use Rattle.dnssec_run.specs.declared.{call.Call.Call, record.Entry.Entry, record.Reply.Reply}
+use Rattle.dnssec_run.specs.{Record.call_of, Safe.SetKind, Safe.kind_of}
 use Rattle.dnssec_network.specs.Facts.{Before, AreTrue, AreTrueFrom, news_of, same_kind}
-use Rattle.dnssec_network.specs.Network.{Network}
-use Rattle.dnssec_network.specs.declared.fact.{Fact.Fact, News.News}
+use Rattle.dnssec_network.specs.{Network.Network, declared.fact.Fact.Fact, declared.fact.News.News}
 use Rattle.dnssec_network.specs.declared.fact.News.TheVariants.{Published, Everywhere}
-use Rattle.dnssec_policy.specs.declared.policy.Policy.{Policy}
-use Rattle.dnssec_policy.specs.Automatic.{IsSaid, is_add}
-use Rattle.dnssec_policy.specs.ByHand.{first_by_hand}
-use Rattle.dnssec_policy.specs.Todo.{Make}
-use Rattle.dnssec_policy.proofs.ByHand.{answered}
-use Rattle.dnssec_policy.proofs.Growing.{grows}
+use Rattle.dnssec_policy.specs.{declared.policy.Policy.Policy, Automatic.IsSaid, Automatic.is_add}
+use Rattle.dnssec_policy.specs.{ByHand.first_by_hand, Todo.Make}
+use Rattle.dnssec_policy.proofs.{ByHand.answered, Growing.grows}
 use Rattle.dnssec_network.specs.Notes.{NotesParts}
-use Rattle.dnssec_policy.specs.Automatic.Calls.{GoesOn}
-use Rattle.dnssec_policy.specs.Automatic.ZoneNotes.{HasHighest}
+use Rattle.dnssec_policy.specs.Automatic.{Calls.GoesOn, ZoneNotes.HasHighest}
 use Rattle.dnssec_policy.specs.declared.automatic.zone_notes.ZoneNotes.{ZoneNotes}
 use Rattle.dnssec_policy.specs.Automatic.Zone.{IsAutomaticAfter, IsInTime, IsMade, Says}
 use Rattle.dnssec_policy.specs.declared.automatic.zone.AutomaticZone.{AutomaticZone}

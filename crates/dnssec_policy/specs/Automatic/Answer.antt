@@ -1,25 +1,16 @@
 -- What to do next, by texts.
 use Rattle.std.specs.Prelude.{◌≡◌, ℕ, ◌*◌, List, length, None, Ok}
-use Rattle.dnssec_run.specs.declared.call.Call.{Call}
-use Rattle.dnssec_run.specs.declared.record.Entry.{Entry}
-use Rattle.dnssec_run.specs.Moments.{moments_of}
-use Rattle.dnssec_run.specs.Record.{IsRun}
-use Rattle.dnssec_network.specs.declared.fact.Fact.{Fact}
-use Rattle.dnssec_network.specs.Facts.{Before, AreTrue}
+use Rattle.dnssec_run.specs.declared.{call.Call.Call, record.Entry.Entry}
+use Rattle.dnssec_run.specs.{Moments.moments_of, Record.IsRun}
+use Rattle.dnssec_network.specs.{declared.fact.Fact.Fact, Facts.Before, Facts.AreTrue}
 use Rattle.dnssec_network.specs.Network.{Network}
 use Rattle.dnssec_script.specs.Script.{IsScript, lines_of}
 use Rattle.dnssec_record.specs.Session.{HadMemory}
 use Rattle.dnssec_network.specs.Text.Reading.{AreNotes}
-use Rattle.dnssec_policy.specs.declared.policy.Policy.{Policy}
-use Rattle.dnssec_policy.specs.Automatic.{IsViewAt}
-use Rattle.dnssec_policy.specs.ByHand.{first_by_hand}
-use Rattle.dnssec_policy.specs.Next.{answer_of}
-use Rattle.dnssec_policy.specs.Todo.{Todo}
-use Rattle.dnssec_policy.specs.View.{View}
-use Rattle.dnssec_policy.specs.Text.Lint.{highest_of, too_short}
-use Rattle.dnssec_policy.specs.Text.Reading.{policy_of}
-use Rattle.dnssec_policy.specs.Automatic.Lines.{todo_line}
-use Rattle.dnssec_policy.specs.Automatic.Zone.{Says}
+use Rattle.dnssec_policy.specs.{declared.policy.Policy.Policy, Automatic.IsViewAt}
+use Rattle.dnssec_policy.specs.{ByHand.first_by_hand, Next.answer_of, Todo.Todo, View.View}
+use Rattle.dnssec_policy.specs.Text.{Lint.highest_of, Lint.too_short, Reading.policy_of}
+use Rattle.dnssec_policy.specs.Automatic.{Lines.todo_line, Zone.Says}
 use Rattle.dnssec_policy.specs.declared.automatic.zone.AutomaticZone.{AutomaticZone}
 
 -- the line says what the policy says to do at this second, by the calls so far and the notes

@@ -1,7 +1,6 @@
 -- What to do next, by one text: a policy, a script, and notes whose last line asks.
 use Rattle.std.specs.Prelude.{◌≡◌, ◌==◌, ◌||◌, ℕ, ◌++◌, ◌∷◌, Bool, false, not, List, [], length}
-use Rattle.std.specs.Prelude.{codes, Option, Some}
-use Rattle.std.specs.List.{slice_split}
+use Rattle.std.specs.{Prelude.codes, Prelude.Option, Prelude.Some, List.slice_split}
 use Rattle.dnssec_script.specs.Script.{Value, Number, lines_of}
 use Rattle.dnssec_network.specs.Text.{Questions.asked_by, Scripts.parts_of}
 use Rattle.dnssec_policy.specs.Automatic.Answer.{AnswersNext}

@@ -1,10 +1,7 @@
 -- The calls of a zone, and what a policy has to know of them.
 use Rattle.std.specs.Prelude.{◌≡◌, ℕ, ◌++◌, ◌∷◌, List, []}
-use Rattle.dnssec_run.specs.declared.call.Call.{Call}
-use Rattle.dnssec_run.specs.declared.record.Entry.{Entry}
-use Rattle.dnssec_run.specs.declared.record.Reply.{Reply}
-use Rattle.dnssec_script.specs.Inner.Statement.{statement_says}
-use Rattle.dnssec_script.specs.Script.{IsScript, call_says}
+use Rattle.dnssec_run.specs.declared.{call.Call.Call, record.Entry.Entry, record.Reply.Reply}
+use Rattle.dnssec_script.specs.{Inner.Statement.statement_says, Script.IsScript, Script.call_says}
 use Rattle.dnssec_script.specs.declared.statement.Statement.{Statement}
 use Rattle.dnssec_policy.specs.Laws.{AreLastsOf, IsFirstOf}
 use Rattle.dnssec_record.specs.Session.{HadMemory, StandsAfter}

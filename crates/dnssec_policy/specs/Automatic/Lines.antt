@@ -1,17 +1,14 @@
 -- What to do next, as a line.
 use Rattle.std.specs.Prelude.{ℕ, ◌++◌, List, [], ◌∷◌, codes, decimal}
 use Rattle.std.specs.List.{flat_map}
-use Rattle.dnssec_key.specs.declared.roll.RollType.{RollType}
-use Rattle.dnssec_key.specs.declared.roll.Half.{Half}
+use Rattle.dnssec_key.specs.declared.roll.{RollType.RollType, Half.Half}
 use Rattle.dnssec_key.specs.declared.roll.Half.TheVariants.{First, Second}
 use Rattle.dnssec_key.specs.Texts.{roll_name}
 use Rattle.dnssec_keyset.specs.Step as keyset
-use Rattle.dnssec_network.specs.Text.Due.{first_second}
-use Rattle.dnssec_network.specs.Text.Lines.{kind_name}
+use Rattle.dnssec_network.specs.Text.{Due.first_second, Lines.kind_name}
 use Rattle.dnssec_policy.specs.declared.policy.KeyRole.{KeyRole}
 use Rattle.dnssec_policy.specs.declared.policy.KeyRole.TheVariants.{Ksk, Zsk, Csk}
-use Rattle.dnssec_policy.specs.declared.why.Why.{Why}
-use Rattle.dnssec_policy.specs.Texts.{why_text}
+use Rattle.dnssec_policy.specs.{declared.why.Why.Why, Texts.why_text}
 use Rattle.dnssec_policy.specs.Todo.{Make, NeedKey, NotBefore, Publish, Rest, Stuck, Todo, Watch}
 
 abbrev pub role_name : KeyRole → List ℕ

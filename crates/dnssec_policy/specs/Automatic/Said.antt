@@ -3,19 +3,13 @@ use Rattle.std.specs.Prelude.{◌≡◌, ℕ, ◌*◌, ◌≤◌, ◌++◌, ◌�
 use Rattle.std.specs.FinMap.{get}
 use Rattle.dnssec_key.specs.Key.{KeyParts}
 use Rattle.dnssec_keyset.specs.KeySet.{KeySetParts}
-use Rattle.dnssec_run.specs.declared.call.Call.{Call}
-use Rattle.dnssec_run.specs.declared.record.Entry.{Entry}
+use Rattle.dnssec_run.specs.declared.{call.Call.Call, record.Entry.Entry}
 use Rattle.dnssec_run.specs.Record.{IsRun, call_of, world_at}
 use Rattle.dnssec_script.specs.Script.{AreScript, IsLineOf, IsScript, is_reference, lines_of}
-use Rattle.dnssec_network.specs.Facts.{AreTrue}
-use Rattle.dnssec_network.specs.Network.{Network}
-use Rattle.dnssec_policy.specs.declared.policy.Policy.{Policy}
-use Rattle.dnssec_policy.specs.ByHand.{first_by_hand}
-use Rattle.dnssec_policy.specs.Next.{answer_of}
-use Rattle.dnssec_policy.specs.Todo.{Make}
-use Rattle.dnssec_policy.specs.View.{View}
-use Rattle.dnssec_policy.specs.Automatic.Answer.{AnswersBy}
-use Rattle.dnssec_policy.specs.Automatic.Lines.{todo_line}
+use Rattle.dnssec_network.specs.{Facts.AreTrue, Network.Network}
+use Rattle.dnssec_policy.specs.{declared.policy.Policy.Policy, ByHand.first_by_hand, Next.answer_of}
+use Rattle.dnssec_policy.specs.{Todo.Make, View.View}
+use Rattle.dnssec_policy.specs.Automatic.{Answer.AnswersBy, Lines.todo_line}
 
 -- a script can name each key of the set
 abbrev pub CanNameKeys : KeySetParts → Type 0

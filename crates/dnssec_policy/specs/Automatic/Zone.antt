@@ -2,23 +2,16 @@
 use Rattle.std.specs.Prelude.{◌≡◌, ◌≢◌, ℕ, suc, ◌<◌, ◌≤◌, ◌++◌, ◌∷◌, List, [], get_or, length}
 use Rattle.std.specs.Prelude.{Option, None, Some}
 use Rattle.dnssec_keyset.specs.Step as keyset
-use Rattle.dnssec_run.specs.declared.call.Call.{Call}
-use Rattle.dnssec_run.specs.declared.record.Entry.{Entry}
-use Rattle.dnssec_run.specs.declared.record.Reply.{Reply}
-use Rattle.dnssec_run.specs.Moments.{moments_of}
-use Rattle.dnssec_run.specs.Record.{call_of}
-use Rattle.dnssec_network.specs.ByAlgorithm.{FindChainByEach}
-use Rattle.dnssec_network.specs.Facts.{AreTrue}
+use Rattle.dnssec_run.specs.declared.{call.Call.Call, record.Entry.Entry, record.Reply.Reply}
+use Rattle.dnssec_run.specs.{Moments.moments_of, Record.call_of}
+use Rattle.dnssec_network.specs.{ByAlgorithm.FindChainByEach, Facts.AreTrue}
 use Rattle.dnssec_network.specs.Network.{FindChain, IsNetworkOf, Network}
 use Rattle.dnssec_network.specs.Reports.{NoneGoesBack}
 use Rattle.dnssec_script.specs.Script.{lines_of}
 use Rattle.dnssec_network.specs.Text.Reading.{AreNotes}
 use Rattle.dnssec_policy.specs.declared.policy.Policy.{Policy}
-use Rattle.dnssec_policy.specs.Automatic.{IsAutomatic, IsViewAt}
-use Rattle.dnssec_policy.specs.ByHand.{first_by_hand}
-use Rattle.dnssec_policy.specs.Next.{answer_of}
-use Rattle.dnssec_policy.specs.Todo.{Make, Todo}
-use Rattle.dnssec_policy.specs.View.{View}
+use Rattle.dnssec_policy.specs.{Automatic.IsAutomatic, Automatic.IsViewAt, ByHand.first_by_hand}
+use Rattle.dnssec_policy.specs.{Next.answer_of, Todo.Make, Todo.Todo, View.View}
 use Rattle.dnssec_policy.specs.Automatic.Calls.{GoesOn, IsAfter, Resumes}
 use Rattle.dnssec_policy.specs.Automatic.ZoneNotes.{HasHighest}
 use Rattle.dnssec_policy.specs.declared.automatic.zone.AutomaticZone.{AutomaticZone}

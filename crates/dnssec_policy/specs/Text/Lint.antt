@@ -1,10 +1,8 @@
 -- Lifetimes that are shorter than a roll takes, by the TTLs of notes.
 use Rattle.std.specs.Prelude.{ℕ, nat_lt, if◌then◌else◌, Option, None, Some}
-use Rattle.dnssec_key.specs.declared.roll.RollType.{RollType}
-use Rattle.dnssec_key.specs.declared.roll.RollType.TheVariants.{CskRoll}
+use Rattle.dnssec_key.specs.declared.roll.RollType.{RollType, TheVariants.CskRoll}
 use Rattle.dnssec_run.specs.Safe.{SetKind}
-use Rattle.dnssec_policy.specs.declared.policy.Policy.{Policy}
-use Rattle.dnssec_policy.specs.declared.policy.Scheme.{Scheme}
+use Rattle.dnssec_policy.specs.declared.policy.{Policy.Policy, Scheme.Scheme}
 use Rattle.dnssec_policy.specs.declared.policy.Scheme.TheVariants.{Split, SingleType}
 use Rattle.dnssec_policy.specs.Keys.{ksk_roll, renewal_of, role_of, zsk_roll}
 pub use Rattle.dnssec_policy.specs.Ttls.{AreHighest, highest_of, roll_takes, ttl_in}

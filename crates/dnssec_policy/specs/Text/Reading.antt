@@ -1,16 +1,13 @@
 -- Which lines are a policy, and which line of others is the first with a fault.
 use Rattle.std.specs.Prelude.{ℕ, suc, if◌then◌else◌, List, [], ◌∷◌, Option, None, Some, unwrap_or}
 use Rattle.std.specs.Prelude.{Result, Ok, Err}
-use Rattle.dnssec_policy.specs.declared.policy.Policy.{Policy}
-use Rattle.dnssec_policy.specs.declared.policy.Scheme.{Scheme}
-use Rattle.dnssec_policy.specs.declared.text.fault.WishFault.{WishFault}
-use Rattle.dnssec_policy.specs.declared.text.fault.WishFault.TheVariants as line
-use Rattle.dnssec_policy.specs.declared.text.fault.PolicyFault.{PolicyFault}
+use Rattle.dnssec_policy.specs.declared.policy.{Policy.Policy, Scheme.Scheme}
+use Rattle.dnssec_policy.specs.declared.text.fault.{WishFault.WishFault, PolicyFault.PolicyFault}
 use Rattle.dnssec_policy.specs.declared.text.fault.PolicyFault.TheVariants.{Malformed, SaidTwice}
 use Rattle.dnssec_policy.specs.declared.text.fault.PolicyFault.TheVariants.{NoSuchKeys}
-use Rattle.dnssec_policy.specs.declared.text.wish.PolicyDraft.{PolicyDraft}
-use Rattle.dnssec_policy.specs.declared.text.wish.Wish.{Wish}
+use Rattle.dnssec_policy.specs.declared.text.wish.{PolicyDraft.PolicyDraft, Wish.Wish}
 use Rattle.dnssec_policy.specs.Text.Wishes.{after, as_first, as_wish, is_for, no_wish}
+use Rattle.dnssec_policy.specs.declared.text.fault.WishFault.TheVariants as line
 
 -- the fault of a line, with its number
 abbrev pub fault_at : WishFault → ℕ → PolicyFault

@@ -1,23 +1,19 @@
 -- What a line of a policy says.
 use Rattle.std.specs.Prelude.{ℕ, if◌then◌else◌, Bool, true, false, List, [], codes}
 use Rattle.std.specs.Prelude.{Option, None, Some, option_and_then}
-use Rattle.std.specs.Option.{option_map}
-use Rattle.std.specs.Str.{bytes_eq}
+use Rattle.std.specs.{Option.option_map, Str.bytes_eq}
 use Rattle.dnssec_script.specs.Script.{Form, Value, Moment, Number, as_number, as_time, fields_of}
 use Rattle.dnssec_script.specs.Script.{first_field, value_at, values_of}
 use Rattle.dnssec_policy.specs.declared.policy.KeyRole.{KeyRole}
 use Rattle.dnssec_policy.specs.declared.policy.KeyRole.TheVariants.{Ksk, Zsk, Csk}
-use Rattle.dnssec_policy.specs.declared.policy.KskMethod.{KskMethod}
-use Rattle.dnssec_policy.specs.declared.policy.KskMethod.TheVariants as ksks
-use Rattle.dnssec_policy.specs.declared.policy.Term.{Term}
-use Rattle.dnssec_policy.specs.declared.policy.Scheme.{Scheme}
+use Rattle.dnssec_policy.specs.declared.policy.{KskMethod.KskMethod, Term.Term, Scheme.Scheme}
 use Rattle.dnssec_policy.specs.declared.policy.Scheme.TheVariants.{Split, SingleType}
 use Rattle.dnssec_policy.specs.declared.policy.ZskMethod.{ZskMethod}
-use Rattle.dnssec_policy.specs.declared.policy.ZskMethod.TheVariants as zsks
-use Rattle.dnssec_policy.specs.declared.text.wish.PolicyDraft.{PolicyDraft}
-use Rattle.dnssec_policy.specs.declared.text.wish.Wish.{Wish}
-use Rattle.dnssec_policy.specs.declared.text.wish.Wish.TheVariants as wish
+use Rattle.dnssec_policy.specs.declared.text.wish.{PolicyDraft.PolicyDraft, Wish.Wish}
 use Rattle.dnssec_policy.specs.declared.text.wish.WishWord.{WishWord}
+use Rattle.dnssec_policy.specs.declared.policy.KskMethod.TheVariants as ksks
+use Rattle.dnssec_policy.specs.declared.policy.ZskMethod.TheVariants as zsks
+use Rattle.dnssec_policy.specs.declared.text.wish.Wish.TheVariants as wish
 use Rattle.dnssec_policy.specs.declared.text.wish.WishWord.TheVariants as word
 
 -- ---- the first line

@@ -1,14 +1,10 @@
 -- The text of a policy.
 use Rattle.std.specs.Prelude.{◌≡◌, ℕ, ◌≤◌, ◌*◌, ◌/◌, ◌++◌, List, [], codes, decimal}
 use Rattle.std.specs.Prelude.{Option, None, Some, IfSome}
-use Rattle.dnssec_key.specs.Texts.{roll_name}
-use Rattle.dnssec_key.specs.declared.roll.RollType.TheVariants.{CskRoll}
-use Rattle.dnssec_policy.specs.Keys.{ksk_roll, zsk_roll}
-use Rattle.dnssec_policy.specs.declared.policy.KeyRole.{KeyRole}
+use Rattle.dnssec_key.specs.{Texts.roll_name, declared.roll.RollType.TheVariants.CskRoll}
+use Rattle.dnssec_policy.specs.{Keys.ksk_roll, Keys.zsk_roll, declared.policy.KeyRole.KeyRole}
 use Rattle.dnssec_policy.specs.declared.policy.KeyRole.TheVariants.{Ksk, Zsk, Csk}
-use Rattle.dnssec_policy.specs.declared.policy.Policy.{Policy}
-use Rattle.dnssec_policy.specs.declared.policy.Term.{Term}
-use Rattle.dnssec_policy.specs.declared.policy.Scheme.{Scheme}
+use Rattle.dnssec_policy.specs.declared.policy.{Policy.Policy, Term.Term, Scheme.Scheme}
 use Rattle.dnssec_policy.specs.declared.policy.Scheme.TheVariants.{Split, SingleType}
 use Rattle.dnssec_policy.specs.declared.text.wish.WishWord.{WishWord}
 use Rattle.dnssec_policy.specs.declared.text.wish.WishWord.TheVariants as word

@@ -1,9 +1,7 @@
 -- What a server gives at the moment of a true sight was published by then, and so was the call.
 use Rattle.std.proofs.Common.{List, [], arith, refl, subst, suc, ℕ, ◌++◌, ◌<◌, ◌∷◌, ◌≡◌, ◌≤◌}
-use Rattle.dnssec_run.specs.Safe.{SetKind, time_at}
-use Rattle.dnssec_run.specs.declared.record.Entry.{Entry}
-use Rattle.dnssec_network.proofs.Held.{time_before}
-use Rattle.dnssec_network.specs.Facts.{AreTrueFrom}
+use Rattle.dnssec_run.specs.{Safe.SetKind, Safe.time_at, declared.record.Entry.Entry}
+use Rattle.dnssec_network.{proofs.Held.time_before, specs.Facts.AreTrueFrom}
 use Rattle.dnssec_network.specs.Network.{IsNetworkOf, Network, NeverGoesBack, NoneLiesAhead}
 use Rattle.dnssec_network.specs.declared.fact.News.{News}
 use Rattle.dnssec_network.specs.declared.fact.News.TheVariants.{Everywhere, Published}

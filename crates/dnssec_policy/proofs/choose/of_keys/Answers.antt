@@ -1,10 +1,7 @@
 -- The most urgent of all, or why nothing is done.
 use Rattle.std.proofs.Common.{◌∙◌, ap, Option}
-use Rattle.dnssec_policy.specs.declared.why.Why.{Why}
-use Rattle.dnssec_policy.specs.Code.{end_of}
-use Rattle.dnssec_policy.specs.Next.{unless_by_hand, unless_lasting}
-use Rattle.dnssec_policy.specs.Stuck.{stuck}
-use Rattle.dnssec_policy.specs.Todo.{sooner}
+use Rattle.dnssec_policy.specs.{declared.why.Why.Why, Code.end_of}
+use Rattle.dnssec_policy.specs.{Next.unless_by_hand, Next.unless_lasting, Stuck.stuck, Todo.sooner}
 use Rattle.dnssec_policy.proofs.choose.of_keys.Goals as goal
 
 pub returns : goal.returns

@@ -2,9 +2,7 @@
 use Rattle.std.proofs.Common.{◌∙◌, ap, sym, Bool, ℕ, string_bytes}
 use Rattle.std.specs.Prelude.{Some, if◌then◌else◌}
 use Rattle.dnssec_keyset.specs.Step.{DeleteKey}
-use Rattle.dnssec_policy.specs.Code.{view_of}
-use Rattle.dnssec_policy.specs.Keys.{leaves_from}
-use Rattle.dnssec_policy.specs.Next.{at_moment, once_all_ended}
+use Rattle.dnssec_policy.specs.{Code.view_of, Keys.leaves_from, Next.at_moment, Next.once_all_ended}
 use Rattle.dnssec_policy.specs.Todo.{Make, Rest, Todo}
 use Rattle.dnssec_policy.proofs.deletions.deletion.Goals as goal
 

@@ -1,8 +1,6 @@
 -- All keys were looked at.
-use Rattle.std.proofs.Common.{◌∙◌, ap, sym}
-use Rattle.std.proofs.lemmas.List.{take_all}
-use Rattle.dnssec_policy.specs.Code.{view_of}
-use Rattle.dnssec_policy.specs.Todo.{sooner}
+use Rattle.std.proofs.{Common.◌∙◌, Common.ap, Common.sym, lemmas.List.take_all}
+use Rattle.dnssec_policy.specs.{Code.view_of, Todo.sooner}
 use Rattle.dnssec_policy.proofs.Loops.{deletions-lent, lent-more, lent_so_far, no_end}
 use Rattle.dnssec_policy.proofs.deletions.deletions.Goals as goal
 

@@ -1,10 +1,8 @@
 -- All rolls had their say.
-use Rattle.std.proofs.Common.{◌∙◌, ap, get_or, sym}
-use Rattle.std.proofs.lemmas.List.{take_all}
+use Rattle.std.proofs.{Common.◌∙◌, Common.ap, Common.get_or, Common.sym, lemmas.List.take_all}
 use Rattle.dnssec_policy.specs.Code.{todo_of, view_of}
 use Rattle.dnssec_key.specs.declared.roll.RollType.TheVariants as ksk
-use Rattle.dnssec_policy.specs.Next.{once_ended}
-use Rattle.dnssec_policy.specs.Todo.{Todo}
+use Rattle.dnssec_policy.specs.{Next.once_ended, Todo.Todo}
 use Rattle.dnssec_policy.proofs.Loops.{ended-more, ended_so_far, no_end}
 use Rattle.dnssec_policy.proofs.deletions.once_all_ended.Goals as goal
 

@@ -1,7 +1,6 @@
 -- The roll came to its second wait.
 use Rattle.std.proofs.Common.{◌∙◌, ap, Option, ℕ}
-use Rattle.dnssec_policy.specs.Code.{todo_of, view_of}
-use Rattle.dnssec_policy.specs.Next.{once_ended}
+use Rattle.dnssec_policy.specs.{Code.todo_of, Code.view_of, Next.once_ended}
 use Rattle.dnssec_policy.proofs.deletions.once_ended.Goals as goal
 
 pub returns-in-Some : goal.returns-in-Some

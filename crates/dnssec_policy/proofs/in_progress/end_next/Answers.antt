@@ -1,7 +1,6 @@
 -- The roll came to its second wait.
 use Rattle.std.proofs.Common.{◌∙◌, ap, Option, ℕ}
-use Rattle.dnssec_policy.specs.Code.{view_of}
-use Rattle.dnssec_policy.specs.InProgress.{end_next}
+use Rattle.dnssec_policy.specs.{Code.view_of, InProgress.end_next}
 use Rattle.dnssec_policy.proofs.in_progress.end_next.Goals as goal
 
 pub returns-in-Some : goal.returns-in-Some

@@ -1,9 +1,7 @@
 -- One kind after another.
 use Rattle.std.proofs.Common.{◌∙◌, ap}
 use Rattle.dnssec_run.specs.declared.caches.SetKind.TheVariants.{Ds, Dnskey}
-use Rattle.dnssec_policy.specs.Code.{view_of}
-use Rattle.dnssec_policy.specs.InProgress.{once_there}
-use Rattle.dnssec_policy.specs.Todo.{Todo}
+use Rattle.dnssec_policy.specs.{Code.view_of, InProgress.once_there, Todo.Todo}
 use Rattle.dnssec_policy.proofs.in_progress.once_settled.Goals as goal
 
 pub returns : goal.returns

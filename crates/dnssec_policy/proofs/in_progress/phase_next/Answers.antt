@@ -1,7 +1,6 @@
 -- The roll is in a phase.
 use Rattle.std.proofs.Common.{◌∙◌, ap}
-use Rattle.dnssec_policy.specs.Code.{end_of, view_of}
-use Rattle.dnssec_policy.specs.Next.{phase_next}
+use Rattle.dnssec_policy.specs.{Code.end_of, Code.view_of, Next.phase_next}
 use Rattle.dnssec_policy.proofs.in_progress.phase_next.Goals as goal
 
 pub returns-in-Some : goal.returns-in-Some

@@ -1,9 +1,7 @@
 -- By the TTL that is due.
 use Rattle.std.proofs.Common.{◌∙◌, ap, ℕ, Option, Result}
-use Rattle.dnssec_run.specs.declared.caches.SetKind.{SetKind}
-use Rattle.dnssec_run.specs.declared.steps.LastStep.{LastStep}
-use Rattle.dnssec_policy.specs.Code.{view_of}
-use Rattle.dnssec_policy.specs.InProgress.{report_next, report_or}
+use Rattle.dnssec_run.specs.declared.{caches.SetKind.SetKind, steps.LastStep.LastStep}
+use Rattle.dnssec_policy.specs.{Code.view_of, InProgress.report_next, InProgress.report_or}
 use Rattle.dnssec_policy.proofs.in_progress.report_next.Goals as goal
 
 pub returns-in-Some : goal.returns-in-Some

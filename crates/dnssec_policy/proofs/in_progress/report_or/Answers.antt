@@ -2,8 +2,7 @@
 use Rattle.std.proofs.Common.{◌∙◌, ap, sym, ℕ, Result}
 use Rattle.dnssec_run.specs.declared.caches.SetKind.{SetKind}
 use Rattle.dnssec_key.specs.RollTable.{is_second}
-use Rattle.dnssec_policy.specs.Code.{view_of}
-use Rattle.dnssec_policy.specs.InProgress.{report_or, report_with}
+use Rattle.dnssec_policy.specs.{Code.view_of, InProgress.report_or, InProgress.report_with}
 use Rattle.dnssec_policy.specs.Ttls.{lasting}
 use Rattle.dnssec_policy.proofs.in_progress.report_or.Goals as goal
 

@@ -3,8 +3,7 @@ use Rattle.std.proofs.Common.{◌∙◌, ap, sym}
 use Rattle.dnssec_key.specs.declared.roll.{RollState.RollState, RollType.RollType}
 use Rattle.dnssec_key.specs.declared.roll.Half.TheVariants.{First, Second}
 use Rattle.dnssec_policy.specs.Code.{end_of, view_of}
-use Rattle.dnssec_policy.specs.InProgress.{roll_next, wait_next}
-use Rattle.dnssec_policy.specs.Todo.{Todo}
+use Rattle.dnssec_policy.specs.{InProgress.roll_next, InProgress.wait_next, Todo.Todo}
 use Rattle.dnssec_policy.specs.declared.state.{Ends.Ends, State.State}
 use Rattle.dnssec_policy.proofs.in_progress.roll_next.Goals as goal
 

@@ -1,8 +1,6 @@
 -- All rolls had their say.
-use Rattle.std.proofs.Common.{◌∙◌, ap}
-use Rattle.std.proofs.lemmas.List.{take_all}
-use Rattle.dnssec_policy.specs.Code.{end_of, view_of}
-use Rattle.dnssec_policy.specs.Todo.{Rest}
+use Rattle.std.proofs.{Common.◌∙◌, Common.ap, lemmas.List.take_all}
+use Rattle.dnssec_policy.specs.{Code.end_of, Code.view_of, Todo.Rest}
 use Rattle.dnssec_policy.proofs.Order.{best_of}
 use Rattle.dnssec_policy.proofs.in_progress.rolls_next.Goals as goal
 

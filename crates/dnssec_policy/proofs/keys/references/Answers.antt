@@ -1,8 +1,6 @@
 -- All keys were looked at.
-use Rattle.std.proofs.Common.{◌∙◌, ap}
-use Rattle.std.proofs.lemmas.List.{take_all}
-use Rattle.dnssec_policy.specs.Code.{passes}
-use Rattle.dnssec_policy.proofs.Loops.{picked, picked-is}
+use Rattle.std.proofs.{Common.◌∙◌, Common.ap, lemmas.List.take_all}
+use Rattle.dnssec_policy.{specs.Code.passes, proofs.Loops.picked, proofs.Loops.picked-is}
 use Rattle.dnssec_policy.proofs.keys.references.Goals as goal
 
 pub returns : goal.returns

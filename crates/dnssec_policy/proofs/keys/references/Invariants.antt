@@ -1,8 +1,7 @@
 -- Those found so far.
 use Rattle.std.proofs.Common.{◌≡◌, take}
 use Rattle.dnssec_zone.specs.Start.{texts}
-use Rattle.dnssec_policy.specs.Code.{passes}
-use Rattle.dnssec_policy.proofs.Loops.{picked}
+use Rattle.dnssec_policy.{specs.Code.passes, proofs.Loops.picked}
 use Rattle.dnssec_policy.proofs.keys.references.Given as goal
 
 abbrev pub invariant-loop-entry : goal.invariant-loop-entry

@@ -1,7 +1,6 @@
 -- The state is what is known.
 use Rattle.dnssec_run.specs.Record.{call_of}
-use Rattle.dnssec_policy.specs.Code.{view_of}
-use Rattle.dnssec_policy.proofs.ByHand.{answered}
+use Rattle.dnssec_policy.{specs.Code.view_of, proofs.ByHand.answered}
 use Rattle.dnssec_policy.proofs.laws.answers_are_said.Goals as goal
 
 pub returns : goal.returns

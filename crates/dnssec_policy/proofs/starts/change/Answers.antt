@@ -2,11 +2,8 @@
 use Rattle.std.proofs.Common.{◌∙◌, ap, sym, Bool, List}
 use Rattle.std.specs.Prelude.{if◌then◌else◌}
 use Rattle.dnssec_key.specs.declared.roll.RollType.TheVariants.{AlgorithmRoll}
-use Rattle.dnssec_policy.specs.declared.policy.KeyRole.{KeyRole}
-use Rattle.dnssec_policy.specs.Code.{view_of}
-use Rattle.dnssec_policy.specs.Keys.{new_keys, roles_of}
-use Rattle.dnssec_policy.specs.Next.{start_with}
-use Rattle.dnssec_policy.specs.Todo.{Rest}
+use Rattle.dnssec_policy.specs.{declared.policy.KeyRole.KeyRole, Code.view_of}
+use Rattle.dnssec_policy.specs.{Keys.new_keys, Keys.roles_of, Next.start_with, Todo.Rest}
 use Rattle.dnssec_policy.proofs.starts.change.Goals as goal
 
 pub returns-then-not-is_change_due : goal.returns-then-not-is_change_due

@@ -1,7 +1,6 @@
 -- All keys were looked at.
 use Rattle.std.proofs.Common.{◌∙◌, ap, sym, None}
-use Rattle.std.proofs.lemmas.{List.take_all, List.Folds.fold-map}
-use Rattle.std.specs.List.{fold}
+use Rattle.std.{proofs.lemmas.List.take_all, proofs.lemmas.List.Folds.fold-map, specs.List.fold}
 use Rattle.dnssec_policy.proofs.Loops.{Lent, aged_entry, aged_key}
 use Rattle.dnssec_policy.proofs.starts.first_over.Goals as goal
 

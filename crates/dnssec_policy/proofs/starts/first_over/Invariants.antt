@@ -1,6 +1,5 @@
 -- The first moment so far.
-use Rattle.std.proofs.Common.{◌≡◌, None, take}
-use Rattle.std.specs.List.{fold}
+use Rattle.std.{proofs.Common.◌≡◌, proofs.Common.None, proofs.Common.take, specs.List.fold}
 use Rattle.dnssec_policy.proofs.Loops.{aged_entry}
 use Rattle.dnssec_policy.proofs.starts.first_over.Given as goal
 

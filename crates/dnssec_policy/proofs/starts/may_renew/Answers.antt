@@ -2,8 +2,7 @@
 use Rattle.std.proofs.Common.{◌∙◌, ap, sym, Bool}
 use Rattle.std.specs.Prelude.{not, ◌&&◌}
 use Rattle.dnssec_zone.specs.Keys.{some_key}
-use Rattle.dnssec_policy.specs.Keys.{is_unwanted}
-use Rattle.dnssec_policy.proofs.Loops.{some-lent}
+use Rattle.dnssec_policy.{specs.Keys.is_unwanted, proofs.Loops.some-lent}
 use Rattle.dnssec_policy.proofs.starts.may_renew.Goals as goal
 
 pub returns-then-may_begin : goal.returns-then-may_begin

@@ -2,8 +2,7 @@
 use Rattle.std.proofs.Common.{Bor, slice_get, drop, ◌+◌, ◌∙◌, ap, sym, arith, List, ℕ}
 use Rattle.dnssec_zone.specs.Start.{texts}
 use Rattle.dnssec_policy.specs.declared.policy.KeyRole.TheVariants as role
-use Rattle.dnssec_policy.specs.Code.{passing}
-use Rattle.dnssec_policy.specs.Keys.{first_of, is_new, new_keys}
+use Rattle.dnssec_policy.specs.{Code.passing, Keys.first_of, Keys.is_new, Keys.new_keys}
 use Rattle.dnssec_policy.proofs.Loops.{first-none, first-some, onto, role-found}
 use Rattle.dnssec_policy.proofs.Loops.{role-missing, texts-push, here}
 use Rattle.dnssec_policy.proofs.starts.new_keys.Goals as goal

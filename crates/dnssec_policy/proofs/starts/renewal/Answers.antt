@@ -1,13 +1,10 @@
 -- The roll may begin, and the moment is reached; or one of these is said.
 use Rattle.std.proofs.Common.{◌∙◌, ap, sym, Bool, true, false, ◌∷◌, [], arith}
 use Rattle.std.proofs.lemmas.Bool.{le-leb, lt-leb}
-use Rattle.std.specs.Prelude.{if◌then◌else◌}
-use Rattle.std.specs.FinMap.{values}
-use Rattle.dnssec_policy.specs.declared.policy.KeyRole.{KeyRole}
-use Rattle.dnssec_policy.specs.Code.{view_of}
+use Rattle.std.specs.{Prelude.if◌then◌else◌, FinMap.values}
+use Rattle.dnssec_policy.specs.{declared.policy.KeyRole.KeyRole, Code.view_of}
 use Rattle.dnssec_policy.specs.Keys.{first_over, new_keys, renewal_of, role_of}
-use Rattle.dnssec_policy.specs.Next.{at_moment, start_with}
-use Rattle.dnssec_policy.specs.Todo.{Rest}
+use Rattle.dnssec_policy.specs.{Next.at_moment, Next.start_with, Todo.Rest}
 use Rattle.dnssec_policy.proofs.{InTime.renewal-by, Loops.over-lent}
 use Rattle.dnssec_policy.proofs.starts.renewal.Goals as goal
 

@@ -1,10 +1,8 @@
 -- One roll or two, by the scheme.
 use Rattle.std.proofs.Common.{◌∙◌, ap, sym}
 use Rattle.dnssec_key.specs.declared.roll.RollType.{RollType}
-use Rattle.dnssec_policy.specs.declared.policy.Scheme.{Scheme}
-use Rattle.dnssec_policy.specs.Code.{view_of}
-use Rattle.dnssec_policy.specs.Next.{renewal, renewals}
-use Rattle.dnssec_policy.specs.Todo.{sooner}
+use Rattle.dnssec_policy.specs.{declared.policy.Scheme.Scheme, Code.view_of}
+use Rattle.dnssec_policy.specs.{Next.renewal, Next.renewals, Todo.sooner}
 use Rattle.dnssec_policy.proofs.starts.renewals.Goals as goal
 
 pub returns-in_ok-two-in-Split : goal.returns-in_ok-two-in-Split

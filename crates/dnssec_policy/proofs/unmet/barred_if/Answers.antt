@@ -2,10 +2,8 @@
 use Rattle.std.proofs.Common.{◌∙◌, ap, sym, Bool, true, Option, None, Some}
 use Rattle.std.specs.Prelude.{not, ◌&&◌, if◌then◌else◌}
 use Rattle.dnssec_key.specs.declared.roll.RollType.{RollType}
-use Rattle.dnssec_policy.specs.declared.why.Why.{Why}
-use Rattle.dnssec_policy.specs.declared.why.Why.TheVariants.{Barred}
-use Rattle.dnssec_policy.specs.Code.{view_of}
-use Rattle.dnssec_policy.specs.Stuck.{may_begin}
+use Rattle.dnssec_policy.specs.declared.why.Why.{Why, TheVariants.Barred}
+use Rattle.dnssec_policy.specs.{Code.view_of, Stuck.may_begin}
 use Rattle.dnssec_policy.proofs.unmet.barred_if.Goals as goal
 
 abbrev barred : Bool → Bool → RollType → Option Why

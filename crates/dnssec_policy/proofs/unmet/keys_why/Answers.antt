@@ -1,10 +1,8 @@
 -- Some key is left over, or none.
 use Rattle.std.proofs.Common.{◌∙◌, ap, sym, Bool, Option, None, Some}
 use Rattle.std.specs.Prelude.{if◌then◌else◌}
-use Rattle.dnssec_policy.specs.declared.why.Why.{Why}
-use Rattle.dnssec_policy.specs.declared.why.Why.TheVariants.{OldKeyInUse}
-use Rattle.dnssec_policy.specs.Keys.{is_left_over}
-use Rattle.dnssec_policy.proofs.Loops.{some-lent}
+use Rattle.dnssec_policy.specs.declared.why.Why.{Why, TheVariants.OldKeyInUse}
+use Rattle.dnssec_policy.{specs.Keys.is_left_over, proofs.Loops.some-lent}
 use Rattle.dnssec_policy.proofs.unmet.keys_why.Goals as goal
 
 abbrev old_key : Bool → Option Why

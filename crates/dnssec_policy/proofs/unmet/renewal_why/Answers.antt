@@ -1,7 +1,6 @@
 -- It is barred if a key's time is over.
 use Rattle.std.proofs.Common.{◌∙◌, ap, Bool}
-use Rattle.dnssec_policy.specs.Code.{view_of}
-use Rattle.dnssec_policy.specs.Stuck.{barred_if}
+use Rattle.dnssec_policy.specs.{Code.view_of, Stuck.barred_if}
 use Rattle.dnssec_policy.proofs.unmet.renewal_why.Goals as goal
 
 pub returns : goal.returns

@@ -1,9 +1,7 @@
 -- One roll or two, by the scheme.
-use Rattle.std.proofs.Common.{◌∙◌, ap, sym}
-use Rattle.std.specs.Option.{option_or}
+use Rattle.std.{proofs.Common.◌∙◌, proofs.Common.ap, proofs.Common.sym, specs.Option.option_or}
 use Rattle.dnssec_key.specs.declared.roll.RollType.{RollType}
-use Rattle.dnssec_policy.specs.declared.policy.Scheme.{Scheme}
-use Rattle.dnssec_policy.specs.Code.{view_of}
+use Rattle.dnssec_policy.specs.{declared.policy.Scheme.Scheme, Code.view_of}
 use Rattle.dnssec_policy.specs.Stuck.{renewal_why, renewals_why}
 use Rattle.dnssec_policy.proofs.unmet.renewals_why.Goals as goal
 

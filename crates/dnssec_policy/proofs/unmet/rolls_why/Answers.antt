@@ -1,8 +1,6 @@
 -- All rolls were asked.
-use Rattle.std.proofs.Common.{◌∙◌, ap}
-use Rattle.std.proofs.lemmas.List.{take_all}
-use Rattle.dnssec_policy.specs.Code.{end_of, view_of}
-use Rattle.dnssec_policy.proofs.Silence.{first_why}
+use Rattle.std.proofs.{Common.◌∙◌, Common.ap, lemmas.List.take_all}
+use Rattle.dnssec_policy.{specs.Code.end_of, specs.Code.view_of, proofs.Silence.first_why}
 use Rattle.dnssec_policy.proofs.unmet.rolls_why.Goals as goal
 
 pub returns : goal.returns

@@ -1,7 +1,6 @@
 -- The first cause of the rolls so far.
 use Rattle.std.proofs.Common.{◌≡◌, take}
-use Rattle.dnssec_policy.specs.Code.{end_of, view_of}
-use Rattle.dnssec_policy.proofs.Silence.{first_why}
+use Rattle.dnssec_policy.{specs.Code.end_of, specs.Code.view_of, proofs.Silence.first_why}
 use Rattle.dnssec_policy.proofs.unmet.rolls_why.Given as goal
 
 abbrev pub invariant-loop-roll : goal.invariant-loop-roll

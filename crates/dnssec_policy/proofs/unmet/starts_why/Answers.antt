@@ -1,9 +1,7 @@
 -- A change is barred, or a renewal.
-use Rattle.std.proofs.Common.{◌∙◌, ap, Bool}
-use Rattle.std.specs.Option.{option_or}
+use Rattle.std.{proofs.Common.◌∙◌, proofs.Common.ap, proofs.Common.Bool, specs.Option.option_or}
 use Rattle.dnssec_key.specs.declared.roll.RollType.TheVariants.{AlgorithmRoll}
-use Rattle.dnssec_policy.specs.Code.{view_of}
-use Rattle.dnssec_policy.specs.Stuck.{barred_if}
+use Rattle.dnssec_policy.specs.{Code.view_of, Stuck.barred_if}
 use Rattle.dnssec_policy.proofs.unmet.starts_why.Goals as goal
 
 pub returns : goal.returns

@@ -3,8 +3,7 @@ use Rattle.std.proofs.Common.{List, ap, map, sym, ◌∙◌}
 use Rattle.std.specs.FinMap as fin
 use Rattle.dnssec_zone.specs.Keys.{Keys}
 use Rattle.dnssec_run.specs.InOrder.{entry_of}
-use Rattle.dnssec_policy.specs.Code.{end_of}
-use Rattle.dnssec_policy.proofs.Loops.{Lent}
+use Rattle.dnssec_policy.{specs.Code.end_of, proofs.Loops.Lent}
 use Rattle.dnssec_policy.proofs.unmet.stuck.Goals as goal
 
 pub returns : goal.returns

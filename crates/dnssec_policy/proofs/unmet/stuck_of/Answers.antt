@@ -1,6 +1,5 @@
 -- Rolls, starts, keys.
-use Rattle.std.proofs.Common.{◌∙◌}
-use Rattle.std.specs.Option.{option_or}
+use Rattle.std.{proofs.Common.◌∙◌, specs.Option.option_or}
 use Rattle.dnssec_policy.specs.Code.{end_of}
 use Rattle.dnssec_policy.proofs.unmet.stuck_of.Goals as goal
 

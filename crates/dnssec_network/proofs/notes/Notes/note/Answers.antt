@@ -2,8 +2,7 @@
 use Rattle.std.proofs.Common.{Bool, Err, List, None, Option, Result, Some, false, sym, true, ℕ}
 use Rattle.std.proofs.Common.{◌∙◌, ◌≡◌, ◌≢◌}
 use Rattle.std.specs.Prelude.{if◌then◌else◌, nat_lt}
-use Rattle.dnssec_network.specs.Notes.{news_refusal, version_refusal}
-use Rattle.dnssec_network.specs.declared.fact.News.{News}
+use Rattle.dnssec_network.specs.{Notes.news_refusal, Notes.version_refusal, declared.fact.News.News}
 use Rattle.dnssec_network.specs.declared.fact.News.TheVariants.{Everywhere, Published}
 use Rattle.dnssec_network.specs.declared.fact.NoteFault.{NoteFault}
 use Rattle.dnssec_network.specs.declared.fact.NoteFault.TheVariants.{MomentFalls, OutOfMemory}

@@ -1,9 +1,7 @@
 -- What is noted of all servers is true, if the facts are.
 use Rattle.std.proofs.Common.{◌≡◌, rules}
 use Rattle.dnssec_run.specs.Safe.{kind_of}
-use Rattle.dnssec_network.specs.Facts.{news_of, ttl_before}
-use Rattle.dnssec_network.specs.Reach.{reach_of}
-use Rattle.dnssec_network.specs.Spread.{known}
+use Rattle.dnssec_network.specs.{Facts.news_of, Facts.ttl_before, Reach.reach_of, Spread.known}
 use Rattle.dnssec_network.specs.declared.reach.Reach.TheVariants.{Everywhere}
 use Rattle.dnssec_network.proofs.Reached.{all-give}
 use Rattle.dnssec_network.proofs.notes.Notes.reach.Goals as goal

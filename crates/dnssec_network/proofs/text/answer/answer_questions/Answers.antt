@@ -1,7 +1,6 @@
 -- The session stands after the script, and its notes are the lines.
 use Rattle.std.proofs.Common.{subst, map, ap, ◌∙◌, List, ℕ}
-use Rattle.std.proofs.lemmas.Result.{err_from_is_err_and}
-use Rattle.std.specs.Prelude.{string_bytes}
+use Rattle.std.{proofs.lemmas.Result.err_from_is_err_and, specs.Prelude.string_bytes}
 use Rattle.dnssec_script.specs.Script.{lines_of}
 use Rattle.dnssec_network.proofs.Texts.{Asking.zip_weaker, Parting.unanswered}
 use Rattle.dnssec_network.specs.Text.Questions.{AnswersAll}

@@ -2,8 +2,7 @@
 use Rattle.std.proofs.Common.{[], ap, arith, inl, inr, map, refl, sym, ◌+◌, ◌≡◌}
 use Rattle.std.proofs.lemmas.List.{length-map, nil_from_length, take_all, take_more}
 use Rattle.std.proofs.lemmas.Slice.Zip.{AllZip-long}
-use Rattle.std.specs.Prelude.{string_bytes, vec_len}
-use Rattle.std.specs.declared.alloc.Global.{Global}
+use Rattle.std.specs.{Prelude.string_bytes, Prelude.vec_len, declared.alloc.Global.Global}
 use Rattle.dnssec_script.proofs.Texts.{shown_at, within_shown}
 use Rattle.dnssec_network.specs.Text.Questions.{questions_among}
 use Rattle.dnssec_network.specs.declared.text.fault.NotesFault.TheVariants.{Malformed}

@@ -1,10 +1,7 @@
 -- The line is taken, or answered.
-use Rattle.std.proofs.Common.{Option, ap, refl, string_bytes, subst, sym}
-use Rattle.std.proofs.Common.{◌∙◌}
-use Rattle.std.proofs.lemmas.{List.map-append}
-use Rattle.std.specs.Option.{is_some, option_map}
-use Rattle.std.specs.Prelude.{IsSome}
-use Rattle.std.specs.declared.{alloc.Global.Global, string.String.String}
+use Rattle.std.proofs.Common.{Option, ap, refl, string_bytes, subst, sym, ◌∙◌}
+use Rattle.std.{proofs.lemmas.List.map-append, specs.Option.is_some, specs.Option.option_map}
+use Rattle.std.specs.{Prelude.IsSome, declared.alloc.Global.Global, declared.string.String.String}
 use Rattle.dnssec_run.specs.Moments.{moments_of}
 use Rattle.dnssec_network.proofs.Texts.Asking.{memory_ended, note_answered, question_answered}
 use Rattle.dnssec_network.specs.Text.Questions.{ComesOf, notes_among}

@@ -1,22 +1,18 @@
 -- The first line, and the others, one by one.
 use Rattle.std.proofs.Common.{◌≡◌, ℕ, ◌+◌, ◌==◌, ◌∙◌, List, [], ◌∷◌, ap, arith, inl, inr, length}
-use Rattle.std.proofs.Common.{Option, Some}
-use Rattle.std.proofs.Common.{refl, rules, subst, sym, tests}
+use Rattle.std.proofs.Common.{Option, Some, refl, rules, subst, sym, tests}
 use Rattle.std.proofs.lemmas.Iterator.{YieldsList}
 use Rattle.std.proofs.lemmas.Iterator.Consumers.{YieldsList-end, YieldsList-so_far, YieldsList-turn}
 use Rattle.std.proofs.lemmas.Iterator.Splits.{YieldsList-from_slice_split}
 use Rattle.std.proofs.lemmas.List.{get_or_default, length_push, map-append}
-use Rattle.std.proofs.lemmas.Result.{err_from_is_err_and}
-use Rattle.std.specs.Option.{option_map}
+use Rattle.std.{proofs.lemmas.Result.err_from_is_err_and, specs.Option.option_map}
 use Rattle.dnssec_network.specs.Notes.{NotesParts}
 use Rattle.dnssec_script.specs.Script.{lines_of, without_end}
 use Rattle.dnssec_network.proofs.Texts.Noting.{facts-more, lines-fit}
-use Rattle.dnssec_network.specs.Text.Lines.{before_says}
-use Rattle.dnssec_network.specs.Text.Reading.{AreFacts, IsFaultOf}
+use Rattle.dnssec_network.specs.Text.{Lines.before_says, Reading.AreFacts, Reading.IsFaultOf}
 use Rattle.dnssec_network.specs.declared.text.fault.NotesFault.TheVariants.{Malformed}
+use Rattle.dnssec_network.proofs.text.reading.read_notes.{Given.iterator-loop-line, Goals.In-Some}
 use Rattle.dnssec_network.proofs.text.reading.read_notes.Goals as goal
-use Rattle.dnssec_network.proofs.text.reading.read_notes.Given.{iterator-loop-line}
-use Rattle.dnssec_network.proofs.text.reading.read_notes.Goals.{In-Some}
 
 -- the first item of an iterator whose list is known, and the others
 first_yielded : {S A B : Type 0} {steps : S → Option A → S → Type 0} {v : A → B} {s : S}

@@ -2,8 +2,7 @@
 use Rattle.std.proofs.Common.{[], arith, inl, map, refl}
 use Rattle.std.proofs.lemmas.List.{length-map, map-append, take_all, take_more}
 use Rattle.std.proofs.lemmas.Result.{err_from_is_err_and}
-use Rattle.std.specs.Prelude.{string_bytes}
-use Rattle.std.specs.declared.alloc.Global.{Global}
+use Rattle.std.specs.{Prelude.string_bytes, declared.alloc.Global.Global}
 use Rattle.dnssec_network.specs.Text.Scripts.{as_noted, no_script}
 use Rattle.dnssec_network.proofs.Texts.Parting.{each_more, noted_at, noted_within}
 use Rattle.dnssec_network.proofs.text.scripts.answer_each.Goals as goal

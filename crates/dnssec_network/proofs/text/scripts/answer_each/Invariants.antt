@@ -1,6 +1,5 @@
 -- The questions of the scripts so far are answered.
-use Rattle.std.proofs.Common.{map, take}
-use Rattle.std.specs.Prelude.{string_bytes}
+use Rattle.std.{proofs.Common.map, proofs.Common.take, specs.Prelude.string_bytes}
 use Rattle.dnssec_network.specs.Text.Scripts.{AnswersEach, as_noted}
 use Rattle.dnssec_network.proofs.text.scripts.answer_each.Given as goal
 

@@ -1,6 +1,5 @@
 -- Each byte goes on with a part, or ends it.
-use Rattle.std.proofs.Common.{◌∙◌, arith, map, sym}
-use Rattle.std.proofs.lemmas.List.{map-append}
+use Rattle.std.proofs.{Common.◌∙◌, Common.arith, Common.map, Common.sym, lemmas.List.map-append}
 use Rattle.dnssec_network.proofs.Texts.Parting.{part_ends, part_goes_on, part_last}
 use denote.Bor.{now}
 use Rattle.dnssec_network.proofs.text.scripts.cut.Goals as goal

@@ -1,15 +1,13 @@
 -- More calls refuse no fact that fewer took.
 use Rattle.std.proofs.Common.{List, None, Option, Some, [], refl, subst, suc, sym, zero, ℕ, ◌++◌}
-use Rattle.std.proofs.Common.{◌∙◌, ◌∷◌, ◌≡◌}
-use Rattle.std.proofs.lemmas.Option.{slice_get_within}
+use Rattle.std.proofs.{Common.◌∙◌, Common.◌∷◌, Common.◌≡◌, lemmas.Option.slice_get_within}
 use Rattle.dnssec_run.proofs.{Grow.front, Latest.moments-outlast}
 use Rattle.dnssec_run.specs.Moments.{moment_of_call, moments_of}
 use Rattle.dnssec_network.specs.Notes.{news_refusal, version_refusal}
 use Rattle.dnssec_network.specs.declared.fact.{Fact.Fact, News.News}
 use Rattle.dnssec_network.specs.declared.fact.News.TheVariants.{Everywhere, Published}
 use Rattle.dnssec_network.specs.declared.progress.Newest.{Newest}
-use Rattle.dnssec_network.specs.Text.Reading.{AreTaken, HasTaken}
-use Rattle.dnssec_network.specs.Notes.{NotesParts}
+use Rattle.dnssec_network.specs.{Text.Reading.AreTaken, Text.Reading.HasTaken, Notes.NotesParts}
 use Rattle.dnssec_network.proofs.text.session.notes_outlast_calls.Goals as goal
 
 -- the moment of a call that was made stays

@@ -1,7 +1,6 @@
 -- The line is that of what is said.
 use Rattle.std.proofs.Common.{◌*◌, subst}
-use Rattle.dnssec_policy.specs.Code.{todo_of}
-use Rattle.dnssec_policy.specs.Automatic.Zone.{Says}
+use Rattle.dnssec_policy.specs.{Code.todo_of, Automatic.Zone.Says}
 use Rattle.dnssec_policy.proofs.automatic.answer.said.Goals as goal
 
 pub returns : goal.returns

@@ -2,8 +2,7 @@
 use Rattle.std.proofs.Common.{◌∙◌, ◌++◌, ap, map, string_bytes, sym}
 use Rattle.std.proofs.lemmas.Result.{on_ok_weaker}
 use denote.Bor.{now}
-use Rattle.dnssec_policy.specs.Code.{todo_of}
-use Rattle.dnssec_policy.specs.Automatic.Lines.{start_text, todo_line}
+use Rattle.dnssec_policy.specs.{Code.todo_of, Automatic.Lines.start_text, Automatic.Lines.todo_line}
 use Rattle.dnssec_policy.proofs.automatic.line.push_next.Goals as goal
 
 pub returns-in-Start : goal.returns-in-Start

@@ -1,8 +1,7 @@
 -- The highest TTLs of the facts so far.
 use Rattle.std.proofs.Common.{ℕ, List, map, take}
 use denote.Bor.{now}
-use Rattle.dnssec_network.specs.declared.fact.Fact.{Fact}
-use Rattle.dnssec_network.specs.Text.Reading.{AreFacts}
+use Rattle.dnssec_network.specs.{declared.fact.Fact.Fact, Text.Reading.AreFacts}
 use Rattle.dnssec_policy.specs.Text.Lint.{AreHighest}
 use Rattle.dnssec_policy.proofs.automatic.zone_notes.highest_after.Given as goal
 

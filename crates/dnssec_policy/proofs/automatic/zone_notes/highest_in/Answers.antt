@@ -1,8 +1,7 @@
 -- The first line, and the others.
 use Rattle.std.proofs.Common.{None, Some, ap, arith, subst, sym, ◌∙◌, ◌≡◌}
 use Rattle.std.specs.Option.{option_map}
-use Rattle.dnssec_network.specs.Facts.{Before}
-use Rattle.dnssec_network.specs.Text.Lines.{before_says}
+use Rattle.dnssec_network.specs.{Facts.Before, Text.Lines.before_says}
 use Rattle.dnssec_policy.specs.Text.Lint.{AreHighest}
 use Rattle.dnssec_policy.proofs.Zone.Facts.{first-line, no-notes, same-before}
 use Rattle.dnssec_policy.proofs.automatic.zone_notes.highest_in.Goals as goal

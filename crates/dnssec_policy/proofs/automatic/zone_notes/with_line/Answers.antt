@@ -1,10 +1,8 @@
 -- The fact that was read is the one that the line says.
 use Rattle.std.proofs.Common.{◌≡◌, ◌++◌, ◌∷◌, ◌∙◌, [], None, Some, ap, subst, sym}
 use Rattle.std.specs.Option.{option_map}
-use Rattle.dnssec_network.specs.declared.fact.Fact.{Fact}
-use Rattle.dnssec_network.specs.Text.Lines.{fact_says}
-use Rattle.dnssec_policy.specs.Text.Lint.{AreHighest}
-use Rattle.dnssec_policy.proofs.Zone.Facts.{same-fact}
+use Rattle.dnssec_network.specs.{declared.fact.Fact.Fact, Text.Lines.fact_says}
+use Rattle.dnssec_policy.{specs.Text.Lint.AreHighest, proofs.Zone.Facts.same-fact}
 use Rattle.dnssec_policy.proofs.automatic.zone_notes.with_line.Goals as goal
 
 pub returns-in-None : goal.returns-in-None

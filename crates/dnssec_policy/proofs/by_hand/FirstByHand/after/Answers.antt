@@ -1,8 +1,6 @@
 -- The one so far, or the call.
-use Rattle.std.proofs.Common.{◌∙◌, sym}
-use Rattle.std.specs.Option.{option_or}
-use Rattle.dnssec_policy.specs.ByHand.{at_if_by_hand}
-use Rattle.dnssec_policy.proofs.ByHand.{first-follows}
+use Rattle.std.{proofs.Common.◌∙◌, proofs.Common.sym, specs.Option.option_or}
+use Rattle.dnssec_policy.{specs.ByHand.at_if_by_hand, proofs.ByHand.first-follows}
 use Rattle.dnssec_policy.proofs.by_hand.FirstByHand.after.Goals as goal
 
 pub returns : goal.returns

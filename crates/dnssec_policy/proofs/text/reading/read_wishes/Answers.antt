@@ -1,8 +1,7 @@
 -- Each turn reads one line.
 use Rattle.std.proofs.Common.{[], ◌+◌, ◌∙◌, ◌∷◌, ◌≡◌, Bor, List, ap, arith, drop, length, map}
 use Rattle.std.proofs.Common.{sym, Err, drop_of_length-le, suc, ◌<◌, ℕ}
-use Rattle.std.proofs.lemmas.List.{length-map}
-use Rattle.std.proofs.Math.Seq.{drop-cons}
+use Rattle.std.proofs.{lemmas.List.length-map, Math.Seq.drop-cons}
 use Rattle.dnssec_script.proofs.Texts.{shown_at, text_at, within_shown}
 use Rattle.dnssec_policy.specs.Text.Reading.{read_from}
 use Rattle.dnssec_policy.proofs.Texts.Steps.{faulty, one-more}

@@ -1,7 +1,6 @@
 -- The text that is written is read as the policy.
 use Rattle.std.proofs.Common.{rules, string_bytes, ◌≡◌}
-use Rattle.dnssec_policy.specs.Text.Writing.{policy_text}
-use Rattle.dnssec_policy.proofs.Texts.Back.{read_of}
+use Rattle.dnssec_policy.{specs.Text.Writing.policy_text, proofs.Texts.Back.read_of}
 use Rattle.dnssec_policy.proofs.text.writing.policy_text.Goals as goal
 
 pub returns-clause-read : goal.returns-clause-read

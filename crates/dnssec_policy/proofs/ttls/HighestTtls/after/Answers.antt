@@ -1,7 +1,6 @@
 -- The fact counts for its kind.
 use Rattle.std.proofs.Common.{◌∙◌, ap}
-use Rattle.dnssec_policy.specs.Ttls.{ttl_in}
-use Rattle.dnssec_policy.proofs.Highest.{raised-by}
+use Rattle.dnssec_policy.{specs.Ttls.ttl_in, proofs.Highest.raised-by}
 use Rattle.dnssec_policy.proofs.ttls.HighestTtls.after.Goals as goal
 
 pub returns : goal.returns

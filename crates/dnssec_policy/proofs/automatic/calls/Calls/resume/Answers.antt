@@ -2,14 +2,12 @@
 use Rattle.std.proofs.Common.{◌≡◌, ◌≢◌, [], ℕ, List, Option, Some, subst, sym}
 use Rattle.std.proofs.lemmas.List.Elements.{All-nil, All-push}
 use Rattle.dnssec_base.specs.declared.error.Error.TheVariants.{OutOfMemory}
-use Rattle.dnssec_run.specs.declared.record.Reply.{Reply}
-use Rattle.dnssec_run.specs.declared.record.Reply.TheVariants.{Refused}
+use Rattle.dnssec_run.specs.declared.record.Reply.{Reply, TheVariants.Refused}
 use Rattle.dnssec_script.specs.declared.{lines.Lines.Lines, statement.Statement.Statement}
 use Rattle.dnssec_record.proofs.Made.{Finds, HasMade, all_made, one_made}
-use Rattle.dnssec_policy.specs.Automatic.Calls.{Takes}
-use Rattle.dnssec_policy.specs.declared.automatic.calls.Calls.{Calls}
-use Rattle.dnssec_policy.proofs.automatic.calls.Calls.resume.Goals as goal
+use Rattle.dnssec_policy.specs.{Automatic.Calls.Takes, declared.automatic.calls.Calls.Calls}
 use Rattle.dnssec_policy.proofs.automatic.calls.Calls.resume.Invariants.{Stand}
+use Rattle.dnssec_policy.proofs.automatic.calls.Calls.resume.Goals as goal
 
 -- one more line, whose call isn't refused for lack of memory
 made_more : {script : List ℕ} {before : Lines} {after : Lines} {found : Option Statement}

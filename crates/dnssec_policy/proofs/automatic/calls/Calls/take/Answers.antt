@@ -1,6 +1,5 @@
 -- The call of the statement is made.
-use Rattle.std.proofs.Common.{◌∙◌, ap, sym}
-use Rattle.std.proofs.lemmas.Result.{IfOk-weaker}
+use Rattle.std.proofs.{Common.◌∙◌, Common.ap, Common.sym, lemmas.Result.IfOk-weaker}
 use Rattle.dnssec_script.specs.Inner.Statement.{statement_says}
 use Rattle.dnssec_policy.proofs.automatic.calls.Calls.take.Goals as goal
 

@@ -2,10 +2,9 @@
 use Rattle.std.proofs.Common.{ℕ, List, Some, refl}
 use Rattle.dnssec_run.specs.declared.{call.Call.Call, record.Entry.Entry}
 use Rattle.dnssec_policy.specs.Automatic.Zone.{Advances, IsAutomaticAfter, Makes}
-use Rattle.dnssec_policy.specs.declared.automatic.zone.{Advance.Advance}
-use Rattle.dnssec_policy.specs.declared.automatic.zone.{AutomaticZone.AutomaticZone}
-use Rattle.dnssec_policy.specs.declared.policy.Policy.{Policy}
-use Rattle.dnssec_policy.proofs.Zone.Grown.{one-said}
+use Rattle.dnssec_policy.specs.declared.automatic.zone.Advance.{Advance}
+use Rattle.dnssec_policy.specs.declared.automatic.zone.AutomaticZone.{AutomaticZone}
+use Rattle.dnssec_policy.{specs.declared.policy.Policy.Policy, proofs.Zone.Grown.one-said}
 use Rattle.dnssec_policy.proofs.automatic.zone.AutomaticZone.advance.Goals as goal
 
 -- the zone with what the call leaves

@@ -1,6 +1,5 @@
 -- No call is made yet.
-use Rattle.std.proofs.Common.{[], arith, refl}
-use Rattle.std.proofs.lemmas.Option.{slice_get_within}
+use Rattle.std.proofs.{Common.[], Common.arith, Common.refl, lemmas.Option.slice_get_within}
 use Rattle.dnssec_policy.proofs.automatic.zone.AutomaticZone.new.Goals as goal
 
 pub returns : goal.returns

@@ -3,11 +3,8 @@ use Rattle.std.proofs.Common.{◌∙◌, ℕ, Option, ap, refl, subst, sym}
 use Rattle.std.proofs.lemmas.Result.{IfOk-weaker}
 use Rattle.dnssec_run.specs.Record.{world_at}
 use Rattle.dnssec_network.specs.{Facts.AreTrue, Notes.NotesParts}
-use Rattle.dnssec_policy.specs.Code.{view_of}
-use Rattle.dnssec_policy.specs.Next.{answer_of}
-use Rattle.dnssec_policy.specs.declared.state.State.{State}
-use Rattle.dnssec_policy.specs.declared.ttls.HighestTtls.{HighestTtls}
-use Rattle.dnssec_policy.specs.Ttls.{highest_of, ttl_in}
+use Rattle.dnssec_policy.specs.{Code.view_of, Next.answer_of, declared.state.State.State}
+use Rattle.dnssec_policy.specs.{declared.ttls.HighestTtls.HighestTtls, Ttls.highest_of, Ttls.ttl_in}
 use Rattle.dnssec_policy.proofs.automatic.zone.AutomaticZone.next.Goals as goal
 
 pub returns : goal.returns

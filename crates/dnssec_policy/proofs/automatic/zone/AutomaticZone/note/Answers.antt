@@ -1,6 +1,5 @@
 -- What is true with one fact more was true without it.
-use Rattle.std.proofs.Common.{refl}
-use Rattle.std.proofs.lemmas.Result.{on_ok_weaker}
+use Rattle.std.proofs.{Common.refl, lemmas.Result.on_ok_weaker}
 use Rattle.dnssec_policy.proofs.Zone.Grown.{one-noted}
 use Rattle.dnssec_policy.proofs.automatic.zone.AutomaticZone.note.Goals as goal
 

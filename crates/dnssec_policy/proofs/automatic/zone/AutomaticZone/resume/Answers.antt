@@ -1,7 +1,6 @@
 -- The calls of the script, and the facts of the notes.
 use Rattle.std.proofs.Common.{List, subst, ℕ}
-use Rattle.dnssec_network.specs.{Facts.AreTrue, Notes.NotesParts}
-use Rattle.dnssec_network.specs.Text.Reading.{AreNotes}
+use Rattle.dnssec_network.specs.{Facts.AreTrue, Notes.NotesParts, Text.Reading.AreNotes}
 use Rattle.dnssec_script.specs.Script.{lines_of}
 use Rattle.dnssec_policy.proofs.automatic.zone.AutomaticZone.resume.Goals as goal
 
