@@ -1,6 +1,6 @@
 -- Prompt servers, and notes of what they give, meet all premises.
-use Rattle.std.proofs.Common.{Bool, List, None, Ok, Some, [], arith, false}
-use Rattle.std.proofs.Common.{length, refl, subst, suc, sym, true, zero, ℕ, ◌+◌, ◌<◌, ◌∷◌, ◌≡◌, ◌≤◌}
+use Rattle.std.proofs.Common.{Bool, List, None, Ok, Some, [], ap, arith, false, length, refl, subst}
+use Rattle.std.proofs.Common.{suc, sym, true, zero, ℕ, ◌+◌, ◌<◌, ◌∷◌, ◌∙◌, ◌≡◌, ◌≤◌}
 use Rattle.std.specs.Prelude.{fold, max, ◌-◌}
 use Rattle.dnssec_key.specs.declared.roll.RollType.{RollType}
 use Rattle.dnssec_run.proofs.{Chain.History.base-lies-below, Since.origin-le}
@@ -11,8 +11,8 @@ use Rattle.dnssec_run.specs.declared.caches.SetKind.{SetKind as Kind}
 use Rattle.dnssec_run.specs.declared.caches.SetKind.TheVariants as code
 use Rattle.dnssec_network.proofs.{Held.report-within, Noted.notes_make_reports_true}
 use Rattle.dnssec_network.specs.Facts.{Before, AreTrueFrom, news_of, ttl_before}
-use Rattle.dnssec_network.specs.Models.{IsByTheClock, NoTtlBelow}
-use Rattle.dnssec_network.specs.Models.{PremisesCanBeMet, made_since, prompt}
+use Rattle.dnssec_network.specs.Models.{IsByTheClock, NoTtlBelow, PremisesCanBeMet, made_since}
+use Rattle.dnssec_network.specs.{Models.prompt, Reports.due_or, Reports.higher}
 use Rattle.dnssec_network.specs.Network.{IsNetworkOf, Network, NoneLiesAhead, ReportsAreTrue}
 use Rattle.dnssec_network.specs.Reports.{NoneGoesBack, ReportsAreByNotes, due, due_of}
 use Rattle.dnssec_network.specs.Spread.{after, due_for, end_of, first_spread, known, seconds_left}
@@ -45,11 +45,9 @@ module _ (first start ttl : ℕ) where
   -- of each kind the same
   news-of : (kind : SetKind) (p m : ℕ) → news_of kind (facts_from p m) ≡ news_from p m
   unfolding facts_from news_from
-  news-of Ds p zero = refl
+  news-of kind p zero = refl
   news-of Ds p (suc m) = grind (arith, news-of Ds (suc p) m)
-  news-of Dnskey p zero = refl
   news-of Dnskey p (suc m) = grind (arith, news-of Dnskey (suc p) m)
-  news-of ZoneSigners p zero = refl
   news-of ZoneSigners p (suc m) = grind (arith, news-of ZoneSigners (suc p) m)
 
   -- ---- that is true
@@ -141,59 +139,19 @@ highest-is : (from : SetKind → ℕ) (now limit : ℕ) (roll : RollType) (secon
     → ((kind : Kind) → (least : ℕ) × (least ≤ limit)
     × (due_of before facts kind true (from (kind_of kind)) now ≡ Ok least))
     → (most : ℕ) × (most ≤ limit) × (due before facts roll second from now ≡ Ok most)
-highest-is from now limit roll second before facts e = by (retires roll second Ds)
-    (retires roll second Dnskey) (retires roll second ZoneSigners) refl refl refl
+highest-is from now limit roll second before facts e =
+    let ds = of code.Ds (retires roll second Ds) in
+    let dnskey = of code.Dnskey (retires roll second Dnskey) in
+    let zone = of code.ZoneSigners (retires roll second ZoneSigners) in (
+      max (max ds.0 dnskey.0) zone.0,
+      omega (arith, ds.1, dnskey.1, zone.1),
+      λ i. higher (higher (ds.2 i) (dnskey.2 i)) (zone.2 i),
+    )
   where
-    a : (least : ℕ) × (least ≤ limit) × (due_of before facts code.Ds true (from Ds) now ≡ Ok least)
-    a = e code.Ds
-
-    b : (least : ℕ) × (least ≤ limit)
-        × (due_of before facts code.Dnskey true (from Dnskey) now ≡ Ok least)
-    b = e code.Dnskey
-
-    d : (least : ℕ) × (least ≤ limit)
-        × (due_of before facts code.ZoneSigners true (from ZoneSigners) now ≡ Ok least)
-    d = e code.ZoneSigners
-
-    by : (x y z : Bool) → retires roll second Ds ≡ x → retires roll second Dnskey ≡ y
-        → retires roll second ZoneSigners ≡ z
-        → (most : ℕ) × (most ≤ limit) × (due before facts roll second from now ≡ Ok most)
-    by false false false x y z = (0, omega arith, grind (arith, x, y, z))
-    by false false true x y z = (
-      max (max 0 0) d.0,
-      omega (arith, d.1),
-      grind (arith, x, y, z, d.2),
-    )
-    by false true false x y z = (
-      max (max 0 b.0) 0,
-      omega (arith, b.1),
-      grind (arith, x, y, z, b.2),
-    )
-    by false true true x y z = (
-      max (max 0 b.0) d.0,
-      omega (arith, b.1, d.1),
-      grind (arith, x, y, z, b.2, d.2),
-    )
-    by true false false x y z = (
-      max (max a.0 0) 0,
-      omega (arith, a.1),
-      grind (arith, x, y, z, a.2),
-    )
-    by true false true x y z = (
-      max (max a.0 0) d.0,
-      omega (arith, a.1, d.1),
-      grind (arith, x, y, z, a.2, d.2),
-    )
-    by true true false x y z = (
-      max (max a.0 b.0) 0,
-      omega (arith, a.1, b.1),
-      grind (arith, x, y, z, a.2, b.2),
-    )
-    by true true true x y z = (
-      max (max a.0 b.0) d.0,
-      omega (arith, a.1, b.1, d.1),
-      grind (arith, x, y, z, a.2, b.2, d.2),
-    )
+    of : (kind : Kind) (speaks : Bool) → (least : ℕ) × (least ≤ limit)
+        × (due_of before facts kind speaks (from (kind_of kind)) now ≡ Ok least)
+    of kind false = (0, omega arith, refl)
+    of kind true = e kind
 
 module _ (first start ttl time : ℕ) (entries : List Entry) (within : first ≤ length entries)
     (late : start ≤ time) (fits : ttl ≤ 4_294_967_295) (clock : IsByTheClock first start entries)
@@ -238,30 +196,19 @@ module _ (first start ttl time : ℕ) (entries : List Entry) (within : first ≤
   abbrev earlier : Before
   earlier = record { ds = ttl; dnskey = ttl; zone = ttl }
 
-  earlier-is : (kind : SetKind) → ttl ≤ ttl_before earlier kind
-  earlier-is Ds = omega arith
-  earlier-is Dnskey = omega arith
-  earlier-is ZoneSigners = omega arith
+  earlier-is : (kind : SetKind) → ttl_before earlier kind ≡ ttl
+  earlier-is Ds = refl
+  earlier-is Dnskey = refl
+  earlier-is ZoneSigners = refl
 
   each-due : (base at least : ℕ) (kind : Kind)
       → due_for base (known base ttl (news_from first start ttl first (at - first)))
       (made_since first start at) ≡ Some least
       → due_of earlier (noted at) kind true base (made_since first start at) ≡ Ok least
-  each-due base at least code.Ds e = grind (
-    arith,
-    news-of first start ttl Ds first (at - first),
-    e,
-  )
-  each-due base at least code.Dnskey e = grind (
-    arith,
-    news-of first start ttl Dnskey first (at - first),
-    e,
-  )
-  each-due base at least code.ZoneSigners e = grind (
-    arith,
-    news-of first start ttl ZoneSigners first (at - first),
-    e,
-  )
+  each-due base at least kind e = ap (due_or kind) ((λ i. due_for base
+      (known base (earlier-is (kind_of kind) i)
+      (news-of first start ttl (kind_of kind) first (at - first) i))
+      (made_since first start at)) ∙ e)
 
   notes : ReportsAreByNotes entries net time
   notes r =
@@ -278,7 +225,7 @@ module _ (first start ttl time : ℕ) (entries : List Entry) (within : first ≤
         before = earlier;
         facts = noted r.at;
         are_true = λ kind. (
-          earlier-is kind,
+          omega (arith, earlier-is kind),
           subst (λ news. AreTrueFrom net kind time 0 news)
               (sym (news-of first start ttl kind first (r.at - first)))
               (news-true first start ttl time entries within kind 0 first (r.at - first)

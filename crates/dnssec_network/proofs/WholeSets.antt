@@ -18,7 +18,7 @@ use Rattle.dnssec_run.specs.{Plain.start_of, Published.Id, Published.World, Reco
 use Rattle.dnssec_run.specs.Safe.{Position, blank, position_at, position_of}
 use Rattle.dnssec_network.proofs.CallByCall.{Entries, Reached, gets, order, world_of}
 use Rattle.dnssec_network.proofs.Models.{premises_can_be_met}
-use Rattle.dnssec_network.specs.Models.{IsByTheClock, NoTtlBelow}
+use Rattle.dnssec_network.specs.Models.{IsByTheClock, NoTtlBelow, made_since}
 use Rattle.dnssec_network.specs.WholeSets.{HasDsBy, WholeSetsCanBeKept}
 use Rattle.dnssec_network.proofs.Course as course
 
@@ -100,19 +100,16 @@ module _ (heap : Global) (name : List ℕ) (one other : ℕ) where
 
   -- ---- it is made by the clock, and no report is too short
 
-  at-entry : (n : ℕ) → ((slice_get entries n ≡ None) × (position_at entries (suc n) ≡ blank))
-      ⊎ ((e : Entry) × (slice_get entries n ≡ Some e)
-      × (position_at entries (suc n) ≡ position_of e))
+  -- what holds of each entry holds of the position after it
+  by-entry : (P : Position → Type 0) → P blank → (n : ℕ)
+      → ((e : Entry) → slice_get entries n ≡ Some e → P (position_of e))
+      → P (position_at entries (suc n))
   unfolding position_at
-  at-entry n = by-option (slice_get entries n) refl
+  by-entry P none n some = on (slice_get entries n) refl
     where
-      by-option : (o : Option Entry) → slice_get entries n ≡ o
-          → ((slice_get entries n ≡ None) × (option_map_or position_of (slice_get entries n) blank
-          ≡ blank))
-          ⊎ ((e : Entry) × (slice_get entries n ≡ Some e)
-          × (option_map_or position_of (slice_get entries n) blank ≡ position_of e))
-      by-option None e = inl (e, ap (λ o. option_map_or position_of o blank) e)
-      by-option (Some x) e = inr (x, e, ap (λ o. option_map_or position_of o blank) e)
+      on : (o : Option Entry) → slice_get entries n ≡ o → P (option_map_or position_of o blank)
+      on None at = none
+      on (Some e) at = some e at
 
   timed : ℕ → Entry → Bool
   timed n e = option_map_or (λ m. nat_eq m (n * 1_000_000_000)) e.moment true
@@ -125,14 +122,11 @@ module _ (heap : Global) (name : List ℕ) (one other : ℕ) where
   clock : IsByTheClock 0 0 entries
   unfolding position_at timed holds_from
   clock zero moment is = absurd (none-some moment is)
-  clock (suc n) moment is = elim (at-entry n) [
-    | inl gone ↦ absurd (none-some moment (sym (ap (λ (p : Position). p.moment) gone.1) ∙ is))
-    | inr there ↦
-        let at : moment ≡ (1 + n) * 1_000_000_000 = timed-is (1 + n) there.0 moment
-        (holds-at timed 1 entries refl n there.0 there.1)
-        (sym (ap (λ (p : Position). p.moment) there.2) ∙ is) in
-        omega (arith, at)
-  ]
+  clock (suc n) moment is = by-entry (λ p. p.moment ≡ Some moment → moment ≡ made_since 0 0 (suc n))
+      (λ is. absurd (none-some moment is)) n
+      (λ e there is.
+      let at = timed-is (1 + n) e moment (holds-at timed 1 entries refl n e there) is in
+      omega (arith, at)) is
 
   abbrev is_long : Mark → Bool
   is_long (Report roll last t) = nat_le 1 t
@@ -149,11 +143,9 @@ module _ (heap : Global) (name : List ℕ) (one other : ℕ) where
   lasts : NoTtlBelow 0 1 entries
   unfolding position_at long holds_from
   lasts zero t roll last after is = absurd (omega (arith, after))
-  lasts (suc n) t roll last after is = elim (at-entry n) [
-    | inl gone ↦ grind (arith, gone, is)
-    | inr there ↦ long-is n there.0 t roll last (holds-at long 0 entries refl n there.0 there.1)
-        (sym (ap (λ (p : Position). p.mark) there.2) ∙ is)
-  ]
+  lasts (suc n) t roll last after is = by-entry (λ p. p.mark ≡ Report roll last t → 1 ≤ t)
+      (λ is. grind (arith, is)) n
+      (λ e there is. long-is n e t roll last (holds-at long 0 entries refl n e there) is) is
 
   -- ---- it keeps sets whole
 
