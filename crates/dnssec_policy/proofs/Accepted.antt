@@ -48,20 +48,14 @@ module _ (at : List ℕ → Option KeyParts) where
       → (es : List Entry) → AllAt es → old_fault roll at (picks p es) ≡ None
   old-free roll p kind [] there = refl
   old-free roll p kind (e ∷ es) there =
-      let rest = old-free roll p kind es there.1 in
-      let here = there.0 in
-      let is = kind e.1 in
-      grind arith
+      grind (arith, old-free roll p kind es there.1, there.0, kind e.1)
 
   -- an entry that is listed passes
   picked-passes : (p : KeyParts → Bool) (es : List Entry) → AllAt es → (q : List ℕ)
       → is_listed (picks p es) q ≡ true → (k : KeyParts) × (at q ≡ Some k) × (p k ≡ true)
   picked-passes p [] there q l = absurd (true≢false (sym l))
   picked-passes p (e ∷ es) there q l =
-      let rest = picked-passes p es there.1 q in
-      let here = there.0 in
-      let same = (bytes_decides q e.0).0 in
-      grind (arith, or_parts)
+      grind (arith, or_parts, picked-passes p es there.1 q, there.0, (bytes_decides q e.0).0)
 
   -- ---- algorithms
 
@@ -75,29 +69,21 @@ module _ (at : List ℕ → Option KeyParts) where
     olds-within : (es : List Entry) → AllAt es → AllOf es
         → algorithms_within at (picks p es) (q ∷ []) ≡ true
     olds-within [] there is = refl
-    olds-within (e ∷ es) there is =
-        let rest = olds-within es there.1 is.1 in
-        let here = there.0 in
-        let has = is.0 in
-        grind arith
+    olds-within (e ∷ es) there is = grind (arith, olds-within es there.1 is.1, there.0, is.0)
 
 -- an entry that passes is listed
 pub listed-in : (p : KeyParts → Bool) (es : List Entry) (q : List ℕ) (k : KeyParts)
     → find (slice_cmp nat_cmp) q es ≡ Some k → p k ≡ true → is_listed (picks p es) q ≡ true
 listed-in p [] q k f e = absurd (cc)
 listed-in p (x ∷ xs) q k f e =
-    let rest = listed-in p xs q k in
-    let same = (bytes_decides q x.0).1 in
-    grind (arith, same_key, or_parts)
+    grind (arith, same_key, or_parts, listed-in p xs q k, (bytes_decides q x.0).1)
 
 -- and so is its algorithm
 listed-algorithm : (at : List ℕ → Option KeyParts) (qs : List (List ℕ)) (q : List ℕ) (k : KeyParts)
     → at q ≡ Some k → is_listed qs q ≡ true → has_algorithm at qs k.algorithm ≡ true
 listed-algorithm at [] q k there l = absurd (true≢false (sym l))
 listed-algorithm at (x ∷ xs) q k there l =
-    let rest = listed-algorithm at xs q k there in
-    let same = (bytes_decides q x).0 in
-    grind (arith, or_parts)
+    grind (arith, or_parts, listed-algorithm at xs q k there, (bytes_decides q x).0)
 
 -- the entries of a map are found
 all-at-on : (f g : List ℕ → Option KeyParts) → ((q : List ℕ) (k : KeyParts) → f q ≡ Some k
@@ -248,11 +234,7 @@ module _ (policy : Policy) (set : KeySetParts) where
         (each : list_all (λ want. serves_as_new want new.key.keytype) (wants roll) ≡ true)
         (algorithms : algorithm_fault roll (get set.keys) olds (q ∷ []) ≡ None) where
       new-free : new_fault roll (get set.keys) olds [] (q ∷ []) ≡ None
-      new-free =
-          let at = new.at in
-          let out = untaken role q new in
-          let fresh = new.fresh in
-          rw (at, out, kind, fresh) refl
+      new-free = rw (new.at, untaken role q new, kind, new.fresh) refl
 
       suitable : suitability_fault roll set.keys olds (q ∷ []) ≡ None
       suitable = grind (arith, each, new.at)
@@ -293,8 +275,7 @@ module _ (policy : Policy) (set : KeySetParts) where
         let has : has_algorithm (get set.keys) (olds roll) new.key.algorithm ≡ true =
         ap (λ a. has_algorithm (get set.keys) (olds roll) a)
         (new.algorithm ∙ sym (goes-of wanted roll old k at g)) ∙ some in
-        let here = new.at in
-        rw (here, has) refl
+        rw (new.at, has) refl
 
     renewal-algorithms : algorithm_fault roll (get set.keys) (olds roll) (q ∷ []) ≡ None
     renewal-algorithms = grind (arith, within, back)
@@ -311,28 +292,17 @@ module _ (policy : Policy) (set : KeySetParts) where
 
     two-entries : new_fault AlgorithmRoll (get set.keys) (olds AlgorithmRoll) [] (q ∷ r ∷ []) ≡ None
     two-entries =
-        let at_q = a.at in
-        let at_r = b.at in
         let out_q = untaken AlgorithmRoll Ksk q a in
         let out_r = untaken AlgorithmRoll Zsk r b in
         let kind_q = any-kind Ksk a.key a.has in
         let kind_r = any-kind Zsk b.key b.has in
-        let fresh_q = a.fresh in
-        let fresh_r = b.fresh in
-        rw (at_q, at_r, out_q, out_r, kind_q, kind_r, fresh_q, fresh_r, apart) refl
+        rw (a.at, b.at, out_q, out_r, kind_q, kind_r, a.fresh, b.fresh, apart) refl
 
     two-suit : suitability_fault AlgorithmRoll set.keys (olds AlgorithmRoll) (q ∷ r ∷ []) ≡ None
-    two-suit =
-        let at_q = a.at in
-        let at_r = b.at in
-        let serve_q = ksk-in a.key.keytype a.has in
-        let serve_r = zsk-in b.key.keytype b.has in
-        grind arith
+    two-suit = grind (arith, a.at, b.at, ksk-in a.key.keytype a.has, zsk-in b.key.keytype b.has)
 
     two-free : keyset.start_refusal AlgorithmRoll set (olds AlgorithmRoll) (q ∷ r ∷ []) ≡ None
-    two-free =
-        let old = olds-free AlgorithmRoll in
-        rw (begins, old, two-entries, two-suit) refl
+    two-free = rw (begins, olds-free AlgorithmRoll, two-entries, two-suit) refl
 
   by-scheme : (scheme : Scheme) (news : List (List ℕ)) → conflict AlgorithmRoll set.rolls ≡ None
       → new_keys policy set.keys (roles_of scheme) ≡ Ok news

@@ -29,7 +29,7 @@ use Rattle.dnssec_policy.specs.Todo.{Make, Todo, rank}
 use Rattle.dnssec_policy.specs.Ttls.{at_most_due, higher_with, highest_of, if_retired, keeps}
 use Rattle.dnssec_policy.specs.{Ttls.lasting, Ttls.report_takes, View.View, View.reach_in}
 use Rattle.dnssec_policy.proofs.{Dues.due-parts, InTime.by-rank, Said.may, Spreads.Spread}
-use Rattle.dnssec_policy.proofs.Order.{rank-le, roll-said}
+use Rattle.dnssec_policy.proofs.Order.{roll-said}
 
 -- ---- by the notes of a kind
 
@@ -87,7 +87,7 @@ module _ (now : ℕ) where
       by : (t : Bool) → (if t then Some (seconds_left end now) else None) ≡ Some y → y ≤ h + 1
       by true e =
           let same : seconds_left end now ≡ y = cc in
-          let less = left-within h end le in omega (arith, same, less)
+          omega (arith, same, left-within h end le)
       by false e = absurd (cc)
 
   due-within : (base h y : ℕ) (a : Spread) → Within h a → due_for base a now ≡ Some y → y ≤ h + 1
@@ -126,6 +126,17 @@ module _ (now : ℕ) where
                 then seconds_until a.expired now else None) on
                 ∙ ap (λ (t : Bool). if t then seconds_until a.expired now else None) f ∙ y.1,
           )
+
+-- a report counts no longer by lower TTLs and a lower one that is due
+pub lasts-longer : (h ttl : SetKind → ℕ) → ((kind : SetKind) → h kind ≤ ttl kind)
+    → (roll : RollType) (second : Bool) (x y : ℕ) → x ≤ y
+    → lasting h roll second x ≤ lasting ttl roll second y
+lasts-longer h ttl high roll second x y le = by (retires roll second Ds)
+  where
+    by : (t : Bool) → (if t then max (x + keeps h) (h ZoneSigners + 1) else x)
+        ≤ (if t then max (y + keeps ttl) (ttl ZoneSigners + 1) else y)
+    by true = omega (arith, le, high Dnskey, high ZoneSigners)
+    by false = omega (arith, le)
 
 -- ---- of the three kinds
 
@@ -175,16 +186,6 @@ module _ (v : View) (ahead : NoneLiesAheadOf v)
         let most = p.6 in
         omega (arith, ds, dnskey, zone, most)
 
-    pub lasts-longer : (x y : ℕ) → x ≤ y
-        → lasting v.highest roll second x ≤ lasting v.highest roll second y
-    lasts-longer x y le = by (retires roll second Ds)
-      where
-        by : (t : Bool)
-            → (if t then max (x + keeps v.highest) (v.highest ZoneSigners + 1) else x)
-            ≤ (if t then max (y + keeps v.highest) (v.highest ZoneSigners + 1) else y)
-        by true = omega (arith, le)
-        by false = omega (arith, le)
-
     takes-all : at_most_due v.highest roll second ≤ report_takes v.highest roll second
     takes-all = by (retires roll second Ds)
       where
@@ -209,10 +210,9 @@ module _ (v : View) (ahead : NoneLiesAheadOf v)
         → if_retired v.highest roll second kind ≤ at_most_due v.highest roll second - 1
         → retires roll second kind ≡ true → v.highest kind + 1 ≤ 4_294_967_295
     small-kind kind small part t =
-        let all = takes-all in
         let one : if_retired v.highest roll second kind ≡ v.highest kind =
         ap (λ (b : Bool). if b then v.highest kind else 0) t in
-        omega (arith, small, part, all, one)
+        omega (arith, small, part, takes-all, one)
 
     pub some-due : (from : SetKind → ℕ) → report_takes v.highest roll second ≤ 4_294_967_295
         → ((kind : Kind) → retires roll second (kind_of kind) ≡ true
@@ -233,10 +233,9 @@ pub no-longer : ReportsCountNoLonger
 no-longer policy v roll half ttl now ahead highest is =
     let m = may policy v (keyset.Report roll half ttl now) is in
     let least = least-due v ahead highest roll (is_second half) (origin_in (m.2).origins) m.4 m.5 in
-    let le = lasts-longer v ahead highest roll (is_second half) m.4
+    let le = lasts-longer v.highest v.highest (λ kind. omega arith) roll (is_second half) m.4
     (at_most_due v.highest roll (is_second half)) least in
-    let lasts = m.6 in
-    omega (arith, le, lasts)
+    omega (arith, le, m.6)
 
 pub in-time : ReportsAreInTime
 in-time policy v roll half step ahead highest phase known there small =
@@ -245,8 +244,8 @@ in-time policy v roll half step ahead highest phase known there small =
     let some = some-due v ahead highest roll second from small there in
     let least = least-due v ahead highest roll second from some.0 some.1 in
     let long = lasting v.highest roll second some.0 in
-    let le = lasts-longer v ahead highest roll second some.0 (at_most_due v.highest roll second)
-    least in
+    let le = lasts-longer v.highest v.highest (λ kind. omega arith) roll second some.0
+    (at_most_due v.highest roll second) least in
     let fits : nat_le long 4_294_967_295 ≡ true =
     le-leb long 4_294_967_295 (omega (arith, le, small)) in
     let said : report_next v roll half (v.step roll) ≡ Make (keyset.Report roll half long v.now) =
@@ -256,8 +255,7 @@ in-time policy v roll half step ahead highest phase known there small =
     in
     let next = on half phase ∙ said in
     by-rank (next_of policy v) (phase_next v roll (phase_of v.set.rolls roll))
-    (rank-le (next_of policy v) (phase_next v roll (phase_of v.set.rolls roll))
-    (roll-said policy v roll)) (ap rank next)
+    (roll-said policy v roll) (ap rank next)
   where
     on : (half : Half) → phase_of v.set.rolls roll ≡ Some (propagation half)
         → phase_next v roll (phase_of v.set.rolls roll) ≡ report_next v roll half (v.step roll)
@@ -274,8 +272,7 @@ ends-in-time policy v roll base phase last there =
     let next : phase_next v roll (phase_of v.set.rolls roll) ≡ todo =
     ap (phase_next v roll) phase ∙ ap (end_next v roll) last ∙ all in
     by-rank (next_of policy v) (phase_next v roll (phase_of v.set.rolls roll))
-    (rank-le (next_of policy v) (phase_next v roll (phase_of v.set.rolls roll))
-    (roll-said policy v roll)) (ap rank next)
+    (roll-said policy v roll) (ap rank next)
   where
     there-done : (kind : Kind) (todo : Todo) → once_there v roll base kind todo ≡ todo
     there-done kind todo = by (ends_with roll kind) refl

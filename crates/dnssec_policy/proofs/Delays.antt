@@ -1,6 +1,6 @@
 -- A roll is done after its delays and its waits, and a lag for each call made meanwhile.
-use Rattle.std.proofs.Common.{◌≡◌, ℕ, zero, suc, ◌+◌, ◌*◌, ◌^◌, ◌<◌, ◌≤◌, ◌⊎◌, inl, inr, Bool, true}
-use Rattle.std.proofs.Common.{false, List, Option, None, Some, length, max, refl, sym, ap, subst}
+use Rattle.std.proofs.Common.{◌≡◌, ℕ, suc, ◌+◌, ◌*◌, ◌^◌, ◌<◌, ◌≤◌, ◌⊎◌, inl, inr, Bool, true}
+use Rattle.std.proofs.Common.{false, List, Option, None, Some, length, refl, sym, ap, subst}
 use Rattle.std.proofs.{Common.◌∙◌, Common.arith, lemmas.Bool.cases_lt, lemmas.Bool.true≢false}
 use Rattle.std.proofs.lemmas.Option.{none-some, same_Some, slice_get_within}
 use Rattle.std.specs.{Prelude.if◌then◌else◌, Prelude.slice_get, Prelude.◌&&◌, Option.option_map}
@@ -30,39 +30,29 @@ use Rattle.dnssec_policy.specs.Automatic.{IsAutomatic, is_add, last_below}
 use Rattle.dnssec_policy.specs.Delays.{AreMade, Delays, HasTtls, IsAfter}
 use Rattle.dnssec_policy.specs.Delays.{SpreadWithin, Watch, delay_of, said}
 use Rattle.dnssec_policy.specs.Laws.{IsPrompt, UntilOver}
-use Rattle.dnssec_policy.specs.{Todo.Make, Todo.Todo, Todo.rank, Ttls.report_takes, View.View}
+use Rattle.dnssec_policy.specs.{Todo.Make, Todo.Todo, Todo.rank, View.View}
+use Rattle.dnssec_policy.specs.Ttls.{at_most_due, if_retired, report_takes}
 use Rattle.dnssec_policy.proofs.PlainCalls.{automatic-plain}
-use Rattle.dnssec_policy.proofs.{Bound.ends-in-time, Bound.in-time, Bound.no-longer, May.May}
+use Rattle.dnssec_policy.proofs.Bound.{ends-in-time, in-time, lasts-longer, no-longer}
+use Rattle.dnssec_policy.proofs.{Lags.climbs, May.May}
 use Rattle.dnssec_policy.proofs.Notes.{add-moment, at-now, none-ahead}
 use Rattle.dnssec_policy.proofs.{Prompt.prompt, Said.may, Steps.second_of}
 
 -- ---- higher TTLs
 
--- how long a report counts, by the kinds that it speaks of
-abbrev takes-by : Bool → Bool → Bool → (SetKind → ℕ) → ℕ
-takes-by ds dnskey zone ttl =
-    if ds then max (max (max (if ds then ttl Ds else 0) (if dnskey then ttl Dnskey else 0))
-    (if zone then ttl ZoneSigners else 0) + 1 + (ttl Dnskey + 1)) (ttl ZoneSigners + 1)
-    else max (max (if ds then ttl Ds else 0) (if dnskey then ttl Dnskey else 0))
-    (if zone then ttl ZoneSigners else 0) + 1
-
-higher-takes : (ds dnskey zone : Bool) (h ttl : SetKind → ℕ) → h Ds ≤ ttl Ds
-    → h Dnskey ≤ ttl Dnskey → h ZoneSigners ≤ ttl ZoneSigners
-    → takes-by ds dnskey zone h ≤ takes-by ds dnskey zone ttl
-higher-takes true true true h ttl a b c = omega (arith, a, b, c)
-higher-takes true true false h ttl a b c = omega (arith, a, b, c)
-higher-takes true false true h ttl a b c = omega (arith, a, b, c)
-higher-takes true false false h ttl a b c = omega (arith, a, b, c)
-higher-takes false true true h ttl a b c = omega (arith, a, b, c)
-higher-takes false true false h ttl a b c = omega (arith, a, b, c)
-higher-takes false false true h ttl a b c = omega (arith, a, b, c)
-higher-takes false false false h ttl a b c = omega (arith, a, b, c)
-
 takes-more : (h ttl : SetKind → ℕ) → ((kind : SetKind) → h kind ≤ ttl kind)
     → (roll : RollType) (second : Bool) → report_takes h roll second ≤ report_takes ttl roll second
 takes-more h ttl le roll second =
-    higher-takes (retires roll second Ds) (retires roll second Dnskey)
-    (retires roll second ZoneSigners) h ttl (le Ds) (le Dnskey) (le ZoneSigners)
+    let ds = one Ds in let dnskey = one Dnskey in let zone = one ZoneSigners in
+    lasts-longer h ttl le roll second (at_most_due h roll second) (at_most_due ttl roll second)
+    (omega (arith, ds, dnskey, zone))
+  where
+    by : (t : Bool) (m n : ℕ) → m ≤ n → (if t then m else 0) ≤ (if t then n else 0)
+    by true m n le = le
+    by false m n le = omega arith
+
+    one : (kind : SetKind) → if_retired h roll second kind ≤ if_retired ttl roll second kind
+    one kind = by (retires roll second kind) (h kind) (ttl kind) (le kind)
 
 -- ---- waits
 
@@ -96,8 +86,7 @@ over-said : (v : View) (todo : Todo) (roll : RollType) (latest : ℕ) → latest
     → (o : Option WaitEnd) → TellsEnd roll v.set o → UntilOver v.now todo o → rank todo ≡ 0
 over-said v todo roll latest le small within None tells until = absurd until
 over-said v todo roll latest le small within (Some PastTime) tells until =
-    let end = within tells.0 tells.2 in
-    let past = tells.1 in absurd (omega (arith, end, past, small))
+    let past = tells.1 in absurd (omega (arith, within tells.0 tells.2, past, small))
 over-said v todo roll latest le small within (Some (At end)) tells until =
     let by = within end tells in until.0 (omega (arith, by, le))
 
@@ -170,9 +159,7 @@ module _ {name : List ℕ} {calls : List Call} {entries : List Entry} {network :
   set_at n = (world_at name calls entries n).set
 
   pub within-calls : (n : ℕ) (c : Call) → slice_get calls n ≡ Some c → n < length entries
-  within-calls n c ci =
-      let lt = slice_get_within calls n c ci in
-      let count = run.count in omega (arith, lt, count)
+  within-calls n c ci = omega (arith, slice_get_within calls n c ci, run.count)
 
   pub auto : IsAutomatic name calls entries network time
   auto n c ci = elim (all.are_said n c ci) [
@@ -182,7 +169,7 @@ module _ {name : List ℕ} {calls : List Call} {entries : List Entry} {network :
       view = watch.view n s.0;
       at = (all.known n s.0 s.1 s.2).0;
       clock = (let is = (all.known n s.0 s.1 s.2).1 in
-          let le = s.1.2 (within-calls n c ci) in omega (arith, is, le));
+          omega (arith, is, s.1.2 (within-calls n c ci)));
       said = s.3;
     })
   ]
@@ -196,13 +183,8 @@ module _ {name : List ℕ} {calls : List Call} {entries : List Entry} {network :
   ]
 
   pub in-turn : (m n : ℕ) → m ≤ n → n ≤ length entries → network.made m ≤ network.made n
-  in-turn m zero le within = let e : m ≡ zero = omega (arith, le) in rw e (omega arith)
-  in-turn m (suc n) le within = elim (cases_lt m (suc n)) [
-    | inl lt ↦
-        let before = in-turn m n (omega (arith, lt)) (omega (arith, within)) in
-        let next = all.in_order n (omega (arith, within)) in omega (arith, before, next)
-    | inr ge ↦ let e : m ≡ suc n = omega (arith, le, ge) in rw e (omega arith)
-  ]
+  in-turn m n le within =
+      climbs network.made m n (λ k low high. all.in_order k (omega (arith, high, within))) le
 
   -- the moment of a call lies between the call before it and its own time
   moment-is : (n : ℕ) (c : Call) (m : ℕ) → slice_get calls n ≡ Some c → call_moment c ≡ Some m
@@ -214,9 +196,7 @@ module _ {name : List ℕ} {calls : List Call} {entries : List Entry} {network :
         let at = at-now (watch.policy s.0) v (call_of c)
         (may (watch.policy s.0) v (call_of c) s.3) m (sym (plainly c).moment_is ∙ mo) in
         let now = (all.known n s.0 s.1 s.2).1 in
-        let low = s.1.1 in
-        let high = s.1.2 (within-calls n c ci) in
-        (omega (arith, at, now, low), omega (arith, at, now, high))
+        (omega (arith, at, now, s.1.1), omega (arith, at, now, s.1.2 (within-calls n c ci)))
   ]
 
   never-falls : NeverFalls calls
@@ -224,11 +204,8 @@ module _ {name : List ℕ} {calls : List Call} {entries : List Entry} {network :
     | inl lt ↦
         let x = moment-is i c a ci mc in
         let y = moment-is j d b dj md in
-        let high = x.1 in
-        let low = y.0 in
-        let within = within-calls j d dj in
-        let between = in-turn (suc i) j (omega (arith, lt)) (omega (arith, within)) in
-        omega (arith, high, low, between)
+        let between = in-turn (suc i) j (omega (arith, lt)) (omega (arith, within-calls j d dj)) in
+        omega (arith, x.1, y.0, between)
     | inr ge ↦
         let here : i ≡ j = omega (arith, le, ge) in
         let it : c ≡ d = same_Some c d (sym ci ∙ ap (slice_get calls) here ∙ dj) in
@@ -307,11 +284,9 @@ module _ {name : List ℕ} {calls : List Call} {entries : List Entry} {network :
           let step : v.step roll ≡ Some (step_at entries base) =
           k.0.step roll ∙ ap (option_map (step_at entries)) is in
           let here = seen (propagation half) phase in
-          let less = takes-all n now after le half in
-          let small = ttls.small half in
           in-time (watch.policy now) v roll half (step_at entries base) k.2 k.0.highest here step
           (spread.reports n now half (step_at entries base) after le here step past)
-          (omega (arith, less, small))
+          (omega (arith, takes-all n now after le half, ttls.small half))
 
       pub end-said : (base : ℕ) → phase_of (set_at n).rolls roll ≡ Some Done
           → last_below calls entries roll n ≡ Some base
@@ -329,13 +304,10 @@ module _ {name : List ℕ} {calls : List Call} {entries : List Entry} {network :
       wait-said half ttl at below phase none past =
           let k = all.known n now after le in
           let latest = network.made at + ttl * 1_000_000_000 in
-          let made = after.1 in
-          let is = k.1 in
-          let clock = all.clock in
-          let clear = wait-clear n after.0 (omega (arith, made, le)) roll half ttl at below phase
+          let clear = wait-clear n after.0 (omega (arith, after.1, le)) roll half ttl at below phase
           none in
-          over-said v (said watch n now) roll latest (omega (arith, past, is))
-          (omega (arith, past, le, clock))
+          over-said v (said watch n now) roll latest (omega (arith, past, k.1))
+          (omega (arith, past, le, all.clock))
           (λ end ends. over-by (set_at n) roll half ttl latest end phase clear
           (subst (λ (set : KeySetParts). EndsAt roll set end) k.0.set ends))
           (v.end roll) (k.0.end roll) (until v (said watch n now) roll half ttl
@@ -351,5 +323,5 @@ module _ {name : List ℕ} {calls : List Call} {entries : List Entry} {network :
           let k = all.known n s.0 s.1 s.2 in
           let one = no-longer (watch.policy s.0) (watch.view n s.0) roll half t now k.2 k.0.highest
           (s.3 ∙ ap Make is) in
-          let more = takes-all n s.0 s.1 s.2 half in omega (arith, one, more)
+          omega (arith, one, takes-all n s.0 s.1 s.2 half)
     ]

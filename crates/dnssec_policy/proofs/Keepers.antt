@@ -48,15 +48,14 @@ module _ (s : ℕ) where
       let enough = counts v.highest roll second x.0 ttl le x.2 (retires roll second Ds) refl in
       let found = still-due s v.before v.facts at roll second (origin_in step.origins) x.0
       (λ speaks. let less = counts v.highest roll second x.0 ttl le x.2 true speaks in
-      let fits = x.3 in omega (arith, less, fits)) x.1 in
-      let most = found.2 in
+      omega (arith, less, x.3)) x.1 in
       record {
         before = kept_before s v.before;
         facts = map (kept_fact s) v.facts;
         are_true = still-true s network time v.before v.facts are;
         least = found.0;
         is_due = found.1;
-        enough = omega (arith, enough, most);
+        enough = omega (arith, enough, found.2);
       }
 
 -- ---- the run
@@ -107,26 +106,20 @@ serves-keepers name calls entries network time seconds run auto is back =
 longer-held : (seconds : ℕ) (network : Network) (p q time : ℕ) → network.ttl Dnskey q < seconds
     → IsHeldBy network p q time → MayBeHeld (keeping seconds network) Ds p time
 longer-held seconds network p q time less h =
-    let a = h.by.lasts in
-    let b = h.lasts in
-    let c = h.got in
-    let d = h.by.got in
-    let e = h.past in
     record {
       since = h.by.since;
       given = (h.by.given.0, h.by.given.1, h.by.given.2);
-      got = omega (arith, d, e);
-      lasts = omega (arith, a, b, c, less);
+      got = omega (arith, h.by.got, h.past);
+      lasts = omega (arith, h.by.lasts, h.lasts, h.got, less);
     }
 
 pub kept-sign : KeptAlgorithmsSign
 kept-sign name calls entries network time seconds p q z k run auto is back less h zone has =
     let got = h.got in
-    let past = h.past in
     let keys : MayBeHeld (keeping seconds network) Dnskey q time = record {
       since = h.since;
       given = (h.given.0, h.given.1, h.given.2);
-      got = omega (arith, got, past);
+      got = omega (arith, got, h.past);
       lasts = h.lasts;
     } in
     let signed : MayBeHeld (keeping seconds network) ZoneSigners z time = record {

@@ -66,8 +66,7 @@ module _ (s : ℕ) where
         → AreTrueFrom (keeping s network) Ds time n (map (raise s) news)
     ds-true n [] are = are
     ds-true n (Published position ttl moment ∷ later) are =
-        let le = are.1 in
-        (are.0, omega (arith, le), are.2, ds-true (suc n) later are.3)
+        (are.0, omega (arith, are.1), are.2, ds-true (suc n) later are.3)
     ds-true n (Everywhere moment ∷ later) are = (are.0, ds-true n later are.1)
 
     -- of a kind whose TTLs stay
@@ -237,7 +236,7 @@ module _ (s : ℕ) where
         let p = due-parts before facts roll second from now least is in
         let most = p.6 in
         let d = ds-due (retires roll second Ds) (from Ds) p.0
-        (λ t. let le = small t in omega (arith, le, most)) p.3 in
+        (λ t. omega (arith, small t, most)) p.3 in
         let dnskey = others-due code.Dnskey refl (dnskey-news facts) (retires roll second Dnskey)
         (from Dnskey) ∙ p.4 in
         let zone = others-due code.ZoneSigners refl (zone-news facts)

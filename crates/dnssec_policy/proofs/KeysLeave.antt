@@ -2,13 +2,13 @@
 use Rattle.std.proofs.Common.{◌≡◌, ℕ, suc, ◌+◌, ◌*◌, ◌<◌, ◌≤◌, ◌⊎◌, inl, inr, Bool, true}
 use Rattle.std.proofs.Common.{false, cond, List, [], ◌∷◌, Option, None, Some, length, map, max}
 use Rattle.std.proofs.Common.{refl, sym, ap, subst, ◌∙◌, arith}
-use Rattle.std.proofs.lemmas.Bool.{cases_Bool, cases_lt, true≢false}
+use Rattle.std.proofs.lemmas.Bool.{cases_Bool, cases_lt, or_parts, true≢false}
 use Rattle.std.proofs.lemmas.Option.{none-some, same_Some}
 use Rattle.std.specs.Prelude.{if◌then◌else◌, nat_lt, slice_get, unwrap_or, ◌-◌}
 use Rattle.std.specs.List.{list_any}
 use Rattle.std.specs.{Cmp.Lexicographic.slice_cmp, Ordering.is_eq, Ordering.nat_cmp, FinMap.find}
 use Rattle.std.specs.FinMap.{entries as entries_of, get, get-entries}
-use Rattle.dnssec_key.specs.declared.roll.RollType.{RollType, TheVariants.AlgorithmRoll}
+use Rattle.dnssec_key.specs.declared.roll.RollType.{RollType}
 use Rattle.dnssec_key.specs.Key.{KeyParts}
 use Rattle.dnssec_zone.specs.{Rolls.same_roll, Start.is_listed, Start.texts}
 use Rattle.dnssec_keyset.{specs.KeySet.KeySetParts, proofs.Laws.same-is}
@@ -21,18 +21,17 @@ use Rattle.dnssec_run.proofs.WholeRolls.{Completion.rolls-finish, Replies.since}
 use Rattle.dnssec_network.specs.Network.{Network}
 use Rattle.dnssec_policy.specs.declared.policy.{KeyRole.KeyRole, Policy.Policy, Scheme.Scheme}
 use Rattle.dnssec_policy.specs.declared.policy.Scheme.TheVariants.{Split, SingleType}
-use Rattle.dnssec_policy.specs.{declared.policy.Term.Term, Automatic.is_add}
+use Rattle.dnssec_policy.specs.{declared.policy.Term.Term}
 use Rattle.dnssec_policy.specs.Delays.{AreMade, IsAfter, IsDue, KeysLeave, Watch, said}
 use Rattle.dnssec_policy.specs.Keys.{earlier, first_from, goes, over_by_age}
 use Rattle.dnssec_policy.specs.Keys.{over_from, over_on_demand, renewal_of, role_of}
 use Rattle.dnssec_policy.specs.{Keys.rolls_of, Keys.serves, Next.next_of, Todo.Make, Todo.rank}
 use Rattle.dnssec_policy.{specs.View.View, proofs.Accepted.listed-in, proofs.Accepted.works-goes}
-use Rattle.dnssec_policy.proofs.{PlainCalls.automatic-plain, Delays.auto, Delays.in-turn}
+use Rattle.dnssec_policy.proofs.{PlainCalls.automatic-plain, Whole.add-starts}
+use Rattle.dnssec_policy.proofs.Delays.{auto, in-turn}
 use Rattle.dnssec_policy.proofs.InTime.{renewals-in-time}
 use Rattle.dnssec_policy.proofs.Lags.{costs-grow, more-by, none-by, sum-by}
 use Rattle.dnssec_policy.proofs.{May.May, May.is_renewal, Said.may, RollsEnd.rolls-end}
-use Rattle.dnssec_policy.specs.declared.policy.KskMethod.TheVariants as ksks
-use Rattle.dnssec_policy.specs.declared.policy.ZskMethod.TheVariants as zsks
 
 -- ---- whose time is over
 
@@ -48,8 +47,7 @@ earlier-first now (Some m) (Some n) w = by (nat_lt n m) refl
     by : (t : Bool) → nat_lt n m ≡ t → IsPast now (if t then Some n else Some m)
     by true e =
         let lt : n < m = grind (arith, e) in
-        let same = same_Some m w.0 w.1 in
-        let past = w.2 in (n, refl, omega (arith, lt, same, past))
+        let past = w.2 in (n, refl, omega (arith, lt, same_Some m w.0 w.1, past))
     by false e = w
 
 earlier-second : (now : ℕ) (a b : Option ℕ) → IsPast now b → IsPast now (earlier a b)
@@ -61,8 +59,7 @@ earlier-second now (Some m) (Some n) w = by (nat_lt n m) refl
     by true e = w
     by false e =
         let le : m ≤ n = grind (arith, e) in
-        let same = same_Some n w.0 w.1 in
-        let past = w.2 in (m, refl, omega (arith, le, same, past))
+        let past = w.2 in (m, refl, omega (arith, le, same_Some n w.0 w.1, past))
 
 module _ (role : KeyRole) (renewal : Term) (now : ℕ) where
   abbrev with-key : Option ℕ → KeyParts → Option ℕ
@@ -122,20 +119,10 @@ due-said policy v roll q d =
 
 -- ---- which roll
 
-no-algorithm : (scheme : Scheme) → list_any (same_roll AlgorithmRoll) (rolls_of scheme) ≡ true → ⊥
-no-algorithm (Split ksks.DoubleSignature zsks.PrePublish) e = true≢false (sym e)
-no-algorithm (Split ksks.DoubleSignature zsks.DoubleSignature) e = true≢false (sym e)
-no-algorithm (Split ksks.DoubleDs zsks.PrePublish) e = true≢false (sym e)
-no-algorithm (Split ksks.DoubleDs zsks.DoubleSignature) e = true≢false (sym e)
-no-algorithm SingleType e = true≢false (sym e)
-
 scheme-renews : (scheme : Scheme) (roll : RollType)
     → list_any (same_roll roll) (rolls_of scheme) ≡ true → is_renewal roll ≡ true
-scheme-renews scheme AlgorithmRoll e = absurd (no-algorithm scheme e)
-scheme-renews scheme _ e = refl
-
-add-starts : (c : Call) → is_add c ≡ true → (roll : RollType) → start_of c ≡ Some roll → ⊥
-add-starts c h roll e = grind arith
+scheme-renews (Split k z) roll e = grind (arith, or_parts)
+scheme-renews SingleType roll e = grind (arith, or_parts)
 
 -- ---- until the roll starts
 
@@ -170,19 +157,16 @@ module _ {name : List ℕ} {calls : List Call} {entries : List Entry} {network :
     within,
     omega arith,
     λ lt.
-        let next = all.in_order n lt in
-        let first = from.2 (omega (arith, later, lt)) in
         let between = in-turn run all (suc m) (suc n) (omega (arith, later)) (omega (arith, lt)) in
-        omega (arith, next, first, between),
+        omega (arith, all.in_order n lt, from.2 (omega (arith, later, lt)), between),
   )
 
   in-time-at : (n : ℕ) → m ≤ n → n ≤ length entries → network.made n ≤ over + cost n
       → now-at n + lag ≤ time
   in-time-at n later within made =
-      let next = more n later in
       let most = costs-grow cost lag m more (suc n) (suc (length entries))
       (omega (arith, later)) (omega (arith, within)) in
-      omega (arith, made, next, most, enough)
+      omega (arith, made, more n later, most, enough)
 
   soon : (n : ℕ) → m ≤ n → n ≤ length entries → Waits n
       → (n < length entries) × (network.made (suc n) ≤ over + cost (suc n))
@@ -194,9 +178,7 @@ module _ {name : List ℕ} {calls : List Call} {entries : List Entry} {network :
       let due = is-due n (now-at n) later (omega arith) after (omega (arith, lag-in)) h.1 in
       let x = all.prompt n (now-at n) after lag-in
       (due-said (watch.policy (now-at n)) (watch.view n (now-at n)) roll q due) in
-      let by = x.1 in
-      let next = more n later in
-      (x.0, omega (arith, by, made, next), due)
+      (x.0, omega (arith, x.1, made, more n later), due)
 
   -- a start of the roll lists the key
   starts-with : (n : ℕ) → m ≤ n → n ≤ length entries → Waits n
@@ -311,12 +293,11 @@ module _ {name : List ℕ} {calls : List Call} {entries : List Entry} {network :
       ]) (length entries) within (omega arith)) [
         | inl x ↦ x
         | inr w ↦
-            let lt = (soon (length entries) within (omega arith) w).0 in
-            absurd (omega (arith, lt))
+            absurd (omega (arith, (soon (length entries) within (omega arith) w).0))
       ]
     where
       first : network.made m ≤ over + cost m
-      first = let made = from.1 in omega (arith, made)
+      first = omega (arith, from.1)
 
 pub keys-leave : KeysLeave
 keys-leave name calls entries network watch lag time roll delays ttl m over q run all spread ttls
@@ -325,17 +306,14 @@ keys-leave name calls entries network watch lag time roll delays ttl m over q ru
     (λ n later. more-by lag m n later) (omega (arith, enough)) from.0 in
     let s = x.0 in
     let later = x.1 in
-    let below = x.2 in
-    let begun = x.3 in
     let st = x.4 in
-    let all-lags = sum-by lag m s (length entries) later (omega (arith, below)) in
+    let all-lags = sum-by lag m s (length entries) later (omega (arith, x.2)) in
     let e = rolls-end name calls entries network watch lag time roll delays ttl s st.0 st.1 st.2 run
-    all spread ttls st.3 (omega (arith, begun, all-lags, enough)) in
+    all spread ttls st.3 (omega (arith, x.3, all-lags, enough)) in
     let n = e.0 in
     let done = e.1 in
     let after = done.0 in
-    let by = e.2 in
     let lags = sum-by lag m s n later (omega (arith, after)) in
     let finish = rolls-finish run (automatic-plain run (auto run all)).setters s n roll st.0 st.1
     st.2 after st.3 done.1 done.2 in
-    (s, n, later, done, omega (arith, by, begun, lags), finish.0 q st.4)
+    (s, n, later, done, omega (arith, e.2, x.3, lags), finish.0 q st.4)

@@ -1,5 +1,5 @@
 -- A lag for each call: what it costs from one call to another. And how long phases last.
-use Rattle.std.proofs.Common.{◌≡◌, ℕ, zero, suc, ◌+◌, ◌*◌, ◌≤◌, inl, inr, sym, ap, ◌∙◌, arith}
+use Rattle.std.proofs.Common.{◌≡◌, ℕ, zero, suc, ◌+◌, ◌*◌, ◌<◌, ◌≤◌, inl, inr, sym, ap, ◌∙◌, arith}
 use Rattle.std.{proofs.lemmas.Bool.cases_lt, specs.Prelude.◌-◌}
 use Rattle.dnssec_key.specs.declared.roll.RollState.{RollState}
 use Rattle.dnssec_key.specs.declared.roll.RollState.TheVariants.{Propagation1, CacheExpire1}
@@ -7,17 +7,22 @@ use Rattle.dnssec_key.specs.declared.roll.RollState.TheVariants.{Propagation2, C
 use Rattle.dnssec_key.specs.declared.roll.Half.{Half, TheVariants.First, TheVariants.Second}
 use Rattle.dnssec_policy.specs.Delays.{Delays}
 
+-- what no step makes less
+pub climbs : (f : ℕ → ℕ) (m n : ℕ) → ((k : ℕ) → m ≤ k → k < n → f k ≤ f (suc k)) → m ≤ n
+    → f m ≤ f n
+climbs f m zero next le = let e : m ≡ zero = omega (arith, le) in rw e (omega arith)
+climbs f m (suc n) next le = elim (cases_lt m (suc n)) [
+  | inl lt ↦
+      let before = climbs f m n (λ k low up. next k low (omega (arith, up))) (omega (arith, lt)) in
+      omega (arith, before, next n (omega (arith, lt)) (omega arith))
+  | inr ge ↦ let e : m ≡ suc n = omega (arith, le, ge) in rw e (omega arith)
+]
+
 pub costs-grow : (cost : ℕ → ℕ) (lag from : ℕ)
     → ((n : ℕ) → from ≤ n → cost (suc n) ≡ cost n + lag) → (m n : ℕ) → from ≤ m → m ≤ n
     → cost m ≤ cost n
-costs-grow cost lag from more m zero later le =
-    let e : m ≡ zero = omega (arith, le) in rw e (omega arith)
-costs-grow cost lag from more m (suc n) later le = elim (cases_lt m (suc n)) [
-  | inl lt ↦
-      let before = costs-grow cost lag from more m n later (omega (arith, lt)) in
-      let next = more n (omega (arith, later, lt)) in omega (arith, before, next)
-  | inr ge ↦ let e : m ≡ suc n = omega (arith, le, ge) in rw e (omega arith)
-]
+costs-grow cost lag from more m n later = climbs cost m n (λ k low high.
+    omega (arith, more k (omega (arith, later, low))))
 
 pub none-by : (lag n : ℕ) → lag * (n - n) ≡ 0
 none-by lag n = let none : n - n ≡ 0 = omega arith in ap (λ k. lag * k) none ∙ omega arith

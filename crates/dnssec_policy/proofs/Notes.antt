@@ -155,8 +155,7 @@ module _ {name : List ℕ} {calls : List Call} {entries : List Entry} {network :
           | inr s ↦
               let now = at-now s.0.policy s.0.view (call_of x.0) s.1 at
               (sym (plainly x.0).moment_is ∙ is) in
-              let clock = s.0.clock in
-              omega (arith, now, clock)
+              omega (arith, now, s.0.clock)
         ]
     | inr out ↦ let none : None ≡ Some at =
         sym (rw (slice_get_past entries n out) refl) ∙ mo in absurd (none-some at none)

@@ -69,7 +69,14 @@ first a b = of-first a b (is_sooner a b) refl
 second : (a b : Todo) → NotLater (sooner a b) b
 second a b = of-second a b (is_sooner a b) refl
 
+-- no later than what the first of two is no later than
+left : (a b x : Todo) → NotLater a x → NotLater (sooner a b) x
+left a b x le = follows (sooner a b) a x (first a b) le
+
 -- ---- of the rolls
+
+pub among : (roll : RollType) → list_any (same_roll roll) all_rolls ≡ true
+among roll = grind arith
 
 module _ (v : View) where
   abbrev says : RollType → Todo
@@ -95,9 +102,6 @@ module _ (v : View) where
     | inr apart ↦ best-said rs (sooner t (says r)) roll
         (sym (ap (λ b. b || list_any (same_roll roll) rs) apart) ∙ e)
   ]
-
-  among : (roll : RollType) → list_any (same_roll roll) all_rolls ≡ true
-  among roll = grind arith
 
   -- what each roll has to say
   rolls-said : (t : Todo) (roll : RollType) → NotLater (best_of t all_rolls) (says roll)
@@ -126,23 +130,21 @@ module _ (policy : Policy) (v : View) where
   cause = stuck (stuck_of policy v)
 
   wanted-said : (x : Todo) → NotLater wanted x → NotLater (next_of policy v) x
-  wanted-said x le = follows (sooner wanted cause) wanted x (first wanted cause) le
+  wanted-said x le = left wanted cause x le
 
   pub cause-said : NotLater (next_of policy v) (stuck (stuck_of policy v))
   cause-said = second wanted cause
 
   -- the rolls and the deletions
   early-said : (x : Todo) → NotLater (sooner rolls gone) x → NotLater (next_of policy v) x
-  early-said x le = wanted-said x (follows wanted (sooner (sooner rolls gone) other) x
-      (first (sooner (sooner rolls gone) other) renewed)
-      (follows (sooner (sooner rolls gone) other) (sooner rolls gone) x
-      (first (sooner rolls gone) other) le))
+  early-said x le = wanted-said x
+      (left (sooner (sooner rolls gone) other) renewed x (left (sooner rolls gone) other x le))
 
   pub roll-said : (roll : RollType)
       → NotLater (next_of policy v) (phase_next v roll (phase_of v.set.rolls roll))
   roll-said roll =
       let x = phase_next v roll (phase_of v.set.rolls roll) in
-      early-said x (follows (sooner rolls gone) rolls x (first rolls gone) (rolls-said v Rest roll))
+      early-said x (left rolls gone x (rolls-said v Rest roll))
 
   deletions-said : NotLater (next_of policy v) gone
   deletions-said = early-said gone (second rolls gone)
@@ -183,8 +185,8 @@ module _ (policy : Policy) (v : View) where
       deletions-said (keys-said (entries v.set.keys) Rest q k f)
 
   pub change-said : NotLater (next_of policy v) other
-  change-said = wanted-said other (follows wanted (sooner (sooner rolls gone) other) other
-      (first (sooner (sooner rolls gone) other) renewed) (second (sooner rolls gone) other))
+  change-said = wanted-said other
+      (left (sooner (sooner rolls gone) other) renewed other (second (sooner rolls gone) other))
 
   pub renewals-said : NotLater (next_of policy v) renewed
   renewals-said = wanted-said renewed (second (sooner (sooner rolls gone) other) renewed)

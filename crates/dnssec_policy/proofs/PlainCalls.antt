@@ -267,8 +267,7 @@ module _ {name : List ℕ} {calls : List Call} {entries : List Entry} {network :
       | inr s ↦ inr (s.0.policy, s.0.view, s.1)
     ]);
     first = λ n roll needs start.
-        let within = slice_get_within entries n start.entry start.entry_is in
-        elim (begun n (omega (arith, within))) [
+        elim (begun n (omega (arith, slice_get_within entries n start.entry start.entry_is))) [
           | inl w ↦ (w.0, w.1, first_wait-made calls entries w.0 AlgorithmRoll w.2)
           | inr h ↦
               let starts = sym ((same-rolls start.call).0) ∙ start.roll_is in

@@ -163,7 +163,7 @@ module _ (v : View) (roll : RollType) where
     λ past. let r = rank-le t (Make (keyset.Wait roll half v.now))
         (subst (NotLater t) (wait-over half end past) le) in omega (arith, r),
     (let r = rank-le t (wait_next v roll half (Some (At end))) le in
-        let s = wait-rank half end in omega (arith, r, s)),
+        omega (arith, r, wait-rank half end)),
     λ m is. wait-moment half end m t le is,
   )
 

@@ -2,102 +2,32 @@
 use Rattle.std.proofs.Common.{◌≡◌, ℕ, ◌≤◌, Bool, true, false, List, [], ◌∷◌, Option, None, Some}
 use Rattle.std.proofs.Common.{refl, sym, ap, subst, ◌∙◌, arith}
 use Rattle.std.proofs.lemmas.Bool.{or_parts, true≢false}
-use Rattle.std.specs.Prelude.{if◌then◌else◌, Result, Ok, Err, nat_le, is_none, is_some, not, ◌&&◌}
-use Rattle.std.specs.{List.fold, List.list_any, FinMap.get, FinMap.get-entries, FinMap.values}
+use Rattle.std.specs.Prelude.{if◌then◌else◌, nat_le, is_none, is_some, not, ◌&&◌}
+use Rattle.std.specs.{List.list_any, FinMap.get, FinMap.get-entries, FinMap.values}
 use Rattle.dnssec_key.specs.declared.roll.RollState.{RollState}
-use Rattle.dnssec_key.specs.declared.roll.RollState.TheVariants.{Propagation1, CacheExpire1}
-use Rattle.dnssec_key.specs.declared.roll.RollState.TheVariants.{Propagation2, CacheExpire2, Done}
 use Rattle.dnssec_key.specs.declared.roll.RollType.{RollType, TheVariants.AlgorithmRoll}
 use Rattle.dnssec_key.specs.{declared.kind.KeyType.KeyType, Key.KeyParts, Key.all_states}
 use Rattle.dnssec_key.specs.State.{is_stale}
-use Rattle.dnssec_key.specs.declared.roll.Half.{Half, TheVariants.First, TheVariants.Second}
-use Rattle.dnssec_key.specs.RollTable.{is_second}
 use Rattle.dnssec_zone.specs.Keys.{some_key}
 use Rattle.dnssec_zone.specs.Rolls.{Rolls, all_rolls, phase_of, same_roll}
 use Rattle.dnssec_zone.specs.Start.{conflict, has_conflict, lists_kind, side_of, together}
 use Rattle.dnssec_keyset.specs.Step as keyset
-use Rattle.dnssec_keyset.specs.declared.wait.WaitEnd.{WaitEnd, TheVariants.At, TheVariants.PastTime}
-use Rattle.dnssec_run.specs.declared.caches.SetKind.{SetKind}
-use Rattle.dnssec_run.specs.declared.{steps.LastStep.LastStep, steps.Origins.Origins}
-use Rattle.dnssec_run.specs.{Safe.kind_of, Steps.origin_in}
-use Rattle.dnssec_network.specs.{declared.reach.Reach.Reach, Reports.due}
-use Rattle.dnssec_policy.specs.declared.policy.{KeyRole.KeyRole, Policy.Policy}
-use Rattle.dnssec_policy.specs.InProgress.{awaited, end_next, report_next, report_or, roll_next}
-use Rattle.dnssec_policy.specs.{InProgress.later, InProgress.wait_next, declared.why.Why.Why}
+use Rattle.dnssec_policy.specs.declared.policy.{Policy.Policy}
+use Rattle.dnssec_policy.specs.declared.why.Why.{Why}
 use Rattle.dnssec_policy.specs.Keys.{first_over, has_left, is_rolled, is_unwanted, leaves_from}
 use Rattle.dnssec_policy.specs.Keys.{new_keys, renewal_of, role_of, roles_of, rolls_of}
 use Rattle.dnssec_policy.specs.{Keys.wants_others, Laws.RestIsAsWanted}
 use Rattle.dnssec_policy.specs.Next.{at_moment, change, deletion, may_begin, next_of}
-use Rattle.dnssec_policy.specs.Next.{once_all_ended, once_ended, phase_next, renewal, start_with}
+use Rattle.dnssec_policy.specs.Next.{once_all_ended, phase_next, renewal, start_with}
 use Rattle.dnssec_policy.specs.Stuck.{stuck, stuck_of}
 use Rattle.dnssec_policy.specs.Todo.{Make, NotBefore, Rest, Todo, rank}
-use Rattle.dnssec_policy.specs.{Ttls.lasting, View.View, View.reach_in}
+use Rattle.dnssec_policy.specs.View.{View}
 use Rattle.dnssec_policy.proofs.Order.{NotLater, cause-said, change-said, rank-le}
 use Rattle.dnssec_policy.proofs.Order.{entry-said, renewal-said, roll-said}
-use Rattle.dnssec_policy.proofs.Prompt.{settled-rank, wait-rank as timed-rank}
+use Rattle.dnssec_policy.proofs.Ahead.{delete-says, roll-says, start-says}
+use Rattle.dnssec_policy.proofs.InTime.{renewal-is}
 
--- ---- what is said is never nothing
-
-awaited-rank : (r : Reach) (kind : SetKind) (now : ℕ) → rank (awaited r kind now) ≤ 5
-awaited-rank r kind now = grind arith
-
-module _ (v : View) where
-  report-rank : (roll : RollType) (half : Half) (origins : Origins) (r : Result ℕ SetKind)
-      → rank (report_or v roll half origins r) ≤ 5
-  report-rank roll half origins (Ok ttl) =
-      let long = lasting v.highest roll (is_second half) ttl in by long (nat_le long 4_294_967_295)
-    where
-      by : (ttl : ℕ) (b : Bool)
-          → rank (if b then Make (keyset.Report roll half ttl v.now) else later v.now) ≤ 5
-      by ttl true = omega arith
-      by ttl false = omega arith
-  report-rank roll half origins (Err kind) =
-      awaited-rank (reach_in v kind (origin_in origins (kind_of kind))) kind v.now
-
-  reported-rank : (roll : RollType) (half : Half) (o : Option LastStep)
-      → rank (report_next v roll half o) ≤ 5
-  reported-rank roll half None = omega arith
-  reported-rank roll half (Some step) = report-rank roll half step.origins
-      (due v.before v.facts roll (is_second half) (origin_in step.origins) v.now)
-
-  wait-rank : (roll : RollType) (half : Half) (o : Option WaitEnd)
-      → rank (wait_next v roll half o) ≤ 5
-  wait-rank roll half None = omega arith
-  wait-rank roll half (Some PastTime) = omega arith
-  wait-rank roll half (Some (At end)) =
-      let r = timed-rank v roll half end in
-      omega (arith, r)
-
-  end-rank : (roll : RollType) (o : Option ℕ) → rank (end_next v roll o) ≤ 5
-  end-rank roll None = omega arith
-  end-rank roll (Some base) =
-      let r = settled-rank v roll base (Make (keyset.RollDone roll)) (omega arith) in
-      omega (arith, r)
-
-  roll-rank : (roll : RollType) (p : RollState) → rank (roll_next v roll p) ≤ 5
-  roll-rank roll Propagation1 = reported-rank roll First (v.step roll)
-  roll-rank roll (CacheExpire1 ttl) = wait-rank roll First (v.end roll)
-  roll-rank roll Propagation2 = reported-rank roll Second (v.step roll)
-  roll-rank roll (CacheExpire2 ttl) = wait-rank roll Second (v.end roll)
-  roll-rank roll Done = end-rank roll (v.last roll)
-
-  start-rank : (roll : RollType) (r : Result (List (List ℕ)) KeyRole)
-      → rank (start_with v roll r) ≤ 5
-  start-rank roll (Ok news) = omega arith
-  start-rank roll (Err role) = omega arith
-
-  ended-rank : (roll : RollType) (o : Option ℕ) (todo : Todo) → rank todo ≤ 3
-      → rank (once_ended v roll o todo) ≤ 3
-  ended-rank roll None todo le = le
-  ended-rank roll (Some base) todo le = settled-rank v roll base todo le
-
-  all-ended-rank : (rs : List RollType) (todo : Todo) → rank todo ≤ 3
-      → rank (fold (λ todo roll. once_ended v roll (v.last roll) todo) todo rs) ≤ 3
-  all-ended-rank [] todo le = le
-  all-ended-rank (r ∷ rs) todo le =
-      all-ended-rank rs (once_ended v r (v.last r) todo) (ended-rank r (v.last r) todo le)
-
--- ---- so what a part doesn't say isn't so
+-- ---- what a part doesn't say isn't so
 
 not-guarded : (t : Bool) (a : Todo) → rank a ≤ 5 → 6 ≤ rank (if t then a else Rest) → t ≡ false
 not-guarded true a le big = absurd (omega (arith, le, big))
@@ -124,10 +54,7 @@ all-begin rolls none roll =
     conflict-none : (rs : List RollType)
         → list_any (λ other. is_some (phase_of rolls other) && not (together roll other)) rs ≡ false
     conflict-none [] = refl
-    conflict-none (r ∷ rs) =
-        let here = none r in
-        let rest = conflict-none rs in
-        rw (here, rest) refl
+    conflict-none (r ∷ rs) = rw (none r, conflict-none rs) refl
 
 none-rolled : (rolls : Rolls) → ((roll : RollType) → phase_of rolls roll ≡ None)
     → (k : KeyType) → is_rolled rolls k ≡ false
@@ -136,17 +63,13 @@ none-rolled rolls none k = on all_rolls
     on : (rs : List RollType)
         → list_any (λ roll. is_some (phase_of rolls roll) && lists_kind (side_of roll) k) rs ≡ false
     on [] = refl
-    on (r ∷ rs) =
-        let here = none r in
-        let rest = on rs in
-        rw (here, rest) refl
+    on (r ∷ rs) = rw (none r, on rs) refl
 
 module _ (policy : Policy) (v : View) (rests : next_of policy v ≡ Rest) where
   part : (x : Todo) → NotLater (next_of policy v) x → 6 ≤ rank x
   part x le =
-      let r = rank-le (next_of policy v) x le in
       let s = ap rank rests in
-      omega (arith, r, s)
+      omega (arith, rank-le (next_of policy v) x le, s)
 
   none-rolls : (roll : RollType) → phase_of v.set.rolls roll ≡ None
   none-rolls roll = by (phase_of v.set.rolls roll) refl
@@ -154,10 +77,9 @@ module _ (policy : Policy) (v : View) (rests : next_of policy v ≡ Rest) where
       by : (o : Option RollState) → phase_of v.set.rolls roll ≡ o → phase_of v.set.rolls roll ≡ None
       by None is = is
       by (Some p) is =
-          let r = roll-rank v roll p in
           let big = subst (λ o. 6 ≤ rank (phase_next v roll o)) is
           (part (phase_next v roll (phase_of v.set.rolls roll)) (roll-said policy v roll)) in
-          absurd (omega (arith, r, big))
+          absurd (omega (arith, (roll-says v roll p).1, big))
 
   begins : (roll : RollType) → may_begin v roll ≡ true
   begins roll = all-begin v.set.rolls none-rolls roll
@@ -167,21 +89,13 @@ module _ (policy : Policy) (v : View) (rests : next_of policy v ≡ Rest) where
   none-gone q k at =
       let delete = Make (keyset.DeleteKey q) in
       let moment = leaves_from policy.delete_after k.timestamps.withdrawn in
-      let little : rank (at_moment v.now (Some moment) (once_all_ended v delete)) ≤ 5 =
-      timed (nat_le moment v.now) moment (once_all_ended v delete)
-      (all-ended-rank v all_rolls delete (omega arith)) in
       let left = not-guarded (has_left v.set.rolls k)
-      (at_moment v.now (Some moment) (once_all_ended v delete)) little
+      (at_moment v.now (Some moment) (once_all_ended v delete)) (delete-says v q moment).1
       (part (deletion policy v q k)
       (entry-said policy v q k (sym (get-entries v.set.keys q) ∙ at))) in
       out (all_states is_stale k.keytype) (is_rolled v.set.rolls k.keytype)
       (none-rolled v.set.rolls none-rolls k.keytype) left
     where
-      timed : (t : Bool) (m : ℕ) (todo : Todo) → rank todo ≤ 3
-          → rank (if t then todo else NotBefore m) ≤ 5
-      timed true m todo le = omega (arith, le)
-      timed false m todo le = omega arith
-
       out : (a b : Bool) → b ≡ false → (a && not b) ≡ false → a ≡ false
       out true b is e = absurd (true≢false (sym (ap not is) ∙ e))
       out false b is e = refl
@@ -191,7 +105,7 @@ module _ (policy : Policy) (v : View) (rests : next_of policy v ≡ Rest) where
       let start = start_with v AlgorithmRoll
       (new_keys policy v.set.keys (roles_of policy.scheme)) in
       let f = not-guarded (may_begin v AlgorithmRoll && wants_others policy v.set.keys) start
-      (start-rank v AlgorithmRoll (new_keys policy v.set.keys (roles_of policy.scheme)))
+      (start-says v AlgorithmRoll (new_keys policy v.set.keys (roles_of policy.scheme))).1
       (part (change policy v) (change-said policy v)) in
       sym (ap (λ t. t && wants_others policy v.set.keys) (begins AlgorithmRoll)) ∙ f
 
@@ -204,12 +118,8 @@ module _ (policy : Policy) (v : View) (rests : next_of policy v ≡ Rest) where
       let role = role_of roll in
       let start = start_with v roll (new_keys policy v.set.keys (role ∷ [])) in
       let o = first_over role (renewal_of policy role) (values v.set.keys) in
-      let said : renewal policy v roll ≡ at_moment v.now o start =
-      ap (λ (t : Bool). if t && not (some_key (is_unwanted policy) v.set.keys)
-      then at_moment v.now o start else Rest) (begins roll)
-      ∙ ap (λ (t : Bool). if not t then at_moment v.now o start else Rest) none-unwanted in
-      not-timed v.now o start (start-rank v roll (new_keys policy v.set.keys (role ∷ [])))
-      (subst (λ x. 6 ≤ rank x) said
+      not-timed v.now o start (start-says v roll (new_keys policy v.set.keys (role ∷ []))).1
+      (subst (λ x. 6 ≤ rank x) (renewal-is policy v roll (begins roll) none-unwanted)
       (part (renewal policy v roll) (renewal-said policy v roll e)))
 
   none-stuck : stuck_of policy v ≡ None

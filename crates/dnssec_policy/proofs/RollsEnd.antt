@@ -113,7 +113,6 @@ module _ {name : List ℕ} {calls : List Call} {entries : List Entry} {network :
         → phase_of (set_at n).rolls roll ≡ Some p → Stage n p
         → (n < length entries) × InTime (suc n) p
     soon n from within p is st =
-        let begun = st.begun in
         let so_far : InTime n p = st.so_far in
         let grown = costs st.at n st.later st.below in
         let next = more n from in
@@ -125,14 +124,13 @@ module _ {name : List ℕ} {calls : List Call} {entries : List Entry} {network :
         (omega (arith, within)) in
         let part = all-within delays wait whole whole_is p in
         let in_time : now + lag ≤ time =
-        omega (arith, begun, so_far, grown, next, most, part, enough) in
+        omega (arith, st.begun, so_far, grown, next, most, part, enough) in
         let x = all.prompt n now after in_time
         (due n now after (omega (arith, in_time)) p is st (omega arith)) in
-        let by = x.1 in
-        (x.0, omega (arith, by, begun, so_far, grown, next)) in
+        (x.0, omega (arith, x.1, st.begun, so_far, grown, next)) in
         elim (cases_lt n (length entries)) [
           | inl lt ↦ elim (cases_lt (network.made (suc n)) now) [
-            | inl early ↦ (lt, omega (arith, early, begun, so_far, grown, next))
+            | inl early ↦ (lt, omega (arith, early, st.begun, so_far, grown, next))
             | inr late ↦ on (λ lt. late)
           ]
           | inr ge ↦ on (λ lt. absurd (omega (arith, lt, ge)))
@@ -191,7 +189,7 @@ module _ {name : List ℕ} {calls : List Call} {entries : List Entry} {network :
           is = same ∙ h.is;
           stage = record {
             at = h.stage.at;
-            below = (let le = h.stage.below in omega (arith, le));
+            below = omega (arith, h.stage.below);
             later = h.stage.later;
             begun = h.stage.begun;
             so_far = in_time;
@@ -288,8 +286,6 @@ module _ {name : List ℕ} {calls : List Call} {entries : List Entry} {network :
               (not-end (keyset.Wait q half now) it refl))
           own (keyset.RollDone q) it on v changes mk =
               let q-is = same-is q roll on in
-              let part = all-within delays wait whole whole_is h.phase in
-              let by = in_time in
               inl (
                 n,
                 omega arith,
@@ -307,7 +303,7 @@ module _ {name : List ℕ} {calls : List Call} {entries : List Entry} {network :
                   ),
                   h.none,
                 ),
-                omega (arith, by, part),
+                omega (arith, in_time, all-within delays wait whole whole_is h.phase),
               )
           own (keyset.AbortRoll q) it on v changes mk =
               absurd (never-aborts run all n c ci q it)
@@ -389,11 +385,8 @@ rolls-end name calls entries network watch lag time roll delays ttl s olds news 
     ttls st enough =
     let same : (n : ℕ) → lag * (suc n - suc s) ≡ lag * (n - s) =
     λ n. let one : suc n - suc s ≡ n - s = omega arith in ap (λ k. lag * k) one in
-    let most = same (length entries) in
     let x = ended run all spread ttls s (λ half. report_takes ttl roll (is_second half))
     (counts run all spread ttls) (λ n. lag * (n - suc s)) (none-by lag (suc s))
     (λ n later. more-by lag (suc s) n later) (roll_lasts delays ttl roll) refl
-    (omega (arith, enough, most)) olds news now st in
-    let by = x.3 in
-    let last = same x.0 in
-    (x.0, x.2, omega (arith, by, last))
+    (omega (arith, enough, same (length entries))) olds news now st in
+    (x.0, x.2, omega (arith, x.3, same x.0))

@@ -40,9 +40,8 @@ use Rattle.dnssec_policy.specs.Next.{once_all_ended, once_ended, phase_next, ren
 use Rattle.dnssec_policy.specs.{Next.rolls_next, Next.start_with, Stuck.stuck, Stuck.stuck_of}
 use Rattle.dnssec_policy.specs.Todo.{Todo, Make, NotBefore, Rest, is_sooner, sooner}
 use Rattle.dnssec_policy.specs.{Ttls.lasting, View.View, View.reach_in}
+use Rattle.dnssec_policy.proofs.Order.{among}
 use Rattle.dnssec_policy.proofs.May.{IsChange, IsRenewal, IsSettled, May, is_renewal}
-use Rattle.dnssec_policy.specs.declared.policy.KskMethod.TheVariants as ksks
-use Rattle.dnssec_policy.specs.declared.policy.ZskMethod.TheVariants as zsks
 
 -- ---- of two
 
@@ -74,12 +73,10 @@ uncaused None c e = cc
 uncaused (Some why) c e = cc
 
 pub ksk-renews : (k : KskMethod) → is_renewal (ksk_roll k) ≡ true
-ksk-renews ksks.DoubleSignature = refl
-ksk-renews ksks.DoubleDs = refl
+ksk-renews k = grind arith
 
 pub zsk-renews : (z : ZskMethod) → is_renewal (zsk_roll z) ≡ true
-zsk-renews zsks.PrePublish = refl
-zsk-renews zsks.DoubleSignature = refl
+zsk-renews z = grind arith
 
 pub not-so : (t : Bool) → not t ≡ true → t ≡ false
 not-so true e = absurd (true≢false (sym e))
@@ -231,9 +228,6 @@ module _ (policy : Policy) (v : View) where
           | inr f ↦ x.1 roll (sym (ap (λ b. b || list_any (same_roll roll) rs) f) ∙ l)
         ],
       )
-
-  among : (roll : RollType) → list_any (same_roll roll) all_rolls ≡ true
-  among roll = grind arith
 
   deleted : (c : keyset.Call) (q : List ℕ) (k : KeyParts) → get v.set.keys q ≡ Some k
       → deletion policy v q k ≡ Make c → May policy v c

@@ -2,7 +2,7 @@
 use Rattle.std.proofs.Common.{◌≡◌, ℕ, ◌≤◌, inl, inr, Bool, true, false, List, [], ◌∷◌, Option}
 use Rattle.std.proofs.Common.{None, Some, refl, sym, ap, subst, ◌∙◌, arith}
 use Rattle.std.proofs.lemmas.Bool.{cases_Bool, or_parts, true≢false}
-use Rattle.std.specs.Prelude.{◌&&◌, ◌||◌, not, Result, Ok, Err, if◌then◌else◌}
+use Rattle.std.specs.Prelude.{◌&&◌, ◌||◌, not, if◌then◌else◌}
 use Rattle.std.specs.{List.fold, List.list_any, Option.option_or, FinMap.get, FinMap.values}
 use Rattle.dnssec_key.specs.declared.roll.{RollState.RollState, RollType.RollType}
 use Rattle.dnssec_key.specs.declared.roll.RollType.TheVariants.{AlgorithmRoll, CskRoll}
@@ -10,7 +10,7 @@ use Rattle.dnssec_key.specs.Key.{KeyParts}
 use Rattle.dnssec_zone.specs.{Keys.some_key, Rolls.all_rolls, Rolls.phase_of, Rolls.same_roll}
 use Rattle.dnssec_zone.proofs.Quantified.{some_key-none}
 use Rattle.dnssec_keyset.proofs.Laws.{same-is}
-use Rattle.dnssec_policy.specs.declared.policy.{KeyRole.KeyRole, Policy.Policy, Scheme.Scheme}
+use Rattle.dnssec_policy.specs.declared.policy.{Policy.Policy, Scheme.Scheme}
 use Rattle.dnssec_policy.specs.declared.policy.Scheme.TheVariants.{Split, SingleType}
 use Rattle.dnssec_policy.specs.declared.why.Why.{Why, TheVariants.Barred, TheVariants.OldKeyInUse}
 use Rattle.dnssec_policy.specs.InProgress.{roll_next}
@@ -20,9 +20,10 @@ use Rattle.dnssec_policy.specs.{Keys.zsk_roll, Laws.IsStuck, Laws.IsUnderWay, La
 use Rattle.dnssec_policy.specs.Next.{at_moment, change, next_of, renewal, start_with}
 use Rattle.dnssec_policy.specs.Stuck.{barred_if, is_over, is_reached, keys_why, may_begin}
 use Rattle.dnssec_policy.specs.Stuck.{phase_why, renewal_why, renewals_why, rolls_why, starts_why}
-use Rattle.dnssec_policy.specs.{Stuck.why_of, Todo.NotBefore, Todo.Rest, Todo.Todo, Todo.rank}
+use Rattle.dnssec_policy.specs.{Stuck.why_of, Todo.NotBefore, Todo.Todo, Todo.rank}
 use Rattle.dnssec_policy.specs.View.{View}
-use Rattle.dnssec_policy.proofs.Order.{change-said, rank-le, renewal-said}
+use Rattle.dnssec_policy.proofs.{Ahead.start-rank, InTime.change-is, InTime.renewal-is}
+use Rattle.dnssec_policy.proofs.Order.{NotLater, among, change-said, rank-le, renewal-said}
 
 -- the first cause of these rolls
 abbrev pub first_why : View → List RollType → Option Why
@@ -67,9 +68,6 @@ module _ (policy : Policy) (v : View) where
             (sym (ap (λ b. b || list_any (same_roll roll) rs) apart) ∙ e) h
       ]
 
-  among : (roll : RollType) → list_any (same_roll roll) all_rolls ≡ true
-  among roll = grind arith
-
   roll-stuck : (roll : RollType) (phase : RollState) (why : Why)
       → phase_of v.set.rolls roll ≡ Some phase
       → why_of roll phase (roll_next v roll phase) ≡ Some why → IsStuck policy v
@@ -89,26 +87,17 @@ module _ (policy : Policy) (v : View) where
       ap (λ (b : Bool). if b && not (may_begin v roll) then Some (Barred roll) else None) wants
       ∙ ap (λ (b : Bool). if not b then Some (Barred roll) else None) may
 
-  start-rank : (roll : RollType) (r : Result (List (List ℕ)) KeyRole)
-      → rank (start_with v roll r) ≤ 2
-  start-rank roll (Ok news) = omega arith
-  start-rank roll (Err role) = omega arith
-
-  by-rank : (x : Todo) → rank (next_of policy v) ≤ rank x → rank x ≤ 2
+  by-rank : (x : Todo) → NotLater (next_of policy v) x → rank x ≤ 2
       → rank (next_of policy v) ≤ 2
-  by-rank x le less = omega (arith, le, less)
+  by-rank x le less = omega (arith, rank-le (next_of policy v) x le, less)
 
   changed : wants_others policy v.set.keys ≡ true → IsUnderWay policy v
   changed wants = elim (cases_Bool (may_begin v AlgorithmRoll)) [
     | inl begins ↦
         let news = new_keys policy v.set.keys (roles_of policy.scheme) in
-        let start = start_with v AlgorithmRoll news in
-        let said : change policy v ≡ start =
-        ap (λ (t : Bool). if t && wants_others policy v.set.keys then start else Rest) begins
-        ∙ ap (λ (t : Bool). if t then start else Rest) wants in
-        inl (by-rank (change policy v)
-        (rank-le (next_of policy v) (change policy v) (change-said policy v))
-        (subst (λ t. rank t ≤ 2) (sym said) (start-rank AlgorithmRoll news)))
+        inl (by-rank (change policy v) (change-said policy v)
+        (subst (λ t. rank t ≤ 2) (sym (change-is policy v begins wants))
+        (start-rank v AlgorithmRoll news)))
     | inr bars ↦ inr (start-stuck (of-first
         (barred_if (wants_others policy v.set.keys) v AlgorithmRoll)
         (renewals_why policy v policy.scheme)
@@ -155,13 +144,9 @@ module _ (policy : Policy) (v : View) where
           let start = start_with v roll news in
           let o = first_over role (renewal_of policy role) (values v.set.keys) in
           let said : renewal policy v roll ≡ start =
-          ap (λ (t : Bool). if t && not (some_key (is_unwanted policy) v.set.keys)
-          then at_moment v.now o start else Rest) begins
-          ∙ ap (λ (t : Bool). if not t then at_moment v.now o start else Rest) none
-          ∙ reached o over start in
-          inl (by-rank (renewal policy v roll)
-          (rank-le (next_of policy v) (renewal policy v roll) (renewal-said policy v roll e))
-          (subst (λ t. rank t ≤ 2) (sym said) (start-rank roll news)))
+          renewal-is policy v roll begins none ∙ reached o over start in
+          inl (by-rank (renewal policy v roll) (renewal-said policy v roll e)
+          (subst (λ t. rank t ≤ 2) (sym said) (start-rank v roll news)))
       | inr bars ↦ inr (start-stuck (of-second
           (barred_if (wants_others policy v.set.keys) v AlgorithmRoll)
           (renewals_why policy v policy.scheme)

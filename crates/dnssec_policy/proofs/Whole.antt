@@ -25,7 +25,8 @@ use Rattle.dnssec_key.specs.{RollTable.half_of, declared.kind.KeyType.KeyType}
 use Rattle.dnssec_network.specs.Network.{Network}
 use Rattle.dnssec_policy.specs.declared.policy.Policy.{Policy}
 use Rattle.dnssec_policy.specs.{Automatic.IsAutomatic, Automatic.is_add, View.View}
-use Rattle.dnssec_policy.proofs.{PlainCalls.added, PlainCalls.each-set, PlainCalls.said, May.May}
+use Rattle.dnssec_policy.proofs.PlainCalls.{added, each-set, said}
+use Rattle.dnssec_policy.proofs.May.{May}
 use Rattle.dnssec_policy.proofs.Whole.Keys.{HasOf, is_alike, IsWhole, waited-alike, waited-ksk}
 use Rattle.dnssec_policy.proofs.Whole.Keys.{waited-zsk, stale-zsk, blank-kept}
 use Rattle.dnssec_policy.proofs.Whole.Starts.{none-new, started-whole}
@@ -48,22 +49,6 @@ calm-kind P set (keyset.AbortRoll roll) q k calm waits stays = absurd calm
 calm-kind P set (keyset.Wait roll half now) q k calm waits stays = waits roll half
 calm-kind P set _ q k calm waits stays = stays
 
-calm-alike : (set : KeySetParts) (c : keyset.Call) (q : List ℕ) (k : KeyParts) → IsCalm c
-    → is_alike k.keytype ≡ true → is_alike (moved_key set c q k).keytype ≡ true
-calm-alike set c q k calm e = calm-kind (λ t. is_alike t ≡ true) set c q k calm
-    (λ roll half. waited-alike roll half k.keytype e) e
-
-calm-ksk : (set : KeySetParts) (c : keyset.Call) (q : List ℕ) (k : KeyParts) → IsCalm c
-    → keeps_ksk (moved_key set c q k).keytype ≡ true → keeps_ksk k.keytype ≡ true
-calm-ksk set c q k calm = calm-kind (λ t. keeps_ksk t ≡ true → keeps_ksk k.keytype ≡ true) set c q k
-    calm (λ roll half. waited-ksk roll half k.keytype) (λ e. e)
-
-calm-zsk : (set : KeySetParts) (c : keyset.Call) (q : List ℕ) (k : KeyParts) → IsCalm c
-    → is_alike k.keytype ≡ true → keeps_zsk k.keytype ≡ true
-    → keeps_zsk (moved_key set c q k).keytype ≡ true
-calm-zsk set c q k calm a e = calm-kind (λ t. keeps_zsk t ≡ true) set c q k calm
-    (λ roll half. waited-zsk roll half k.keytype a e) e
-
 calm-algorithm : (set : KeySetParts) (c : keyset.Call) (q : List ℕ) (k : KeyParts) → IsCalm c
     → (moved_key set c q k).algorithm ≡ k.algorithm
 calm-algorithm set (keyset.Set reference setting) q k calm = absurd calm
@@ -78,7 +63,8 @@ calm-whole old new c calm clear blank m whole = record {
   zone = λ a h. elim (came old new c m h.0 h.1 h.2) [
     | inl x ↦ absurd (true≢false (sym h.3 ∙ (blank-kept c h.1 blank x.1).0))
     | inr b ↦
-        let keeps = calm-ksk old c h.0 b.0 calm
+        let keeps = calm-kind (λ t. keeps_ksk t ≡ true → keeps_ksk b.0.keytype ≡ true) old c h.0
+        b.0 calm (λ roll half. waited-ksk roll half b.0.keytype) (λ e. e)
         (ap (λ (k : KeyParts). keeps_ksk k.keytype) b.2 ∙ h.3) in
         let is = sym (calm-algorithm old c h.0 b.0 calm)
         ∙ ap (λ (k : KeyParts). k.algorithm) b.2 ∙ h.4 in
@@ -88,14 +74,18 @@ calm-whole old new c calm clear blank m whole = record {
           z.0,
           moved_key old c z.0 z.1,
           stays old new c clear m z.0 z.1 z.2 there,
-          calm-zsk old c z.0 z.1 calm (whole.alike z.0 z.1 z.2) z.3,
+          calm-kind (λ t. keeps_zsk t ≡ true) old c z.0 z.1 calm
+              (λ r half. waited-zsk r half z.1.keytype (whole.alike z.0 z.1 z.2) z.3) z.3,
           calm-algorithm old c z.0 z.1 calm ∙ z.4,
         )
   ];
   alike = λ q j at. elim (came old new c m q j at) [
     | inl x ↦ (blank-kept c j blank x.1).1
-    | inr b ↦ ap (λ (k : KeyParts). is_alike k.keytype) (sym b.2)
-        ∙ calm-alike old c q b.0 calm (whole.alike q b.0 b.1)
+    | inr b ↦
+        let was = whole.alike q b.0 b.1 in
+        ap (λ (k : KeyParts). is_alike k.keytype) (sym b.2)
+        ∙ calm-kind (λ t. is_alike t ≡ true) old c q b.0 calm
+        (λ roll half. waited-alike roll half b.0.keytype was) was
   ];
 }
 
@@ -120,7 +110,7 @@ start-seen : (c : Call) (roll : RollType) → start_of c ≡ Some roll
     → started-roll (call_of c) ≡ Some roll
 start-seen c roll e = grind arith
 
-add-starts : (c : Call) → is_add c ≡ true → (roll : RollType) → start_of c ≡ Some roll → ⊥
+pub add-starts : (c : Call) → is_add c ≡ true → (roll : RollType) → start_of c ≡ Some roll → ⊥
 add-starts c h roll e = grind arith
 
 add-calm : (c : Call) → is_add c ≡ true → IsCalm (call_of c)

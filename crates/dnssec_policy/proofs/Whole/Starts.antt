@@ -1,6 +1,6 @@
 -- A start that is said leaves a whole set whole, and brings the KSKs no algorithm, unless it is
 -- that of an algorithm roll.
-use Rattle.std.proofs.Common.{◌≡◌, ◌≢◌, ℕ, ◌⊎◌, inl, inr, Bool, true, false, List, [], ◌∷◌}
+use Rattle.std.proofs.Common.{◌≡◌, ◌≢◌, ℕ, ◌⊎◌, inl, inr, true, false, List, [], ◌∷◌}
 use Rattle.std.proofs.Common.{Some, refl, sym, ap, subst, ◌∙◌, arith}
 use Rattle.std.proofs.lemmas.Bool.{cases_Bool, false_from_ne_true, or_parts, true≢false}
 use Rattle.std.{proofs.lemmas.Option.same_Some, specs.Prelude.◌||◌, specs.Prelude.Ok}
@@ -74,13 +74,7 @@ module _ (policy : Policy) (v : View) (new : KeySetParts) (roll : RollType)
   first-of q qs = ap (λ b. b || is_listed qs q) ((bytes_decides q q).1 refl)
 
   second-of : (q r : List ℕ) → is_listed (q ∷ r ∷ []) r ≡ true
-  second-of q r =
-      let same = (bytes_decides r r).1 refl in
-      by (bytes_eq r q) same
-    where
-      by : (t : Bool) → bytes_eq r r ≡ true → (t || (bytes_eq r r || false)) ≡ true
-      by true same = refl
-      by false same = ap (λ b. b || false) same
+  second-of q r = grind (arith, (bytes_decides r r).1 refl)
 
   -- unless only KSKs are rolled
   zone-new : is_of_ksks roll ≡ false → HasOf keeps_zsk policy.algorithm new

@@ -25,14 +25,13 @@ returns-in_ok-next-in-Some c end same =
     let v = view_of a.state.now end in
     let role = role_of a.roll in
     let due = c.if-moment-nanos.true in
-    let clock = c.nanos.ensures in
     c.in_ok-next-in-Some.ensures end same
     ∙ ap (λ (r : KeyRole). start_with v a.roll (new_keys a.policy.now v.set.keys (r ∷ [])))
     c.role_of-role.ensures
     ∙ sym (renewal-by a.policy.now v a.roll c.in-Some.moment true
     (sym (c.may_renew.ensures end same) ∙ c.if-not-may_renew.false)
     (over-lent role (renewal_of a.policy.now role) v.set.keys a.keys.now same
-    ∙ sym c.in-Some.ensures) (le-leb c.in-Some.moment v.now (omega (arith, due, clock))))
+    ∙ sym c.in-Some.ensures) (le-leb c.in-Some.moment v.now (omega (arith, due, c.nanos.ensures))))
 
 pub returns-else-moment-nanos : goal.returns-else-moment-nanos
 returns-else-moment-nanos c end same =
@@ -40,8 +39,7 @@ returns-else-moment-nanos c end same =
     let v = view_of a.state.now end in
     let role = role_of a.roll in
     let due = c.if-moment-nanos.false in
-    let clock = c.nanos.ensures in
     sym (renewal-by a.policy.now v a.roll c.in-Some.moment false
     (sym (c.may_renew.ensures end same) ∙ c.if-not-may_renew.false)
     (over-lent role (renewal_of a.policy.now role) v.set.keys a.keys.now same
-    ∙ sym c.in-Some.ensures) (lt-leb c.in-Some.moment v.now (omega (arith, due, clock))))
+    ∙ sym c.in-Some.ensures) (lt-leb c.in-Some.moment v.now (omega (arith, due, c.nanos.ensures))))
