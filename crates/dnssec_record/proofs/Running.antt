@@ -24,10 +24,10 @@ use Rattle.dnssec_record.proofs.Made.{Finds, HasMade, all_made, one_made}
 use Rattle.dnssec_record.specs.Answer.{IsAnswerOf}
 use Rattle.dnssec_record.specs.Courses.{Listing, as_listed, ended_after, ended_by, listed_after}
 use Rattle.dnssec_record.specs.Courses.{listed_by, turn_after, turn_of, turns}
-use Rattle.dnssec_record.specs.Inner.Zone.{Comes, Follows, IsZoneAfter, TakesOn}
+use Rattle.dnssec_record.specs.Inner.Zone.{Comes, IsZoneAfter, TakesOn}
 use Rattle.dnssec_record.specs.Output.{answers, chain_line, published_text, reply_text, set_line}
 use Rattle.dnssec_record.specs.Output.{set_text, sets_text}
-use Rattle.dnssec_record.specs.Session.{Closes}
+use Rattle.dnssec_record.specs.Session.{Closes, Follows}
 use Rattle.dnssec_record.specs.declared.courses.{Courses.Courses, Turn.Turn}
 use Rattle.dnssec_record.specs.declared.{zone.Made.Made, zone.ZoneState.ZoneState}
 
@@ -85,24 +85,21 @@ folded_more f none calls entries call e same =
 
 -- ---- calls
 
--- what the recorder and the judge of a zone know
-pub follows_of : {name : List ℕ} {calls : List Call} {entries : List Entry} {zone : ZoneState}
-    → IsZoneAfter name calls entries zone → Follows name calls entries zone
-follows_of so = record { records = so.records; knows = so.knows; shown = so.shown }
-
 -- before the first call nothing is published
 pub none_follows : (name : List ℕ) (zone : ZoneState) → Records name [] [] zone.recorder
     → Knows [] zone.judge → zone.courses.listed.items ≡ [] → zone.courses.ended.items ≡ []
     → IsZoneAfter name [] [] zone
 unfolding position_at
 none_follows name zone records knows listed ended = record {
-  records = records;
-  knows = knows;
-  shown =
-      let r = zone.recorder in
-      by_ids r.published ∙ (λ i. four_text (sym (last-ds name [] [] r records) i)
-      (sym (last-dnskey name [] [] r records) i) (sym (last-signers name [] [] r records) i)
-      (sym (last-zone name [] [] r records) i));
+  follows = record {
+    records = records;
+    knows = knows;
+    shown =
+        let r = zone.recorder in
+        by_ids r.published ∙ (λ i. four_text (sym (last-ds name [] [] r records) i)
+        (sym (last-dnskey name [] [] r records) i) (sym (last-signers name [] [] r records) i)
+        (sym (last-zone name [] [] r records) i));
+  };
   listed = ap (map as_listed) listed;
   ended = ended;
   moments = refl;
@@ -230,19 +227,21 @@ lists_on {calls = calls} {entries = entries} next {call = call} so came same rec
     record {
       entry = e;
       stands = record {
-        records = rw recorder came.stands.records;
-        knows = rw judge came.stands.knows;
-        shown = rw recorder came.stands.shown;
+        follows = record {
+          records = rw recorder came.stands.records;
+          knows = rw judge came.stands.knows;
+          shown = rw recorder came.stands.shown;
+        };
         listed = listed
-            ∙ ap (λ (courses : Courses). listed_after (map as_listed courses.listed.items) turn) same
+            ∙ ap (λ (cs : Courses). listed_after (map as_listed cs.listed.items) turn) same
             ∙ ap (λ (ls : List Listing). listed_after ls turn) so.listed
             ∙ ap (listed_after (listed_by calls entries)) its
-            ∙ sym (folded_more listed_after [] calls entries call e so.records.run.count);
+            ∙ sym (folded_more listed_after [] calls entries call e so.follows.records.run.count);
         ended = ended
-            ∙ ap (λ (courses : Courses). ended_after courses.ended.items turn) same
+            ∙ ap (λ (cs : Courses). ended_after cs.ended.items turn) same
             ∙ ap (λ (rs : List RollType). ended_after rs turn) so.ended
             ∙ ap (ended_after (ended_by calls entries)) its
-            ∙ sym (folded_more ended_after [] calls entries call e so.records.run.count);
+            ∙ sym (folded_more ended_after [] calls entries call e so.follows.records.run.count);
         moments = refl;
       };
       is_reply = came.is_reply;

@@ -22,9 +22,7 @@ pub session_of : {name : List ℕ} {calls : List Call} {entries : List Entry} (s
     → IsZoneAfter name calls entries s.zone → s.moments ≡ moments_of entries
     → StandsAfter name calls entries s
 session_of s so moments = record {
-  records = so.records;
-  knows = so.knows;
-  shown = so.shown;
+  follows = so.follows;
   listed = so.listed;
   ended = so.ended;
   moments = moments;
@@ -34,9 +32,7 @@ session_of s so moments = record {
 pub zone_of : {name : List ℕ} {calls : List Call} {entries : List Entry} (s : Session)
     → StandsAfter name calls entries s → IsZoneAfter name calls entries s.zone
 zone_of s so = record {
-  records = so.records;
-  knows = so.knows;
-  shown = so.shown;
+  follows = so.follows;
   listed = so.listed;
   ended = so.ended;
   moments = refl;

@@ -19,6 +19,7 @@ use Rattle.dnssec_record.specs.declared.fault.ScriptFault.{ScriptFault}
 use Rattle.dnssec_record.specs.declared.fault.ScriptFault.TheVariants.{Malformed, Device}
 use Rattle.dnssec_record.specs.declared.fault.ScriptFault.TheVariants.{OutOfMemory}
 use Rattle.dnssec_record.specs.declared.session.Session.{Session}
+use Rattle.dnssec_record.specs.declared.zone.ZoneState.{ZoneState}
 use Rattle.dnssec_record.specs.declared.session.Response.{Response}
 use Rattle.dnssec_record.specs.declared.session.Response.TheVariants as response
 use Rattle.dnssec_record.specs.declared.session.Attempt.{Attempt}
@@ -26,13 +27,18 @@ use Rattle.dnssec_record.specs.declared.session.Attempt.TheVariants as attempt
 
 -- ---- calls
 
--- the entries are the record of a run of the calls on a new key set of this name, and the session
--- stands after the last of them
+-- the entries are the record of a run of the calls on a new key set of this name, and a recorder
+-- and a judge know them
+pub record Follows (name : List ℕ) (calls : List Call) (entries : List Entry) (zone : ZoneState)
+    : Type 0 where
+  pub records : Records name calls entries zone.recorder
+  pub knows : Knows entries zone.judge
+  pub shown : published_text zone.recorder.published ≡ set_line entries
+
+-- the session stands after the last of them
 pub record StandsAfter (name : List ℕ) (calls : List Call) (entries : List Entry) (s : Session)
     : Type 0 where
-  pub records : Records name calls entries s.zone.recorder
-  pub knows : Knows entries s.zone.judge
-  pub shown : published_text s.zone.recorder.published ≡ set_line entries
+  pub follows : Follows name calls entries s.zone
   pub listed : map as_listed s.zone.courses.listed.items ≡ listed_by calls entries
   pub ended : s.zone.courses.ended.items ≡ ended_by calls entries
   pub moments : s.moments ≡ moments_of entries

@@ -6,7 +6,7 @@ ghost use Rattle.dnssec_record.specs.Answer.{IsAnswerOf, AnswerFault, EndsSafe, 
 ghost use Rattle.dnssec_record.specs.Answer.{IsSafeAnswer, TakesAnswer, TakesAtMost};
 ghost use Rattle.dnssec_record.specs.Device.{Counts};
 ghost use Rattle.dnssec_record.specs.Inner.Devices.{FaultOfInput, TakesFront};
-ghost use Rattle.dnssec_record.specs.Inner.Zone.{Follows};
+ghost use Rattle.dnssec_record.specs.Session.{Follows};
 ghost use Rattle.dnssec_script.specs.Inner.Reading.{HasRead};
 ghost use Rattle.dnssec_script.specs.Script.{IsFirstMalformed, IsScript};
 ghost use Rattle.dnssec_run.specs.declared.call.Call.{Call};

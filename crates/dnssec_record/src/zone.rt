@@ -1,9 +1,9 @@
 //! The zone of a session or of a script, as the calls so far have left it.
 ghost use Rattle.std.specs.Prelude.{◌≡◌, ◌++◌, ℕ, List, [], IfOk, OnOk};
 ghost use Rattle.std.specs.Prelude.{codes, string_bytes};
-ghost use Rattle.dnssec_record.specs.Inner.Zone.{Comes, Follows, IsZoneAfter, TakesOn};
+ghost use Rattle.dnssec_record.specs.Inner.Zone.{Comes, IsZoneAfter, TakesOn};
 ghost use Rattle.dnssec_record.specs.Output.{reply_text};
-ghost use Rattle.dnssec_record.specs.Session.{Closes};
+ghost use Rattle.dnssec_record.specs.Session.{Closes, Follows};
 ghost use Rattle.dnssec_run.specs.declared.call.Call.{Call};
 ghost use Rattle.dnssec_run.specs.declared.record.Entry.{Entry};
 

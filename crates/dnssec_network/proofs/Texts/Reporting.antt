@@ -18,15 +18,15 @@ pub is_due_after : (lines notes : List (List ℕ)) (entries : List Entry) (sessi
 is_due_after lines notes entries session keyset steps moments noted seconds text so same last at
     are is =
     let after = so.stands in
-    let set = same ∙ after.records.agrees.same
-    ∙ ap (λ k. (world_at so.name so.calls entries k).set) (sym after.records.run.count) in
+    let set = same ∙ after.follows.records.agrees.same
+    ∙ ap (λ k. (world_at so.name so.calls entries k).set) (sym after.follows.records.run.count) in
     record {
       name = so.name;
       calls = so.calls;
       before = noted.before;
       facts = noted.facts;
       is_script = so.is_script;
-      is_run = after.records.run;
+      is_run = after.follows.records.run;
       are_notes = subst (λ m. AreNotes m notes noted.before noted.facts) at are;
       is_text = is ∙ (λ i. due_text (set i).rolls (λ roll. last roll i) (at i) noted.before
           noted.facts seconds);

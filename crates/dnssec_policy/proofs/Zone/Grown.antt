@@ -61,7 +61,8 @@ module _ (name : List ℕ) (calls : List Call) (entries : List Entry) (asked : L
           let are' = subst
           (λ (noted : ZoneNotes). AreTrue noted.notes.before noted.notes.facts network time) same
           are in
-          grows name calls entries network time call on.entry so.after.stands.records.run.count
+          grows name calls entries network time call on.entry
+          so.after.stands.follows.records.run.count
           (so.automatic network time are' (in_time-front asked moment network in_time))
           (said network time are'
           (in_time-last asked moment (length entries) network so.count in_time));
@@ -77,7 +78,7 @@ module _ (name : List ℕ) (calls : List Call) (entries : List Entry) (asked : L
       → Says name calls entries policy moment old (Make (call_of call))
       → IsMade name calls entries asked call moment old new reply
   one-said policy says = made (λ network time are clock.
-      let count = so.after.stands.records.run.count in
+      let count = so.after.stands.follows.records.run.count in
       inr (subst (λ n. IsSaid name calls entries network time n call) count (record {
         policy = policy;
         view = says.view;

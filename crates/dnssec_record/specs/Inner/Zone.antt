@@ -6,9 +6,6 @@ use Rattle.dnssec_run.specs.Moments.{moments_of}
 use Rattle.dnssec_script.specs.Script.{call_says}
 use Rattle.dnssec_script.specs.Inner.Statement.{statement_says}
 use Rattle.dnssec_script.specs.declared.statement.Statement.{Statement}
-use Rattle.dnssec_judge.specs.Judge.{Knows}
-use Rattle.dnssec_run.specs.Recorder.{Records}
-use Rattle.dnssec_record.specs.Output.{published_text, set_line}
 use Rattle.dnssec_record.specs.Session.{StandsAfter}
 use Rattle.dnssec_record.specs.declared.zone.Made.{Made}
 use Rattle.dnssec_record.specs.declared.zone.ZoneState.{ZoneState}
@@ -17,13 +14,6 @@ use Rattle.dnssec_record.specs.declared.zone.ZoneState.{ZoneState}
 abbrev pub IsZoneAfter : List ℕ → List Call → List Entry → ZoneState → Type 0
 IsZoneAfter name calls entries zone =
     StandsAfter name calls entries (record { zone = zone; moments = moments_of entries })
-
--- its recorder and its judge know the calls so far, whatever is kept of its rolls
-pub record Follows (name : List ℕ) (calls : List Call) (entries : List Entry) (zone : ZoneState)
-    : Type 0 where
-  pub records : Records name calls entries zone.recorder
-  pub knows : Knows entries zone.judge
-  pub shown : published_text zone.recorder.published ≡ set_line entries
 
 -- what is known of a zone after calls
 abbrev pub Known : Type 1

@@ -19,7 +19,7 @@ unfolding status_text zone_json state_json
 returns c name calls entries stands =
     let s = c.args.session.now in
     let set = c.keyset-keyset.ensures in
-    let same = stands.records.agrees.same in
+    let same = stands.follows.records.agrees.same in
     let ended = c.ended_early.ensures name calls entries stands in
     let named : string_bytes c.in_ok-zone.zone ≡ name_text s.zone.recorder.keyset.name =
     c.in_ok-zone.ensures.ok
@@ -40,7 +40,7 @@ returns c name calls entries stands =
       verdict = c.verdict.result;
       is_verdict = c.verdict.ensures name calls entries stands;
       sets = s.zone.recorder.published;
-      are_published = stands.records.published;
+      are_published = stands.follows.records.published;
       rolls = c.deref-2.result.now;
       are_rolls = subst (λ (rolls : List RollInProgress).
           AreGoing (world_at name calls entries (length calls)).set rolls)

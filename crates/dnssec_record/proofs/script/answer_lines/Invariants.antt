@@ -1,7 +1,7 @@
 -- What was written so far answers the calls of the lines so far.
 use Rattle.std.specs.Prelude.{[], ℕ, List, string_bytes}
 use Rattle.dnssec_script.specs.Inner.Reading.{HasRead, lines_left}
-use Rattle.dnssec_record.specs.Inner.Zone.{Follows}
+use Rattle.dnssec_record.specs.Session.{Follows}
 use Rattle.dnssec_record.proofs.{Made.HasMade, Running.Answered}
 use Rattle.dnssec_record.proofs.script.answer_lines.Given as goal
 

@@ -5,9 +5,11 @@ use Rattle.dnssec_record.proofs.zone.ZoneState.fit.Goals as goal
 
 pub returns-in-Ok : goal.returns-in-Ok
 returns-in-Ok c name calls entries so = record {
-  records = c.in-Ok.ensures.records name calls entries so.records;
-  knows = so.knows;
-  shown = same_sets _ _ c.in-Ok.ensures.same.published ∙ so.shown;
+  follows = record {
+    records = c.in-Ok.ensures.records name calls entries so.follows.records;
+    knows = so.follows.knows;
+    shown = same_sets _ _ c.in-Ok.ensures.same.published ∙ so.follows.shown;
+  };
   listed = so.listed;
   ended = so.ended;
   moments = refl;

@@ -5,9 +5,11 @@ use Rattle.dnssec_record.proofs.zone.ZoneState.try_clone.Goals as goal
 
 pub returns : goal.returns
 returns c name calls entries so = record {
-  records = c.in-Ok.ensures.records name calls entries so.records;
-  knows = (c.in-Ok-try_clone.ensures.same entries).0 so.knows;
-  shown = same_sets _ _ c.in-Ok.ensures.same.published ∙ so.shown;
+  follows = record {
+    records = c.in-Ok.ensures.records name calls entries so.follows.records;
+    knows = (c.in-Ok-try_clone.ensures.same entries).0 so.follows.knows;
+    shown = same_sets _ _ c.in-Ok.ensures.same.published ∙ so.follows.shown;
+  };
   listed = c.in_ok-courses.ensures.listed ∙ so.listed;
   ended = c.in_ok-courses.ensures.ended ∙ so.ended;
   moments = refl;

@@ -13,8 +13,8 @@ returns c name calls entries after =
     let at = c.calls-at.ensures name (calls ++ c.args.call ∷ []) (entries ++ next.entry ∷ [])
     next.stands in
     let set : c.keyset.result.now ≡ (world_at name calls entries (length entries)).set =
-    c.keyset.ensures ∙ after.stands.records.agrees.same
-    ∙ ap (λ k. (world_at name calls entries k).set) (sym after.stands.records.run.count) in
+    c.keyset.ensures ∙ after.stands.follows.records.agrees.same
+    ∙ ap (λ k. (world_at name calls entries k).set) (sym after.stands.follows.records.run.count) in
     let is_by_hand = ap (λ (set : KeySetParts). is_by_hand set c.args.call) (sym set)
     ∙ sym c.is_by_hand-is_by_hand.ensures in
     record {
@@ -22,10 +22,11 @@ returns c name calls entries after =
       after = record {
         stands = next.stands;
         lasts = c.after-self.ensures.follows calls entries c.args.call next.entry
-            after.stands.records.run.count after.lasts (sym c.second_wait-wait.ensures)
+            after.stands.follows.records.run.count after.lasts (sym c.second_wait-wait.ensures)
             next.is_reply (omega arith);
         first = c.after-self-2.ensures name calls entries c.args.call next.entry
-            after.stands.records.run.count after.first is_by_hand next.is_reply (omega arith);
+            after.stands.follows.records.run.count after.first is_by_hand next.is_reply
+            (omega arith);
       };
       is_reply = next.is_reply;
     }

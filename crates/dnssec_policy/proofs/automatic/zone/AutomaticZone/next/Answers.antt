@@ -23,8 +23,8 @@ returns c =
     record {
       view = view_of state said.0;
       sees = λ network time are. record {
-        set = c.keyset.ensures ∙ stands.records.agrees.same
-            ∙ ap (λ k. (world_at name calls entries k).set) (sym stands.records.run.count);
+        set = c.keyset.ensures ∙ stands.follows.records.agrees.same
+            ∙ ap (λ k. (world_at name calls entries k).set) (sym stands.follows.records.run.count);
         step = λ roll. c.steps.ensures name calls entries stands roll;
         last = so.lasts;
         end = said.1;
