@@ -50,9 +50,10 @@ module _ (f : KeyParts → Option ℕ) where
   lost (k ∷ ks) = lost ks
 
   -- a walk that finds a key without a moment
-  pub walk-lost : (a : ℕ) (k : KeyParts) (ks : List KeyParts) → f k ≡ None
-      → fold step (Some a) (k ∷ ks) ≡ None
-  walk-lost a k ks absent = ap (λ o. fold step (later (Some a) o) ks) absent ∙ lost ks
+  pub walk-lost : (a : Option ℕ) (k : KeyParts) (ks : List KeyParts) → f k ≡ None
+      → fold step a (k ∷ ks) ≡ None
+  walk-lost None k ks absent = lost ks
+  walk-lost (Some a) k ks absent = ap (λ o. fold step (later (Some a) o) ks) absent ∙ lost ks
 
   -- what a walk finds if it begins at a
   abbrev Finds : List KeyParts → ℕ → Option ℕ → Type 0
@@ -189,7 +190,7 @@ some-split p m r k found apart =
 -- the latest of all, by the one key and the others
 joined : (roll : RollType) (half : Half) (ttl : ℕ) (m : Keys) (r : List ℕ) (k : KeyParts)
     → get m r ≡ Some k → TagsApart m → (x : Option ℕ)
-    → IsLatest (over_but roll half ttl (Some k.key_tag)) m x
+    → IsLatest (over_but roll half ttl k.key_tag) m x
     → IsLatest (over_at roll half ttl) m (later x (over_at roll half ttl k))
 joined roll half ttl m r k found apart x others = record {
   lacks = some-split (lacks f) m r k found apart ∙ ap (λ b. lacks f k || b)
@@ -201,7 +202,7 @@ joined roll half ttl m r k found apart x others = record {
     f = over_at roll half ttl
 
     g : KeyParts → Option ℕ
-    g = over_but roll half ttl (Some k.key_tag)
+    g = over_but roll half ttl k.key_tag
 
     masked : (l : KeyParts) → another k.key_tag (lacks f) l ≡ lacks g l
     masked l = grind (arith, nat_tests)
@@ -297,13 +298,16 @@ module _ (roll : RollType) (half : Half) (ttl : ℕ) where
 
 -- ---- what is known of a wait, after a key has changed or gone
 
+-- what a wait sees of a key, if the one with a tag is left out
+abbrev but : ReportedWait → ℕ → KeyParts → Option ℕ
+but wait tag = over_but wait.roll wait.half wait.ttl tag
+
 -- no change is seen
 known-alike : (m n : Keys) (r : List ℕ) (o : Option KeyParts)
     → ((q : List ℕ) → get n q ≡ (if bytes_eq r q then o else get m q))
     → (wait : ReportedWait)
     → seen (over_for (Some wait)) (get m r) ≡ seen (over_for (Some wait)) o
-    → ((tag : ℕ) → seen (over_but wait.roll wait.half wait.ttl (Some tag)) (get m r)
-    ≡ seen (over_but wait.roll wait.half wait.ttl (Some tag)) o)
+    → ((tag : ℕ) → seen (but wait tag) (get m r) ≡ seen (but wait tag) o)
     → IsKnown (Some wait) m → IsKnown (Some wait) n
 known-alike m n r o is wait same each known = (
   latest-alike (over_for (Some wait)) m n r o is same wait.over known.0,
@@ -313,12 +317,7 @@ known-alike m n r o is wait same each known = (
     others : (x : Option Others) → IsByOthers wait.roll wait.half wait.ttl x m
         → IsByOthers wait.roll wait.half wait.ttl x n
     others None h = tt
-    others (Some x) h = latest-alike (over_but wait.roll wait.half wait.ttl (Some x.but))
-        m n r o is (each x.but) x.over h
-
--- what a wait sees of a key, if the one with a tag is left out
-abbrev but : ReportedWait → ℕ → KeyParts → Option ℕ
-but wait tag = over_but wait.roll wait.half wait.ttl (Some tag)
+    others (Some x) h = latest-alike (but wait x.but) m n r o is (each x.but) x.over h
 
 -- a setter has changed the key at a reference
 pub known-after : (m n : Keys) (r : List ℕ) (k l : KeyParts) → get m r ≡ Some k
@@ -396,5 +395,4 @@ known-removed m n r k found is stale (Some wait) old =
     let none = stale-unchecked wait.roll wait.half k.keytype stale in
     known-alike m n r None is wait
     (ap (seen (over_for (Some wait))) found ∙ (grind (arith, none)))
-    (λ t. ap (seen (over_but wait.roll wait.half wait.ttl (Some t))) found
-    ∙ (grind (arith, none))) old
+    (λ t. ap (seen (but wait t)) found ∙ (grind (arith, none))) old

@@ -12,7 +12,7 @@
 -- | `end_phase`, `delete`            | `counts-ended` and the like    | Counted                  |
 -- | `Lists`: the entries             | `entries_of-at`, `filtered`    | Listing                  |
 -- | the phases of rolls              | ruleset `phases`               | Phases                   |
--- | `over_from`                      | `walked`, `latest-is`          | Latest, Longest          |
+-- | `over_from`, `over_beside`       | `walked`, `latest-is`          | Latest, Longest          |
 -- | `Waits`: what is kept            | `known-after`, `known-removed` | Latest                   |
 --
 -- `Tests` tests all rolls, options and pairs of flags; `Flags` says by it what flags a key may have

@@ -266,7 +266,7 @@ impl Keys {
     {
         match self.derived.waits.over(roll, half, ttl) {
             Some(over) => over,
-            None => over_from(&self.map, roll, half, ttl, None),
+            None => over_from(&self.map, roll, half, ttl),
         }
     }
 

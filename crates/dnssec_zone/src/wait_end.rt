@@ -3,7 +3,7 @@ ghost use Rattle.std.specs.Prelude.{◌≡◌, IsTrue, IfSome};
 ghost use Rattle.std.specs.Option.{option_and_then};
 ghost use Rattle.dnssec_key.specs.Setters.{setting_of, set_by};
 ghost use Rattle.dnssec_zone.specs.Inner.Over.{over_at, over_but, later};
-ghost use Rattle.dnssec_zone.specs.Inner.Reported.{IsKnown, IsLatest, IsByOthers, AreKnown};
+ghost use Rattle.dnssec_zone.specs.Inner.Reported.{IsKnown, IsLatest, AreKnown};
 ghost use Rattle.dnssec_zone.specs.Inner.Reported.{moved, over_for, known_after, known_beside};
 ghost use Rattle.dnssec_zone.specs.Keys.{Keys as AnyKeys, keys_in_map};
 
@@ -133,10 +133,9 @@ fn beside(
 /// of ZSKs; a roll of both stands in the place of the KSKs.
 ///
 /// A setter costs no walk. Nor does a wait after it, if the setter moved a key that isn't the last
-/// one, or moved the last one to a later moment. Else the next refused wait walks twice, and keeps
-/// what it finds by that key and by the others; further changes of that key then cost no walk. So in
-/// the worst case the last of all keys, another one each time, is moved back, and each such wait
-/// walks.
+/// one, or moved the last one to a later moment. Else the next refused wait walks, and keeps what
+/// it finds by that key and by the others; further changes of that key then cost no walk. So in the
+/// worst case the last of all keys, another one each time, is moved back, and each such wait walks.
 #[derive(Clone, Copy)]
 pub(crate) struct Waits {
     pub(crate) of_ksks: Option<ReportedWait>,
@@ -295,36 +294,29 @@ fn is_of_zsks(roll: RollType) -> bool {
     matches!(roll.column().side, Side::ZskSide)
 }
 
-/// A wait, as walks over the keys find it: one over all, and one over all but the key in which a
-/// wait saw a change, if there is one.
+/// A wait, as a walk over the keys finds it: by all, and by all but the key in which a wait saw a
+/// change, if there is one.
 fn found(keys: &KeyMap, roll: RollType, half: Half, ttl: u32, changed: Option<u16>) -> ReportedWait
     ensures { IsKnown (Some result) (keys_in_map keys.now) }
 {
-    ReportedWait {
-        roll,
-        half,
-        ttl,
-        over: over_from(keys, roll, half, ttl, None),
-        others: others_from(keys, roll, half, ttl, changed),
-    }
-}
-
-/// From when on a wait is over by all keys but one, if one is left out.
-fn others_from(
-    keys: &KeyMap,
-    roll: RollType,
-    half: Half,
-    ttl: u32,
-    but: Option<u16>,
-) -> Option<Others>
-    ensures { IsByOthers roll half ttl result (keys_in_map keys.now) }
-{
-    match but {
-        None => None,
-        Some(tag) => Some(Others {
-            but: tag,
-            over: over_from(keys, roll, half, ttl, Some(tag)),
-        }),
+    match changed {
+        None => ReportedWait {
+            roll,
+            half,
+            ttl,
+            over: over_from(keys, roll, half, ttl),
+            others: None,
+        },
+        Some(but) => {
+            let (over, others) = over_beside(keys, roll, half, ttl, but);
+            ReportedWait {
+                roll,
+                half,
+                ttl,
+                over,
+                others: Some(Others { but, over: others }),
+            }
+        }
     }
 }
 
@@ -339,33 +331,42 @@ fn renewed(known: &Option<ReportedWait>, keys: &KeyMap) -> Option<ReportedWait>
 }
 
 /// The nanosecond since 1970 from which a wait of `ttl` seconds is over, or `None` if a stamp is
-/// missing: a walk over the keys, but for one with a tag that is left out.
-pub(crate) fn over_from(
-    keys: &KeyMap,
-    roll: RollType,
-    half: Half,
-    ttl: u32,
-    but: Option<u16>,
-) -> Option<u128>
-    ensures { IsLatest (over_but roll half ttl but) (keys_in_map keys.now) result }
+/// missing: a walk over the keys.
+pub(crate) fn over_from(keys: &KeyMap, roll: RollType, half: Half, ttl: u32) -> Option<u128>
+    ensures { IsLatest (over_at roll half ttl) (keys_in_map keys.now) result }
 {
     let mut over = 0;
     for key in keys.values() {
-        over = over.max(over_but(roll, half, ttl, but, key)?);
+        over = over.max(over_for(roll, half, ttl, key)?);
     }
     Some(over)
 }
 
-/// The nanosecond since 1970 from which nothing is left of a wait for a key, or `None` if its stamp
-/// is missing. It is the first of all for a key that is left out.
-#[inline(always)]
-fn over_but(roll: RollType, half: Half, ttl: u32, but: Option<u16>, key: &Key) -> Option<u128>
-    ensures { result ≡ over_but roll half ttl but key.now }
+/// From when on a wait is over by all keys, and by all but the one with a tag: one walk finds both.
+/// It ends at another key that lacks its stamp, as this bars both.
+fn over_beside(
+    keys: &KeyMap,
+    roll: RollType,
+    half: Half,
+    ttl: u32,
+    but: u16,
+) -> (Option<u128>, Option<u128>)
+    ensures all { IsLatest (over_at roll half ttl) (keys_in_map keys.now) result.0 }
+    ensures others { IsLatest (over_but roll half ttl but) (keys_in_map keys.now) result.1 }
 {
-    match but {
-        Some(tag) if key.key_tag() == tag => Some(0),
-        _ => over_for(roll, half, ttl, key),
+    let mut over = Some(0);
+    let mut others = 0;
+    for key in keys.values() {
+        let its = over_for(roll, half, ttl, key);
+        over = later(over, its);
+        if key.key_tag() != but {
+            let Some(its) = its else {
+                return (None, None);
+            };
+            others = others.max(its);
+        }
     }
+    (over, Some(others))
 }
 
 /// The nanosecond since 1970 from which nothing is left of a wait for a key, or `None` if its stamp

@@ -21,9 +21,8 @@ over_at roll half ttl k =
     else Some 0
 
 -- the same if the key with a tag is left out
-abbrev pub over_but : RollType → Half → ℕ → Option ℕ → KeyParts → Option ℕ
-over_but roll half ttl None k = over_at roll half ttl k
-over_but roll half ttl (Some tag) k =
+abbrev pub over_but : RollType → Half → ℕ → ℕ → KeyParts → Option ℕ
+over_but roll half ttl tag k =
     if nat_eq k.key_tag tag then Some 0 else over_at roll half ttl k
 
 -- the later of two moments, if both are known

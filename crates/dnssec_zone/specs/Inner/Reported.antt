@@ -21,7 +21,7 @@ pub record IsLatest (f : KeyParts → Option ℕ) (keys : Keys) (latest : Option
 -- the moment by all keys but one, if it is known
 abbrev pub IsByOthers : RollType → Half → ℕ → Option Others → Keys → Type 0
 IsByOthers roll half ttl others keys =
-    IfSome others (λ x. IsLatest (over_but roll half ttl (Some x.but)) keys x.over)
+    IfSome others (λ x. IsLatest (over_but roll half ttl x.but) keys x.over)
 
 -- a wait is over from the moment that is kept, or a key lacks its stamp
 abbrev pub IsKnown : Option ReportedWait → Keys → Type 0
