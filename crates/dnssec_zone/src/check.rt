@@ -53,14 +53,14 @@ impl NewKeys {
         if is_taken || !key.is_fresh() {
             return Err(Error::WrongKeyState);
         }
-        let algorithm = u16::from(key.algorithm().to_int());
-        set(&mut self.algorithms, algorithm, true);
         match key.keytype() {
             KeyType::Ksk(_) => self.ksk = true,
             KeyType::Zsk(_) => self.zsk = true,
             KeyType::Csk(_, _) => self.csk = true,
             KeyType::Include(_) => (),
         }
+        let algorithm = u16::from(key.algorithm().to_int());
+        set(&mut self.algorithms, algorithm, true);
         Ok(())
     }
 

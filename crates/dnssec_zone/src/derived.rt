@@ -93,9 +93,10 @@ impl Counts {
         match *keytype {
             KeyType::Ksk(ksk) => {
                 let present = is_kept_present(Some(ksk));
+                let at_parent = is_kept_at_parent(Some(ksk));
                 counting.change(&mut self.present_ksk, present);
                 counting.change(&mut self.present_ksk_role, present);
-                counting.change(&mut self.ksk_at_parent, is_kept_at_parent(Some(ksk)));
+                counting.change(&mut self.ksk_at_parent, at_parent);
             }
             KeyType::Zsk(zsk) => {
                 let present = is_kept_present(Some(zsk));
@@ -245,13 +246,15 @@ impl Derived {
             (without_key key.old.keytype self.old.counts) }
         ensures waits { (keys : AnyKeys) → AreKnown self.new.waits keys }
     {
-        self.waits.forget();
-        self.counts.count(&key.keytype(), Counting::OneLess);
+        let before = key.keytype();
         match *mark {
             KeyMark::AsOld => mark_old(key),
             KeyMark::AsNew(roll, now) => mark_new(key, roll, now),
         }
-        self.counts.count(&key.keytype(), Counting::OneMore);
+        let after = key.keytype();
+        self.waits.forget();
+        self.counts.count(&before, Counting::OneLess);
+        self.counts.count(&after, Counting::OneMore);
     }
 
     /// Flags of keys have changed: all are counted again.
