@@ -117,7 +117,7 @@ pub enum Call<'a> {
     },
 }
 
-/// Which key a call adds or deletes, once it is accepted.
+/// Which key a call adds or deletes.
 #[derive(Drop)]
 pub(crate) enum KeyChange<'a> {
     /// It adds the key with this reference.
@@ -128,48 +128,48 @@ pub(crate) enum KeyChange<'a> {
     Nothing,
 }
 
-impl<'a> Call<'a> {
+/// What a call means, read before it is made.
+#[derive(Drop)]
+pub(crate) struct Meaning<'a> {
     /// The moment that the call is given as `now`, if any.
-    pub(crate) fn moment(&self) -> Option<UnixTime>
-        ensures { result ≡ call_moment self.now }
-    {
-        match self {
-            Call::SetPresent { now, .. }
-            | Call::StartRoll { now, .. }
-            | Call::Propagation1Complete { now, .. }
-            | Call::CacheExpired1 { now, .. }
-            | Call::Propagation2Complete { now, .. }
-            | Call::CacheExpired2 { now, .. } => Some(*now),
-            _ => None,
-        }
-    }
+    pub(crate) moment: Option<UnixTime>,
+    /// What it means for the caches, if it is accepted.
+    pub(crate) mark: Mark,
+    /// The reference of the key that it sets by hand, if any.
+    pub(crate) reference_set: Option<&'a str>,
+    /// The kinds of sets that show what it sets by hand.
+    pub(crate) sets_shown: ByKind<bool>,
+    /// Which key it adds or deletes, if it is accepted.
+    pub(crate) change: KeyChange<'a>,
+}
 
-    /// What the call means for the caches, once it is accepted.
-    pub(crate) fn mark(&self) -> Mark
-        ensures { result ≡ mark_of self.now }
-    {
-        match self {
-            Call::StartRoll { rolltype, .. } | Call::CacheExpired1 { rolltype, .. } => {
-                Mark::Step(*rolltype)
-            }
-            Call::Propagation1Complete { rolltype, ttl, .. } => Mark::Report {
-                roll: *rolltype,
-                second: false,
-                ttl: *ttl,
-            },
-            Call::Propagation2Complete { rolltype, ttl, .. } => Mark::Report {
-                roll: *rolltype,
-                second: true,
-                ttl: *ttl,
-            },
-            _ => Mark::Other,
-        }
-    }
+impl Meaning<'_> {
+    /// That of the end of a roll: no moment, no key, and nothing for the caches.
+    const NONE: Meaning<'static> = Meaning {
+        moment: None,
+        mark: Mark::Other,
+        reference_set: None,
+        sets_shown: ByKind::<bool>::NONE,
+        change: KeyChange::Nothing,
+    };
+}
 
-    /// Which key the call adds or deletes, if any.
-    pub(crate) fn key_change(&self) -> Result<KeyChange<'a>, Error>
-        ensures put { IfOk result (λ change. put_by change ≡ reference_added (call_of self.now)) }
-        ensures taken { IfOk result (λ change. taken_by change
+impl<'a> Call<'a> {
+    /// What the call means.
+    ///
+    /// # Errors
+    ///
+    /// Only `OutOfMemory`, if there is no memory for the reference of the key that it adds.
+    pub(crate) fn meaning(&self) -> Result<Meaning<'a>, Error>
+        ensures moment { IfOk result (λ means. means.moment ≡ call_moment self.now) }
+        ensures mark { IfOk result (λ means. means.mark ≡ mark_of self.now) }
+        ensures only { IfOk result (λ means. option_map (λ r. r.now) means.reference_set
+            ≡ reference_set (call_of self.now)) }
+        ensures shown { IfOk result (λ means. (kind : SetKind) →
+            at_kind means.sets_shown kind ≡ sets_shown kind (call_of self.now)) }
+        ensures put { IfOk result (λ means. put_by means.change
+            ≡ reference_added (call_of self.now)) }
+        ensures taken { IfOk result (λ means. taken_by means.change
             ≡ reference_deleted (call_of self.now)) }
         ensures err { IfErr result (λ e. e ≡ OutOfMemory) }
     {
@@ -177,48 +177,81 @@ impl<'a> Call<'a> {
             Call::AddKeyKsk { pubref, .. }
             | Call::AddKeyZsk { pubref, .. }
             | Call::AddKeyCsk { pubref, .. }
-            | Call::AddPublicKey { pubref, .. } => Ok(KeyChange::Adds(pubref.clone()?)),
-            Call::DeleteKey { pubref } => Ok(KeyChange::Deletes(pubref)),
-            _ => Ok(KeyChange::Nothing),
-        }
-    }
-
-    /// The kinds of sets that show what the call sets by hand.
-    pub(crate) fn sets_shown(&self) -> ByKind<bool>
-        ensures { (kind : SetKind) → at_kind result kind ≡ sets_shown kind (call_of self.now) }
-    {
-        match self {
-            Call::SetPresent { .. } => ByKind {
-                dnskey: true,
-                ..ByKind::NONE
-            },
-            Call::SetSigner { .. } => ByKind {
-                ds: false,
-                ..ByKind::ALL
-            },
-            Call::SetAtParent { .. } => ByKind {
-                ds: true,
-                ..ByKind::NONE
-            },
-            Call::SetStale { .. } => ByKind::ALL,
-            _ => ByKind::NONE,
-        }
-    }
-
-    /// The reference of the key that the call sets by hand, if any.
-    pub(crate) fn reference_set(&self) -> Option<&'a str>
-        ensures { option_map (λ r. r.now) result ≡ reference_set (call_of self.now) }
-    {
-        match self {
+            | Call::AddPublicKey { pubref, .. } => Ok(Meaning {
+                change: KeyChange::Adds(pubref.clone()?),
+                ..Meaning::NONE
+            }),
+            Call::DeleteKey { pubref } => Ok(Meaning {
+                change: KeyChange::Deletes(pubref),
+                ..Meaning::NONE
+            }),
             Call::SetDecoupled { pubref, .. }
-            | Call::SetPresent { pubref, .. }
-            | Call::SetSigner { pubref, .. }
-            | Call::SetAtParent { pubref, .. }
-            | Call::SetStale { pubref }
             | Call::SetVisible { pubref, .. }
             | Call::SetDsVisible { pubref, .. }
-            | Call::SetRrsigVisible { pubref, .. } => Some(pubref),
-            _ => None,
+            | Call::SetRrsigVisible { pubref, .. } => Ok(Meaning {
+                reference_set: Some(pubref),
+                ..Meaning::NONE
+            }),
+            Call::SetPresent { pubref, now, .. } => Ok(Meaning {
+                moment: Some(*now),
+                reference_set: Some(pubref),
+                sets_shown: ByKind {
+                    dnskey: true,
+                    ..ByKind::NONE
+                },
+                ..Meaning::NONE
+            }),
+            Call::SetSigner { pubref, .. } => Ok(Meaning {
+                reference_set: Some(pubref),
+                sets_shown: ByKind {
+                    ds: false,
+                    ..ByKind::ALL
+                },
+                ..Meaning::NONE
+            }),
+            Call::SetAtParent { pubref, .. } => Ok(Meaning {
+                reference_set: Some(pubref),
+                sets_shown: ByKind {
+                    ds: true,
+                    ..ByKind::NONE
+                },
+                ..Meaning::NONE
+            }),
+            Call::SetStale { pubref } => Ok(Meaning {
+                reference_set: Some(pubref),
+                sets_shown: ByKind::ALL,
+                ..Meaning::NONE
+            }),
+            Call::StartRoll { rolltype, now, .. } | Call::CacheExpired1 { rolltype, now } => {
+                Ok(Meaning {
+                    moment: Some(*now),
+                    mark: Mark::Step(*rolltype),
+                    ..Meaning::NONE
+                })
+            }
+            Call::Propagation1Complete { rolltype, ttl, now } => Ok(Meaning {
+                moment: Some(*now),
+                mark: Mark::Report {
+                    roll: *rolltype,
+                    second: false,
+                    ttl: *ttl,
+                },
+                ..Meaning::NONE
+            }),
+            Call::Propagation2Complete { rolltype, ttl, now } => Ok(Meaning {
+                moment: Some(*now),
+                mark: Mark::Report {
+                    roll: *rolltype,
+                    second: true,
+                    ttl: *ttl,
+                },
+                ..Meaning::NONE
+            }),
+            Call::CacheExpired2 { now, .. } => Ok(Meaning {
+                moment: Some(*now),
+                ..Meaning::NONE
+            }),
+            Call::RollDone { .. } | Call::AbortRoll { .. } => Ok(Meaning::NONE),
         }
     }
 

@@ -123,24 +123,20 @@ impl Recorder {
         let Some(at) = self.at.checked_add(1) else {
             return Err(Error::OutOfMemory);
         };
-        let moment = call.moment();
-        let mark = call.mark();
-        let by_hand = call.sets_shown();
-        let only = call.reference_set();
-        let change = call.key_change()?;
+        let meaning = call.meaning()?;
         let reply = call.make(&mut self.keyset);
         self.at = at;
         if let Reply::Refused(_) = &reply {
             return Ok(Outcome {
                 reply,
-                moment,
+                moment: meaning.moment,
                 mark: Mark::Other,
                 may_publish: false,
                 frames: Frames::NONE,
             });
         }
-        self.order.is_stale |= note(&mut self.added, change, at)?;
-        let touched = reply.touched(by_hand);
+        self.order.is_stale |= note(&mut self.added, meaning.change, at)?;
+        let touched = reply.touched(meaning.sets_shown);
         let mut frames = Frames::NONE;
         let may_publish = renew(
             alloc,
@@ -149,13 +145,13 @@ impl Recorder {
             &mut self.order,
             &mut self.published,
             touched,
-            only,
+            meaning.reference_set,
             &mut frames,
         )?;
         Ok(Outcome {
             reply,
-            moment,
-            mark,
+            moment: meaning.moment,
+            mark: meaning.mark,
             may_publish,
             frames,
         })

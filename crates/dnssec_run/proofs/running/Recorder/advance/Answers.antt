@@ -22,7 +22,7 @@ returns-in-Refused-clause-ok c name calls entries e tells same so =
     let before = world_at name calls entries (length calls) in
     let no : is_accepted r ≡ false = search rules in
     records-more name calls entries _ _ x _ e so tells same (omega (arith, c.in-Some.ensures))
-    c.make-reply.ensures (mark-refused x r no) c.moment-moment.ensures
+    c.make-reply.ensures (mark-refused x r no) c.in_ok-meaning.ensures.moment
     (agrees-refused n before _ _ _ x r no so.agrees
     (step-after _ _ (call_of x) (reply_of r) c.make-reply.ensures))
     (published-refused n before _ x r no so.published)
@@ -40,27 +40,27 @@ returns c = record {
       let agrees = agrees-accepted n before _ c.make-reply.new.set at
       (tree.get_by_text c.note.new.added) x r ok so.agrees
       (step-after _ _ (call_of x) (reply_of r) c.make-reply.ensures)
-      (λ q. c.in_ok-self.ensures.ok q ∙ (λ i. positions_after n (c.in_ok-change.ensures.put i)
-      (c.in_ok-change.ensures.taken i) at q)) in
+      (λ q. c.in_ok-self.ensures.ok q ∙ (λ i. positions_after n (c.in_ok-meaning.ensures.put i)
+      (c.in_ok-meaning.ensures.taken i) at q)) in
       let left = leaves n before after x r (subst (λ (t : KeySetParts × KeySetParts).
       keyset.Step t.0 (call_of x) (reply_of r) t.1) (λ i. (so.agrees.same i, agrees.same i))
       c.make-reply.ensures) refl c.touched-touched.result
       (λ kind no t. let p = or_parts _ _ (sym (c.touched-touched.ensures kind) ∙ no) in
-      (sym (c.sets_shown-by_hand.ensures kind) ∙ p.0, p.1)) in
+      (sym (c.in_ok-meaning.ensures.shown kind) ∙ p.0, p.1)) in
       let shown = c.in_ok-may_publish.ensures.read before after so.published left
-      (subst (λ o. ChangesOnly o before after) (sym c.reference_set-only.ensures)
+      (subst (λ o. ChangesOnly o before after) (sym c.in_ok-meaning.ensures.only)
       (changes-only n before x r)) agrees in
       records-more name calls entries _ _ x _ e so tells same (omega (arith, c.in-Some.ensures))
-      c.make-reply.ensures (c.mark-mark.ensures ∙ mark-accepted x r ok) c.moment-moment.ensures
-      agrees shown;
+      c.make-reply.ensures (c.in_ok-meaning.ensures.mark ∙ mark-accepted x r ok)
+      c.in_ok-meaning.ensures.moment agrees shown;
   kept = c.in_ok-may_publish.ensures.kept;
   asked = λ none. c.in_ok-may_publish.ensures.walked
-      (map-none _ _ (c.reference_set-only.ensures ∙ none))
-      ∙ touches-asked (call_of c.args.call) c.make-reply.result c.sets_shown-by_hand.result
-      c.touched-touched.result none c.sets_shown-by_hand.ensures c.touched-touched.ensures;
+      (map-none _ _ (c.in_ok-meaning.ensures.only ∙ none))
+      ∙ touches-asked (call_of c.args.call) c.make-reply.result c.in_ok-meaning.meaning.sets_shown
+      c.touched-touched.result none c.in_ok-meaning.ensures.shown c.touched-touched.ensures;
   by_hand = λ some changed. c.in_ok-may_publish.ensures.by_hand
       (sym (map-some (λ (r : Bor (List ℕ)). r.now) _)
-      ∙ ap is_some c.reference_set-only.ensures ∙ some) changed;
+      ∙ ap is_some c.in_ok-meaning.ensures.only ∙ some) changed;
   frames = c.in_ok-may_publish.ensures.frames;
   err = tt;
 }
