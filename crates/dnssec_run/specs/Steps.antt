@@ -5,16 +5,19 @@ use Rattle.dnssec_key.specs.declared.roll.RollType.{RollType}
 use Rattle.dnssec_zone.specs.Rolls.{roll_number}
 use Rattle.dnssec_run.specs.declared.record.Entry.{Entry}
 use Rattle.dnssec_run.specs.declared.steps.LastStep.{LastStep}
-use Rattle.dnssec_run.specs.declared.steps.Origins.{Origins}
 use Rattle.dnssec_run.specs.declared.steps.Steps.{Steps}
+use Rattle.dnssec_run.specs.declared.caches.ByKind.{ByKind}
+use Rattle.dnssec_run.specs.ByKind.{at_kind}
 use Rattle.dnssec_run.specs.Origins.{origin}
 use Rattle.dnssec_run.specs.Safe.{SetKind, Ds, Dnskey, ZoneSigners, base_below}
 
+-- the positions at which the sets of the kinds came
+abbrev pub Origins : Type 0
+Origins = ByKind ℕ
+
 -- the origin of a kind
 abbrev pub origin_in : Origins → SetKind → ℕ
-origin_in origins Ds = origins.ds
-origin_in origins Dnskey = origins.dnskey
-origin_in origins ZoneSigners = origins.zone
+origin_in = at_kind
 
 -- the origins of the sets that are there at a position
 abbrev pub origins_at : List Entry → ℕ → Origins

@@ -7,18 +7,13 @@ ghost use Rattle.dnssec_run.specs.Published.{id_of};
 ghost use Rattle.dnssec_run.specs.Safe.{SetKind as AnyKind, is_step, kind_of, position_at};
 ghost use Rattle.dnssec_run.specs.Steps.{AreStepsOf, origin_in, step_of};
 
-use crate::caches::SetKind;
+use crate::caches::{ByKind, SetKind};
 use crate::record::{Entry, Mark, PublishedKey};
 use dnssec_keyset::RollType;
 
 /// For each kind of sets the position at which the set came that is published at some position: no
 /// call between the two has changed it. A set that comes back comes anew.
-#[derive(Clone, Copy, Debug, PartialEq, Eq)]
-pub struct Origins {
-    pub ds: usize,
-    pub dnskey: usize,
-    pub zone: usize,
-}
+pub type Origins = ByKind<usize>;
 
 /// The last step of a roll: its last accepted start or first wait.
 #[derive(Clone, Copy, Debug)]
@@ -51,17 +46,6 @@ impl Origins {
             ds: 0,
             dnskey: 0,
             zone: 0,
-        }
-    }
-
-    /// That of the set of a kind.
-    pub fn of(self, kind: SetKind) -> usize
-        ensures { result ≡ origin_in self (kind_of kind) }
-    {
-        match kind {
-            SetKind::Ds => self.ds,
-            SetKind::Dnskey => self.dnskey,
-            SetKind::ZoneSigners => self.zone,
         }
     }
 

@@ -6,9 +6,8 @@ use Rattle.std.specs.Prelude.{if◌then◌else◌, slice_get}
 use Rattle.dnssec_key.specs.declared.roll.RollType.{RollType}
 use Rattle.dnssec_run.specs.Safe.{SetKind, base_below, is_step, position_at}
 use Rattle.dnssec_run.specs.Origins.{origin, same_set, set_at}
-use Rattle.dnssec_run.specs.Steps.{last_step, origin_in, origins_at, step_at, step_of}
+use Rattle.dnssec_run.specs.Steps.{Origins, last_step, origin_in, origins_at, step_at, step_of}
 use Rattle.dnssec_run.specs.declared.{record.Entry.Entry, steps.LastStep.LastStep}
-use Rattle.dnssec_run.specs.declared.steps.Origins.{Origins}
 use Rattle.dnssec_run.proofs.Since.{origin-of, same-origins, step-chosen}
 use Rattle.dnssec_run.proofs.steps.Steps.of_record.Goals as goal
 
