@@ -182,6 +182,13 @@ shown-where passes o n = grind arith
 abbrev test : (KeyType → Bool) → (List ℕ → Option KeyParts) → List ℕ → Bool
 test p key q = passing p (key q)
 
+-- the kind of a key, if it is there
+abbrev pub kind_of_key : Option KeyParts → Option KeyType
+kind_of_key = option_map (λ (k : KeyParts). k.keytype)
+
+abbrev pub kind_at : (List ℕ → Option KeyParts) → List ℕ → Option KeyType
+kind_at key q = kind_of_key (key q)
+
 module _ {Y : Type 0} (p : KeyType → Bool) (key : List ℕ → Option KeyParts) where
   passing-by_bytes : (es : List (String Y × ℕ))
       → ids_where p key es ≡ where_key order (test p key) (by_bytes es)
@@ -211,13 +218,13 @@ module _ {Y : Type 0} (p : KeyType → Bool) (key : List ℕ → Option KeyParts
 
   -- the first entry's key is shown, and then those of the others
   passing-first : (e : String Y × ℕ) (es : List (String Y × ℕ)) → ids_where p key (e ∷ es)
-      ≡ shown_once p (key (string_bytes e.0)) (string_bytes e.0, e.1) ++ ids_where p key es
+      ≡ shown_once p (kind_at key (string_bytes e.0)) (string_bytes e.0, e.1) ++ ids_where p key es
   passing-first e es = by (key (string_bytes e.0))
       (filter (λ (e : String Y × ℕ). test p key (string_bytes e.0)) es)
     where
       by : (o : Option KeyParts) (rest : List (String Y × ℕ))
           → by_bytes (cond (passing p o) (e ∷ rest) rest)
-          ≡ shown_once p o (string_bytes e.0, e.1) ++ by_bytes rest
+          ≡ shown_once p (kind_of_key o) (string_bytes e.0, e.1) ++ by_bytes rest
       by o rest = grind arith
 
 -- ---- a walk over all keys
@@ -245,7 +252,8 @@ module _ {Y : Type 0} (passes : KeyType → Bool) (key : List ℕ → Option Key
   }
 
   pub reads-next : (old new : Renewal) (left : List (String Y × ℕ)) (e : String Y × ℕ)
-      (es : List (String Y × ℕ)) (o : Option KeyParts) → left ≡ e ∷ es → o ≡ key (string_bytes e.0)
+      (es : List (String Y × ℕ)) (o : Option KeyType) → left ≡ e ∷ es
+      → o ≡ kind_at key (string_bytes e.0)
       → (old.is_touched ≡ true
       → ids_read new ≡ ids_read old ++ shown_once passes o (string_bytes e.0, e.1))
       → (old.is_touched ≡ false → new ≡ old) → new.is_touched ≡ old.is_touched
@@ -258,6 +266,14 @@ module _ {Y : Type 0} (passes : KeyType → Bool) (key : List ℕ → Option Key
     stays = λ t. ap (λ (set : Renewal). set.keys.items) (stays (so.mark ∙ t)) ∙ so.stays t;
     fits = fits;
   }
+
+  -- a key that isn't there is in no set
+  pub reads-past : (set : Renewal) (left : List (String Y × ℕ)) (e : String Y × ℕ)
+      (es : List (String Y × ℕ)) → left ≡ e ∷ es → None ≡ kind_at key (string_bytes e.0)
+      → Reads left set → Reads es set
+  reads-past set left e es steps none so =
+      reads-next set set left e es None steps none (λ t. sym (append-nil (ids_read set)))
+      (λ t. refl) refl so.fits so
 
   pub reads-all : (set : Renewal) (left : List (String Y × ℕ)) (items : List PublishedKey)
       (v w : World) → left ≡ [] → Reads left set

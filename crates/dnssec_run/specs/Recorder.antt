@@ -133,10 +133,10 @@ AreFound key = All (λ e. key (string_bytes e.0.now) ≡ Some e.1.now)
 abbrev pub entry_lent : {Y : Type 0} → Bor (String Y) × Bor KeyParts → String Y × KeyParts
 entry_lent e = (e.0.now, e.1.now)
 
--- a key as one of a record, if it is there and passes
-abbrev pub shown_once : (KeyType → Bool) → Option KeyParts → Id → List Id
+-- a key of this kind as one of a record, if it is there and passes
+abbrev pub shown_once : (KeyType → Bool) → Option KeyType → Id → List Id
 shown_once passes None id = []
-shown_once passes (Some k) id = if passes k.keytype then id ∷ [] else []
+shown_once passes (Some keytype) id = if passes keytype then id ∷ [] else []
 
 -- the keys of a set that were read anew
 abbrev pub ids_read : Renewal → List Id

@@ -1,6 +1,6 @@
 //! What is published of a key set, read in the order of its references.
 ghost use Rattle.std.specs.Prelude.{◌≡◌, ◌≤◌, ◌++◌, ◌∷◌, [], IfOk, IfErr, OnOk, map, true, false};
-ghost use Rattle.std.specs.Prelude.{◌||◌, IsSome, None, string_bytes, vec_len};
+ghost use Rattle.std.specs.Prelude.{◌||◌, IsSome, None, Some, string_bytes, vec_len};
 ghost use Rattle.std.specs.BTreeMap as tree;
 ghost use Rattle.std.specs.HashMap as hash;
 ghost use Rattle.std.specs.Option.{option_map};
@@ -102,21 +102,20 @@ impl Renewal {
         }
     }
 
-    /// Reads the next key of all, and has it in the set if the set shows it. It is called four
-    /// times for each key, and mostly nothing changes.
+    /// Reads the next key of all by its kind, and has it in the set if the set shows it. It is
+    /// called four times for each key, and mostly nothing changes.
     #[inline(always)]
     fn show(
         &mut self,
         shown: Shown,
-        key: Option<&Key>,
+        keytype: &KeyType,
         reference: &String,
         added: usize,
     ) -> Result<(), Error>
         requires { self.old.read ≤ vec_len self.old.keys }
         ensures ok { OnOk result (self.old.is_touched ≡ true →
             ids_read self.new ≡ ids_read self.old
-            ++ shown_once (shows shown) (option_map (λ k. k.now) key.entry)
-            (string_bytes reference.now, added)) }
+            ++ shown_once (shows shown) (Some keytype.now) (string_bytes reference.now, added)) }
         ensures left { OnOk result (self.old.is_touched ≡ false → self.new ≡ self.old) }
         ensures touched { OnOk result (self.new.is_touched ≡ self.old.is_touched) }
         ensures fits { OnOk result (self.new.read ≤ vec_len self.new.keys) }
@@ -125,10 +124,7 @@ impl Renewal {
         if !self.is_touched {
             return Ok(());
         }
-        let Some(key) = key else {
-            return Ok(());
-        };
-        let is_shown = shown.shows(key.keytype());
+        let is_shown = shown.shows(*keytype);
         match self.keys.get(self.read) {
             Some(next) if next.added == added && next.reference == *reference => {
                 if is_shown {
@@ -319,12 +315,15 @@ pub(crate) fn renew(
     let mut rank = 0usize;
     for (reference, position) in added.iter() {
         let place = order.places.get(rank).copied().unwrap_or(rank);
-        let key = key_at(keys, &entries, place, reference);
         rank = rank.saturating_add(1);
-        ds.show(Shown::Ds, key, reference, *position)?;
-        dnskey.show(Shown::Dnskey, key, reference, *position)?;
-        dnskey_signers.show(Shown::DnskeySigners, key, reference, *position)?;
-        zone_signers.show(Shown::ZoneSigners, key, reference, *position)?;
+        let Some(key) = key_at(keys, &entries, place, reference) else {
+            continue;
+        };
+        let keytype = key.keytype();
+        ds.show(Shown::Ds, &keytype, reference, *position)?;
+        dnskey.show(Shown::Dnskey, &keytype, reference, *position)?;
+        dnskey_signers.show(Shown::DnskeySigners, &keytype, reference, *position)?;
+        zone_signers.show(Shown::ZoneSigners, &keytype, reference, *position)?;
     }
     sets.ds = ds.into_keys();
     sets.dnskey = dnskey.into_keys();

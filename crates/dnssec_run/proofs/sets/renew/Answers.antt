@@ -1,10 +1,11 @@
 -- Each of the four lists is the keys that its set shows.
-use Rattle.std.proofs.Common.{◌≡◌, Bool, length, rules}
+use Rattle.std.proofs.Common.{◌≡◌, ◌∙◌, ap, Bool, length, rules, None, Some, string_bytes}
 use Rattle.std.specs.HashMap as hash
 use Rattle.dnssec_key.specs.declared.kind.KeyType.{KeyType}
 use Rattle.dnssec_run.specs.Published.{in_ds, in_dnskey, signs_dnskey, signs_zone}
 use Rattle.dnssec_run.proofs.Around.{read-frame}
-use Rattle.dnssec_run.proofs.Positions.{passing-shown, reads-all, reads-begin, reads-next}
+use Rattle.dnssec_run.proofs.Positions.{kind_at, kind_of_key, passing-shown, reads-all, reads-begin}
+use Rattle.dnssec_run.proofs.Positions.{reads-next, reads-past}
 use Rattle.dnssec_run.proofs.sets.renew.Goals as goal
 
 pub loop-reference-init : goal.loop-reference-init
@@ -27,7 +28,9 @@ loop-reference-preserved c =
     let key = hash.get_by_text c.keys-keys.result.now in
     let steps = c.in-Some-2.ensures.steps in
     let inv = c.loop-reference.invariant in
-    let found = c.key_at-key.ensures in
+    let found : Some c.keytype-keytype.result
+    ≡ kind_at key (string_bytes c.in-Some-2.reference.now) =
+    ap Some c.keytype-keytype.ensures ∙ ap kind_of_key c.in-Some-key_at.ensures in
     record {
       ds = let shown = c.in_ok-show.ensures in
           reads-next in_ds key _ _ _ _ _ _ _ _ _ steps found shown.ok
@@ -41,6 +44,20 @@ loop-reference-preserved c =
       zone_signers = let shown = c.in_ok-show-4.ensures in
           reads-next signs_zone key _ _ _ _ _ _ _ _ _ steps found shown.ok
           shown.left shown.touched shown.fits inv.zone_signers;
+    }
+
+pub loop-reference-preserved-in_default-key_at : goal.loop-reference-preserved-in_default-key_at
+loop-reference-preserved-in_default-key_at c =
+    let key = hash.get_by_text c.keys-keys.result.now in
+    let steps = c.in-Some-2.ensures.steps in
+    let inv = c.loop-reference.invariant in
+    let none : None ≡ kind_at key (string_bytes c.in-Some-2.reference.now) =
+    ap kind_of_key c.in_default-key_at.ensures in
+    record {
+      ds = reads-past in_ds key _ _ _ _ _ _ _ steps none inv.ds;
+      dnskey = reads-past in_dnskey key _ _ _ _ _ _ _ steps none inv.dnskey;
+      dnskey_signers = reads-past signs_dnskey key _ _ _ _ _ _ _ steps none inv.dnskey_signers;
+      zone_signers = reads-past signs_zone key _ _ _ _ _ _ _ steps none inv.zone_signers;
     }
 
 pub returns-clause-read : goal.returns-clause-read

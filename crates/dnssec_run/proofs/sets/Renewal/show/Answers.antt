@@ -2,7 +2,7 @@
 use Rattle.std.proofs.Common.{◌≡◌, ◌∙◌, ◌∷◌, ◌++◌, [], List, Some, ap, refl, rules, sym}
 use Rattle.std.proofs.Common.{string_bytes}
 use Rattle.std.proofs.lemmas.Option.{slice_get_read}
-use Rattle.std.specs.{Option.option_map, Prelude.slice_get}
+use Rattle.std.specs.Prelude.{slice_get}
 use Rattle.dnssec_run.specs.{declared.record.PublishedKey.PublishedKey, Published.Id}
 use Rattle.dnssec_run.specs.Recorder.{ids_read, shown_once, shows}
 use Rattle.dnssec_run.{specs.Published.id_of, proofs.Positions.keeps-next}
@@ -10,16 +10,16 @@ use Rattle.dnssec_run.proofs.sets.Renewal.show.Goals as goal
 
 pub returns-then-is_shown-clause-ok : goal.returns-then-is_shown-clause-ok
 returns-then-is_shown-clause-ok c touched =
-    let key = c.in-Some-get.next.now in
+    let key = c.in-Some.next.now in
     let keys = c.args.self.now.keys in
     let at = c.args.self.now.read in
     let id : Id = (string_bytes c.args.reference.now, c.args.added) in
-    let found = c.in-Some-get.ensures.lookup in
+    let found = c.in-Some.ensures.lookup in
     let there : slice_get keys.items at ≡ Some key =
     ap (λ (keys : List PublishedKey). slice_get keys at) (sym c.deref.ensures.value)
     ∙ slice_get_read c.deref.result.now _ at key refl found.3.0 found.1 in
     let is : id_of key ≡ id = search rules in
-    let shown : shown_once (shows c.args.shown) (option_map (λ k. k.now) c.args.key) id ≡ id ∷ [] =
+    let shown : shown_once (shows c.args.shown) (Some c.args.keytype.now) id ≡ id ∷ [] =
     search rules in
     keeps-next keys.items at key id there is
     ∙ ap (λ (l : List Id). ids_read c.args.self.now ++ l) (sym shown)
