@@ -274,7 +274,7 @@ published-at passes r q here before o was n was_so now others = grind (arith, by
 pub renewed : (passes : KeyType → Bool) (touched : Bool) (v w : World) (r : List ℕ)
     (set : KeySetParts) (at : List ℕ → Option ℕ) (old new : List Id) (key : Option KeyParts)
     (place result : Option ℕ) → key ≡ get set.keys r → place ≡ at r
-    → result ≡ position_shown passes key place
+    → (touched ≡ true → result ≡ position_shown passes key place)
     → (touched ≡ true → IsAscending old → SetsPlace r result old new)
     → (touched ≡ false → new ≡ old) → old ≡ keys_where passes v → ChangesAt r v w
     → Agrees set at w → (touched ≡ false → keys_where passes w ≡ keys_where passes v)
@@ -293,7 +293,7 @@ renewed passes touched v w r set at old new key place result found placed is set
 
     by : (t : Bool) → touched ≡ t → new ≡ keys_where passes w
     by true t =
-        let then = rw (is, found, placed) at (sets t (rw was (shown-ascending passes v))) in
+        let then = rw (is t, found, placed) at (sets t (rw was (shown-ascending passes v))) in
         shown-by passes w new then.ascending (λ q. then.found q ∙ published-at passes r q
         (λ q. position_shown passes (get set.keys q) (at q)) (position_in old q)
         (get w.set.keys q) (get v.set.keys q) (w.added q) (before q) (here q) (only.others q))

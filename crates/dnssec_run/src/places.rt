@@ -37,34 +37,32 @@ pub(crate) fn renew_key(
 {
     let key = keyset.keys().get(reference);
     let at = added.get(reference).copied();
-    let to = position(Shown::Ds, key, at);
+    let to = position(touched.ds, Shown::Ds, key, at);
     let frame = &mut frames.ds;
     let ds = renew_place(alloc, touched.ds, &mut sets.ds, to, reference, frame)?;
-    let to = position(Shown::Dnskey, key, at);
+    let to = position(touched.dnskey, Shown::Dnskey, key, at);
+    let keys = &mut sets.dnskey;
     let frame = &mut frames.dnskey;
-    let dnskey = renew_place(
-        alloc,
-        touched.dnskey,
-        &mut sets.dnskey,
-        to,
-        reference,
-        frame,
-    )?;
-    let to = position(Shown::DnskeySigners, key, at);
+    let dnskey = renew_place(alloc, touched.dnskey, keys, to, reference, frame)?;
+    let to = position(touched.dnskey, Shown::DnskeySigners, key, at);
     let keys = &mut sets.dnskey_signers;
     let frame = &mut frames.dnskey_signers;
     let signers = renew_place(alloc, touched.dnskey, keys, to, reference, frame)?;
-    let to = position(Shown::ZoneSigners, key, at);
+    let to = position(touched.zone, Shown::ZoneSigners, key, at);
     let keys = &mut sets.zone_signers;
     let frame = &mut frames.zone_signers;
     let zone = renew_place(alloc, touched.zone, keys, to, reference, frame)?;
     Ok(ds | dnskey | signers | zone)
 }
 
-/// The position of a key, if the set shows it.
-fn position(shown: Shown, key: Option<&Key>, at: Option<usize>) -> Option<usize>
-    ensures { result ≡ position_shown (shows shown) (option_map (λ k. k.now) key.entry) at }
+/// The position of a key, if the set may have changed and shows it.
+fn position(is_touched: bool, shown: Shown, key: Option<&Key>, at: Option<usize>) -> Option<usize>
+    ensures { is_touched ≡ true →
+        result ≡ position_shown (shows shown) (option_map (λ k. k.now) key.entry) at }
 {
+    if !is_touched {
+        return None;
+    }
     match key {
         Some(key) if shown.shows(key.keytype()) => at,
         _ => None,
