@@ -5,7 +5,7 @@ use Rattle.std.proofs.Math.Seq.{drop-append_seam, take-append_seam}
 use Rattle.std.proofs.lemmas.List.{append_cancel_left, append_cancel_right, length-append}
 use Rattle.std.proofs.lemmas.List.{length-map}
 use Rattle.std.specs.List.{insert, remove}
-use Rattle.dnssec_run.specs.declared.{frames.Frame.Frame, record.PublishedKey.PublishedKey}
+use Rattle.dnssec_run.specs.declared.record.{Frame.Frame, PublishedKey.PublishedKey}
 use Rattle.dnssec_run.specs.Frames.{KeepsFrame}
 use Rattle.dnssec_run.specs.Published.{Id, id_of}
 use Rattle.dnssec_judge.specs.Numbers.{Grows, StandFor, key_at}

@@ -2,7 +2,7 @@
 use Rattle.std.specs.Prelude.{◌≡◌, ℕ, Bool, true, not, List, map, nat_eq, slice_get}
 use Rattle.std.specs.Prelude.{Option, None, Some, IsSome}
 use Rattle.std.specs.{HashMap.get, List.Contains, Option.option_map}
-use Rattle.dnssec_run.specs.declared.{frames.Frame.Frame, record.PublishedKey.PublishedKey}
+use Rattle.dnssec_run.specs.declared.record.{Frame.Frame, PublishedKey.PublishedKey}
 use Rattle.dnssec_run.specs.Frames.{KeepsFrame}
 use Rattle.dnssec_run.specs.Origins.{CachedSet, same_ids}
 use Rattle.dnssec_run.specs.Published.{Id, id_of}

@@ -7,8 +7,8 @@ use Rattle.std.proofs.lemmas.List.{take-append-drop}
 use Rattle.std.specs.Prelude.{Option}
 use Rattle.std.specs.declared.string.String.{String}
 use Rattle.dnssec_key.specs.{Key.KeyParts, declared.kind.KeyType.KeyType}
-use Rattle.dnssec_run.specs.declared.frames.{Frame.Frame, Frames.Frames}
-use Rattle.dnssec_run.specs.declared.record.{Published.Published, PublishedKey.PublishedKey}
+use Rattle.dnssec_run.specs.declared.record.{Frame.Frame, Frames.Frames, Published.Published}
+use Rattle.dnssec_run.specs.declared.record.PublishedKey.{PublishedKey}
 use Rattle.dnssec_run.specs.declared.sets.Renewal.{Renewal}
 use Rattle.dnssec_run.proofs.Positions.{Reads}
 use Rattle.dnssec_run.specs.Frames.{KeepsFrame, KeepsFrames, KeepsSet, frames_in, no_frame, whole}

@@ -1,7 +1,6 @@
 -- What stands around the changes of the sets, so that who reads them need not read all keys.
 use Rattle.std.specs.Prelude.{◌≡◌, ℕ, List, ◌++◌, length, map}
-use Rattle.dnssec_run.specs.declared.frames.{Frame.Frame, Frames.Frames}
-use Rattle.dnssec_run.specs.declared.record.Published.{Published}
+use Rattle.dnssec_run.specs.declared.record.{Frame.Frame, Frames.Frames, Published.Published}
 use Rattle.dnssec_run.specs.Origins.{CachedSet}
 use Rattle.dnssec_run.specs.Published.{Id, id_of}
 use Rattle.dnssec_run.specs.Safe.{SetKind, Ds, Dnskey, ZoneSigners}

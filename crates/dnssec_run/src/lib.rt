@@ -6,7 +6,6 @@
 
 mod caches;
 mod call;
-mod frames;
 mod in_order;
 mod moments;
 mod places;
@@ -18,11 +17,10 @@ mod steps;
 
 pub use caches::{ByKind, SetKind, retires};
 pub use call::Call;
-pub use frames::{Frame, Frames};
 pub use in_order::keys_in_order;
 pub use moments::Moments;
 pub use plain::{each_chain_is_one, starts_suffice, whole_runs_stay_safe};
-pub use record::{Entry, Mark, Outcome, Published, PublishedKey, Reply, Run};
+pub use record::{Entry, Frame, Frames, Mark, Outcome, Published, PublishedKey, Reply, Run};
 pub use running::{Recorder, run};
 pub use sets::Shown;
 pub use steps::{LastStep, Origins, Steps};

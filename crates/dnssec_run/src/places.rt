@@ -9,8 +9,7 @@ ghost use Rattle.dnssec_run.specs.Recorder.{Agrees, ChangesAt, HasSameKeys, IsAs
 ghost use Rattle.dnssec_run.specs.Recorder.{SetsPlace, position_shown, shows};
 
 use crate::caches::ByKind;
-use crate::frames::{Frame, Frames};
-use crate::record::{Published, PublishedKey};
+use crate::record::{Frame, Frames, Published, PublishedKey};
 use crate::sets::Shown;
 use dnssec_keyset::{Error, Key, KeySet};
 use std::alloc::Global;

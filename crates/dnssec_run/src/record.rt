@@ -1,15 +1,15 @@
 //! What a run leaves: its entries, with what was published at each position. And which sets a call
-//! may have changed.
-ghost use Rattle.std.specs.Prelude.{◌≡◌, ◌||◌, [], map};
+//! may have changed, and where.
+ghost use Rattle.std.specs.Prelude.{◌≡◌, ◌||◌, [], map, true, false};
 ghost use Rattle.std.specs.List.{list_any};
 ghost use Rattle.dnssec_run.specs.Asked.{asked_by, updates};
 ghost use Rattle.dnssec_run.specs.ByKind.{at_kind};
+ghost use Rattle.dnssec_run.specs.Frames.{frames_in, no_frame, whole};
 ghost use Rattle.dnssec_run.specs.Origins.{set_in};
 ghost use Rattle.dnssec_run.specs.Published.{id_of};
 ghost use Rattle.dnssec_run.specs.Safe.{SetKind as AnyKind, kind_of};
 
 use crate::caches::{ByKind, SetKind};
-use crate::frames::Frames;
 use dnssec_keyset::{Action, Error, KeySet, RollType, UnixTime};
 use std::alloc::Global;
 
@@ -91,6 +91,64 @@ impl Published {
             SetKind::Ds => (self.ds.as_slice(), &[]),
             SetKind::Dnskey => (self.dnskey.as_slice(), self.dnskey_signers.as_slice()),
             SetKind::ZoneSigners => (self.zone_signers.as_slice(), &[]),
+        }
+    }
+}
+
+/// What stands around the change of a list: so many keys at its front and at its back are those of
+/// the list before, in their order.
+#[derive(Clone, Copy, Debug, PartialEq, Eq)]
+pub struct Frame {
+    pub front: usize,
+    pub back: usize,
+}
+
+impl Frame {
+    /// Any key may have changed.
+    pub const NONE: Frame = Frame { front: 0, back: 0 };
+
+    /// A list of this length, which is untouched or may have changed anywhere.
+    pub(crate) fn of(is_touched: bool, len: usize) -> Self
+        ensures left { is_touched ≡ false → result ≡ whole len }
+        ensures touched { is_touched ≡ true → result ≡ no_frame }
+    {
+        if is_touched {
+            Frame::NONE
+        } else {
+            Frame {
+                front: len,
+                back: 0,
+            }
+        }
+    }
+}
+
+/// The frames of the four lists of what is published.
+#[derive(Clone, Copy, Debug, PartialEq, Eq)]
+pub struct Frames {
+    pub ds: Frame,
+    pub dnskey: Frame,
+    pub dnskey_signers: Frame,
+    pub zone_signers: Frame,
+}
+
+impl Frames {
+    /// Any key of any list may have changed.
+    pub const NONE: Frames = Frames {
+        ds: Frame::NONE,
+        dnskey: Frame::NONE,
+        dnskey_signers: Frame::NONE,
+        zone_signers: Frame::NONE,
+    };
+
+    /// Those of the set of a kind, and of its signers. Only a DNSKEY set has some.
+    pub fn of(&self, kind: SetKind) -> (Frame, Frame)
+        ensures { result ≡ frames_in (kind_of kind) self.now }
+    {
+        match kind {
+            SetKind::Ds => (self.ds, Frame::NONE),
+            SetKind::Dnskey => (self.dnskey, self.dnskey_signers),
+            SetKind::ZoneSigners => (self.zone_signers, Frame::NONE),
         }
     }
 }

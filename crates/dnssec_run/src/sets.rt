@@ -11,9 +11,8 @@ ghost use Rattle.dnssec_run.specs.Recorder.{Agrees, AreFound, ChangesOnly, HasSa
 ghost use Rattle.dnssec_run.specs.Recorder.{ids_read, shown_once, shows};
 
 use crate::caches::ByKind;
-use crate::frames::{Frame, Frames};
 use crate::places::renew_key;
-use crate::record::{Published, PublishedKey};
+use crate::record::{Frame, Frames, Published, PublishedKey};
 use dnssec_keyset::{Error, Key, KeySet, KeyType};
 use std::alloc::Global;
 use std::collections::{BTreeMap, HashMap};

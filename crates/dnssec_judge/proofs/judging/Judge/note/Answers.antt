@@ -1,7 +1,7 @@
 -- Without frames any set may follow any other.
 use Rattle.std.proofs.Common.{List, Option, None, Some}
 use Rattle.std.specs.Option.{option_map}
-use Rattle.dnssec_run.specs.declared.frames.Frames.{Frames}
+use Rattle.dnssec_run.specs.declared.record.Frames.{Frames}
 use Rattle.dnssec_run.specs.declared.record.{Entry.Entry, Published.Published}
 use Rattle.dnssec_run.specs.Frames.{no_frame}
 use Rattle.dnssec_run.specs.Origins.{CachedSet, set_in}

@@ -3,7 +3,7 @@ use Rattle.std.proofs.Common.{◌≡◌, ◌∙◌, ◌++◌, ◌∷◌, [], Lis
 use Rattle.std.proofs.Common.{get_or, map, refl, subst, sym, ℕ}
 use Rattle.std.proofs.lemmas.{Bool.false_from_ne_true, List.length-append}
 use Rattle.dnssec_run.proofs.Since.{same-ids}
-use Rattle.dnssec_run.specs.declared.{frames.Frame.Frame, record.PublishedKey.PublishedKey}
+use Rattle.dnssec_run.specs.declared.record.{Frame.Frame, PublishedKey.PublishedKey}
 use Rattle.dnssec_run.specs.{Frames.KeepsFrame, Origins.same_ids}
 use Rattle.dnssec_run.specs.Published.{Id, id_of}
 use Rattle.dnssec_judge.specs.Numbers.{Grows, StandFor}

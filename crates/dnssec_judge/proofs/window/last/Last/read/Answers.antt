@@ -2,7 +2,7 @@
 use Rattle.std.proofs.Common.{◌≡◌, ◌∙◌, Bool, ap, false, map, refl, subst, sym, true, List, ℕ}
 use Rattle.std.specs.Prelude.{◌&&◌, ◌||◌, not}
 use Rattle.dnssec_run.{proofs.Since.same-set, specs.Published.Id, specs.Published.id_of}
-use Rattle.dnssec_run.specs.declared.frames.Frame.{Frame}
+use Rattle.dnssec_run.specs.declared.record.Frame.{Frame}
 use Rattle.dnssec_run.specs.{Frames.KeepsSet, Origins.CachedSet, Origins.same_ids, Origins.same_set}
 use Rattle.dnssec_judge.proofs.Means.{bits-mean}
 use Rattle.dnssec_judge.proofs.Table.{stand-on}
