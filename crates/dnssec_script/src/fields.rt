@@ -74,8 +74,8 @@ fn reference(text: &[u8]) -> Option<&str>
     if !is_reference(text) {
         return None;
     }
-    // All of them are ASCII.
-    str::from_utf8(text).ok()
+    // All of them are ASCII, and so they are text.
+    Some(unsafe { str::from_utf8_unchecked(text) })
 }
 
 /// A private reference, or none from `-`.
@@ -252,7 +252,10 @@ impl<'a> Fields<'a> {
         ensures { option_map (λ x. (References x.0, x.1)) result ≡ value_at as_list self.entry }
     {
         let (text, fields) = self.next()?;
-        Some((ReferenceList::of(text)?, fields))
+        if !is_list(text) {
+            return None;
+        }
+        Some((ReferenceList { text }, fields))
     }
 }
 
@@ -274,17 +277,6 @@ impl<'a> Model for ReferenceList<'a> {
 }
 
 impl<'a> ReferenceList<'a> {
-    /// The list that the text is.
-    fn of(text: &'a [u8]) -> Option<Self>
-        ensures { result ≡ if is_list text.now then Some (references_of text.now) else None }
-    {
-        if is_list(text) {
-            Some(ReferenceList { text })
-        } else {
-            None
-        }
-    }
-
     /// Its references.
     #[tactic(auto, unfolding(crate::specs::Script::references_of))]
     pub(crate) fn references(self, alloc: Global) -> Result<Vec<&'a str>, AllocError>
@@ -295,9 +287,8 @@ impl<'a> ReferenceList<'a> {
             return Ok(references);
         }
         for part in self.text.split(|byte| *byte == b',') {
-            if let Some(reference) = reference(part) {
-                references.push(reference)?;
-            }
+            // Each is a reference, and so it is text.
+            references.push(unsafe { str::from_utf8_unchecked(part) })?;
         }
         Ok(references)
     }
