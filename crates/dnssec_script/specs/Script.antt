@@ -166,41 +166,13 @@ word_named name = option_map (λ row. row.1) (find (λ row. bytes_eq row.0 name)
 abbrev pub trait_forms : List Form
 trait_forms = as_algorithm ∷ as_tag ∷ as_time ∷ as_yes_no ∷ []
 
--- the fields after a word: of an add
+-- the fields of an add
 abbrev pub signing_key_forms : List Form
 signing_key_forms = as_reference ∷ as_private ∷ trait_forms
 
--- of an add of another signer's key
+-- and of an add of another signer's key
 abbrev pub public_key_forms : List Form
 public_key_forms = as_reference ∷ trait_forms
-
--- of a setter of a flag, without a moment and with one
-abbrev pub flag_forms : List Form
-flag_forms = as_reference ∷ as_yes_no ∷ []
-
-abbrev pub timed_flag_forms : List Form
-timed_flag_forms = as_reference ∷ as_yes_no ∷ as_time ∷ []
-
--- of a setter of a stamp
-abbrev pub stamp_forms : List Form
-stamp_forms = as_reference ∷ as_time ∷ []
-
--- of a word with only a key
-abbrev pub key_forms : List Form
-key_forms = as_reference ∷ []
-
--- of a start, a report, a wait, and the end of a roll
-abbrev pub start_forms : List Form
-start_forms = as_roll ∷ as_list ∷ as_list ∷ as_time ∷ []
-
-abbrev pub report_forms : List Form
-report_forms = as_roll ∷ as_ttl ∷ as_time ∷ []
-
-abbrev pub wait_forms : List Form
-wait_forms = as_roll ∷ as_time ∷ []
-
-abbrev pub roll_forms : List Form
-roll_forms = as_roll ∷ []
 
 -- what the fields after a word have to be
 abbrev pub forms_of_word : Word → List Form
@@ -208,22 +180,22 @@ forms_of_word word.AddKsk = signing_key_forms
 forms_of_word word.AddZsk = signing_key_forms
 forms_of_word word.AddCsk = signing_key_forms
 forms_of_word word.AddPublic = public_key_forms
-forms_of_word word.SetDecoupled = flag_forms
-forms_of_word word.SetPresent = timed_flag_forms
-forms_of_word word.SetSigner = flag_forms
-forms_of_word word.SetAtParent = flag_forms
-forms_of_word word.SetStale = key_forms
-forms_of_word word.SetVisible = stamp_forms
-forms_of_word word.SetDsVisible = stamp_forms
-forms_of_word word.SetRrsigVisible = stamp_forms
-forms_of_word word.Delete = key_forms
-forms_of_word word.Start = start_forms
-forms_of_word word.Report1 = report_forms
-forms_of_word word.Wait1 = wait_forms
-forms_of_word word.Report2 = report_forms
-forms_of_word word.Wait2 = wait_forms
-forms_of_word word.Done = roll_forms
-forms_of_word word.Abort = roll_forms
+forms_of_word word.SetDecoupled = as_reference ∷ as_yes_no ∷ []
+forms_of_word word.SetPresent = as_reference ∷ as_yes_no ∷ as_time ∷ []
+forms_of_word word.SetSigner = as_reference ∷ as_yes_no ∷ []
+forms_of_word word.SetAtParent = as_reference ∷ as_yes_no ∷ []
+forms_of_word word.SetStale = as_reference ∷ []
+forms_of_word word.SetVisible = as_reference ∷ as_time ∷ []
+forms_of_word word.SetDsVisible = as_reference ∷ as_time ∷ []
+forms_of_word word.SetRrsigVisible = as_reference ∷ as_time ∷ []
+forms_of_word word.Delete = as_reference ∷ []
+forms_of_word word.Start = as_roll ∷ as_list ∷ as_list ∷ as_time ∷ []
+forms_of_word word.Report1 = as_roll ∷ as_ttl ∷ as_time ∷ []
+forms_of_word word.Wait1 = as_roll ∷ as_time ∷ []
+forms_of_word word.Report2 = as_roll ∷ as_ttl ∷ as_time ∷ []
+forms_of_word word.Wait2 = as_roll ∷ as_time ∷ []
+forms_of_word word.Done = as_roll ∷ []
+forms_of_word word.Abort = as_roll ∷ []
 
 -- the first field, and those after it
 abbrev pub first_field : List (List ℕ) → Option (List ℕ × List (List ℕ))

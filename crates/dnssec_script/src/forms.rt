@@ -3,11 +3,9 @@ ghost use Rattle.std.specs.Prelude.{◌≡◌, [], ◌∷◌, IfOk, IfErr, IsSom
 ghost use denote.Bor.{now};
 ghost use Rattle.std.specs.Option.{option_map};
 ghost use Rattle.dnssec_script.specs.Script.{Reference, Private, References, Flag, Roll, Number};
-ghost use Rattle.dnssec_script.specs.Script.{Moment, start_forms};
-ghost use Rattle.dnssec_script.specs.Script.{as_time, flag_forms, key_forms, public_key_forms};
-ghost use Rattle.dnssec_script.specs.Script.{report_forms, roll_forms, signing_key_forms};
-ghost use Rattle.dnssec_script.specs.Script.{stamp_forms, timed_flag_forms, trait_forms, values_of};
-ghost use Rattle.dnssec_script.specs.Script.{wait_forms};
+ghost use Rattle.dnssec_script.specs.Script.{Moment, as_list, as_reference, as_roll, as_time};
+ghost use Rattle.dnssec_script.specs.Script.{as_ttl, as_yes_no, public_key_forms};
+ghost use Rattle.dnssec_script.specs.Script.{signing_key_forms, trait_forms, values_of};
 ghost use Rattle.dnssec_script.specs.Inner.Statement.{traits_say};
 
 use crate::fields::{Fields, ReferenceList};
@@ -111,7 +109,7 @@ fn traits(fields: Fields<'_>) -> Option<KeyTraits>
 #[inline(always)]
 pub(crate) fn flag<'a>(fields: Fields<'a>) -> Option<(&'a str, bool)>
     ensures { option_map (λ x. Reference x.0.now ∷ Flag x.1 ∷ []) result
-        ≡ values_of flag_forms fields.entry }
+        ≡ values_of (as_reference ∷ as_yes_no ∷ []) fields.entry }
 {
     let (pubref, fields) = fields.reference()?;
     let (value, fields) = fields.yes_no()?;
@@ -122,7 +120,7 @@ pub(crate) fn flag<'a>(fields: Fields<'a>) -> Option<(&'a str, bool)>
 /// The fields of a setter of a flag with a moment.
 pub(crate) fn timed_flag<'a>(fields: Fields<'a>) -> Option<(&'a str, bool, UnixTime)>
     ensures { option_map (λ x. Reference x.0.now ∷ Flag x.1 ∷ Moment x.2 ∷ []) result
-        ≡ values_of timed_flag_forms fields.entry }
+        ≡ values_of (as_reference ∷ as_yes_no ∷ as_time ∷ []) fields.entry }
 {
     let (pubref, fields) = fields.reference()?;
     let (value, fields) = fields.yes_no()?;
@@ -133,7 +131,7 @@ pub(crate) fn timed_flag<'a>(fields: Fields<'a>) -> Option<(&'a str, bool, UnixT
 #[inline(always)]
 pub(crate) fn stamp<'a>(fields: Fields<'a>) -> Option<(&'a str, UnixTime)>
     ensures { option_map (λ x. Reference x.0.now ∷ Moment x.1 ∷ []) result
-        ≡ values_of stamp_forms fields.entry }
+        ≡ values_of (as_reference ∷ as_time ∷ []) fields.entry }
 {
     let (pubref, fields) = fields.reference()?;
     Some((pubref, time(fields)?))
@@ -141,7 +139,8 @@ pub(crate) fn stamp<'a>(fields: Fields<'a>) -> Option<(&'a str, UnixTime)>
 
 /// The only field of a word for a key.
 pub(crate) fn key<'a>(fields: Fields<'a>) -> Option<&'a str>
-    ensures { option_map (λ q. Reference q.now ∷ []) result ≡ values_of key_forms fields.entry }
+    ensures { option_map (λ q. Reference q.now ∷ []) result
+        ≡ values_of (as_reference ∷ []) fields.entry }
 {
     let (pubref, fields) = fields.reference()?;
     fields.end()?;
@@ -153,7 +152,7 @@ pub(crate) fn start<'a>(
     fields: Fields<'a>,
 ) -> Option<(RollType, ReferenceList<'a>, ReferenceList<'a>, UnixTime)>
     ensures { option_map (λ x. Roll x.0 ∷ References x.1 ∷ References x.2 ∷ Moment x.3 ∷ []) result
-        ≡ values_of start_forms fields.entry }
+        ≡ values_of (as_roll ∷ as_list ∷ as_list ∷ as_time ∷ []) fields.entry }
 {
     let (rolltype, fields) = fields.roll()?;
     let (old, fields) = fields.list()?;
@@ -164,7 +163,7 @@ pub(crate) fn start<'a>(
 /// The fields of a report, with the TTL in seconds.
 pub(crate) fn report(fields: Fields<'_>) -> Option<(RollType, u32, UnixTime)>
     ensures { option_map (λ x. Roll x.0 ∷ Number x.1 ∷ Moment x.2 ∷ []) result
-        ≡ values_of report_forms fields.entry }
+        ≡ values_of (as_roll ∷ as_ttl ∷ as_time ∷ []) fields.entry }
 {
     let (rolltype, fields) = fields.roll()?;
     let (ttl, fields) = fields.ttl()?;
@@ -174,7 +173,7 @@ pub(crate) fn report(fields: Fields<'_>) -> Option<(RollType, u32, UnixTime)>
 /// The fields of the end of a wait.
 pub(crate) fn wait(fields: Fields<'_>) -> Option<(RollType, UnixTime)>
     ensures { option_map (λ x. Roll x.0 ∷ Moment x.1 ∷ []) result
-        ≡ values_of wait_forms fields.entry }
+        ≡ values_of (as_roll ∷ as_time ∷ []) fields.entry }
 {
     let (rolltype, fields) = fields.roll()?;
     Some((rolltype, time(fields)?))
@@ -182,7 +181,7 @@ pub(crate) fn wait(fields: Fields<'_>) -> Option<(RollType, UnixTime)>
 
 /// The only field of a word that ends a roll.
 pub(crate) fn roll(fields: Fields<'_>) -> Option<RollType>
-    ensures { option_map (λ r. Roll r ∷ []) result ≡ values_of roll_forms fields.entry }
+    ensures { option_map (λ r. Roll r ∷ []) result ≡ values_of (as_roll ∷ []) fields.entry }
 {
     let (rolltype, fields) = fields.roll()?;
     fields.end()?;

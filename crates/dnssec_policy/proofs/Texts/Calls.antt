@@ -16,10 +16,10 @@ use Rattle.dnssec_keyset.specs.Step as keyset
 use Rattle.dnssec_run.specs.{declared.call.Call.Call, Record.call_of}
 use Rattle.dnssec_run.specs.declared.call.Call.TheVariants as call
 use Rattle.dnssec_script.specs.Script.{IsLineOf, Moment, Number, Reference, References, Roll}
-use Rattle.dnssec_script.specs.Script.{as_list, as_reference, as_roll, call_says, fields_of}
-use Rattle.dnssec_script.specs.Script.{forms_of_word, is_list, is_reference, is_reference_byte}
-use Rattle.dnssec_script.specs.Script.{references_of, report_forms, roll_named, said_after_word}
-use Rattle.dnssec_script.specs.Script.{says, wait_forms, word_at, word_named}
+use Rattle.dnssec_script.specs.Script.{as_list, as_reference, as_roll, as_time, as_ttl, call_says}
+use Rattle.dnssec_script.specs.Script.{fields_of, forms_of_word, is_list, is_reference}
+use Rattle.dnssec_script.specs.Script.{is_reference_byte, references_of, roll_named}
+use Rattle.dnssec_script.specs.Script.{said_after_word, says, word_at, word_named}
 use Rattle.dnssec_policy.specs.Automatic.Lines.{call_line, list_text, start_text}
 use Rattle.dnssec_policy.proofs.Texts.Cut.{first-field, lack-append, lacks, none-of, one-field}
 use Rattle.dnssec_policy.proofs.Texts.Numbers.{digits-lack, number-back, time-back}
@@ -81,7 +81,7 @@ number-lacks n small = digits-lack 32 n (omega arith) (omega (arith, small))
 module _ (roll : RollType) (n : ℕ) (small : n ≤ 18446744073709551615) where
   -- a line of a word, the roll and a second
   wait-is : (t : List ℕ) (c : Call) → lacks 32 t → word_named t ≡ Some (call_says c).0
-      → forms_of_word (call_says c).0 ≡ wait_forms
+      → forms_of_word (call_says c).0 ≡ as_roll ∷ as_time ∷ []
       → says (((t ++ 32 ∷ roll_name roll) ++ codes " ") ++ decimal n)
       ≡ Some ((call_says c).0, Roll roll ∷ Moment (n * 1_000_000_000) ∷ [])
   wait-is t c h name forms =
@@ -91,7 +91,8 @@ module _ (roll : RollType) (n : ℕ) (small : n ≤ 18446744073709551615) where
 
   -- the same with a TTL before the second
   report-is : (t : List ℕ) (c : Call) (ttl : ℕ) → ttl ≤ 4294967295 → lacks 32 t
-      → word_named t ≡ Some (call_says c).0 → forms_of_word (call_says c).0 ≡ report_forms
+      → word_named t ≡ Some (call_says c).0
+      → forms_of_word (call_says c).0 ≡ as_roll ∷ as_ttl ∷ as_time ∷ []
       → says (((((t ++ 32 ∷ roll_name roll) ++ codes " ") ++ decimal ttl) ++ codes " ")
       ++ decimal n)
       ≡ Some ((call_says c).0, Roll roll ∷ Number ttl ∷ Moment (n * 1_000_000_000) ∷ [])
