@@ -4,7 +4,7 @@ ghost use Rattle.std.specs.Option.{option_map};
 ghost use Rattle.dnssec_key.specs.Key.{is_available};
 ghost use Rattle.dnssec_script.specs.Script.{call_says, said_after_word, says};
 ghost use Rattle.dnssec_script.specs.Inner.Statement.{MakesEntry, start_says};
-ghost use Rattle.dnssec_script.specs.Inner.Statement.{adds, is_on_key, is_on_roll, statement_says};
+ghost use Rattle.dnssec_script.specs.Inner.Statement.{adds, statement_says, takes_memory};
 
 use crate::fields::Fields;
 use crate::forms::{
@@ -143,10 +143,7 @@ fn call_of_word<'a>(
             Some(start) => Ok(Some(Statement::Start(start))),
             None => Ok(None),
         },
-        Word::Report1 | Word::Wait1 | Word::Report2 | Word::Wait2 | Word::Done | Word::Abort => Ok(
-            call_on_roll(word, fields),
-        ),
-        _ => Ok(call_on_key(word, fields)),
+        _ => Ok(call_of_parts(word, fields)),
     }
 }
 
@@ -213,89 +210,76 @@ fn call_that_adds<'a>(
     Ok(Some(Statement::Call(call)))
 }
 
-/// The call of a word on a key of the set, made from the fields after it. Another word has none.
-fn call_on_key<'a>(word: Word, fields: Fields<'a>) -> Option<Statement<'a>>
+/// The call of a word, made from parts of the line. A word whose call takes memory has none here.
+fn call_of_parts<'a>(word: Word, fields: Fields<'a>) -> Option<Statement<'a>>
     ensures { option_map statement_says result
-        ≡ if is_on_key word then said_after_word word fields.entry else None }
+        ≡ if takes_memory word then None else said_after_word word fields.entry }
 {
-    let call = match word {
+    match word {
         Word::SetDecoupled | Word::SetSigner | Word::SetAtParent => {
             let Some((pubref, value)) = flag(fields) else {
                 return None;
             };
-            match word {
+            Some(Statement::Call(match word {
                 Word::SetDecoupled => Call::SetDecoupled { pubref, value },
                 Word::SetSigner => Call::SetSigner { pubref, value },
                 _ => Call::SetAtParent { pubref, value },
-            }
+            }))
         }
         Word::SetPresent => {
             let Some((pubref, value, now)) = timed_flag(fields) else {
                 return None;
             };
-            Call::SetPresent { pubref, value, now }
+            Some(Statement::Call(Call::SetPresent { pubref, value, now }))
         }
         Word::SetVisible | Word::SetDsVisible | Word::SetRrsigVisible => {
             let Some((pubref, time)) = stamp(fields) else {
                 return None;
             };
-            match word {
+            Some(Statement::Call(match word {
                 Word::SetVisible => Call::SetVisible { pubref, time },
                 Word::SetDsVisible => Call::SetDsVisible { pubref, time },
                 _ => Call::SetRrsigVisible { pubref, time },
-            }
+            }))
         }
         Word::SetStale | Word::Delete => {
             let Some(pubref) = key(fields) else {
                 return None;
             };
-            match word {
+            Some(Statement::Call(match word {
                 Word::SetStale => Call::SetStale { pubref },
                 _ => Call::DeleteKey { pubref },
-            }
+            }))
         }
-        _ => return None,
-    };
-    Some(Statement::Call(call))
-}
-
-/// The call of a word on a roll that goes on, made from the fields after it. Another word has
-/// none.
-fn call_on_roll<'a>(word: Word, fields: Fields<'_>) -> Option<Statement<'a>>
-    ensures { option_map statement_says result
-        ≡ if is_on_roll word then said_after_word word fields.entry else None }
-{
-    let call = match word {
         Word::Report1 | Word::Report2 => {
             let Some((rolltype, ttl, now)) = report(fields) else {
                 return None;
             };
-            match word {
+            Some(Statement::Call(match word {
                 Word::Report1 => Call::Propagation1Complete { rolltype, ttl, now },
                 _ => Call::Propagation2Complete { rolltype, ttl, now },
-            }
+            }))
         }
         Word::Wait1 | Word::Wait2 => {
             let Some((rolltype, now)) = wait(fields) else {
                 return None;
             };
-            match word {
+            Some(Statement::Call(match word {
                 Word::Wait1 => Call::CacheExpired1 { rolltype, now },
                 _ => Call::CacheExpired2 { rolltype, now },
-            }
+            }))
         }
         Word::Done | Word::Abort => {
             let Some(rolltype) = roll(fields) else {
                 return None;
             };
-            match word {
+            Some(Statement::Call(match word {
                 Word::Done => Call::RollDone { rolltype },
                 _ => Call::AbortRoll { rolltype },
-            }
+            }))
         }
-        _ => return None,
-    };
-    Some(Statement::Call(call))
+        _ => None,
+    }
 }
 
 /// Whether the key may come in, as an add takes it.

@@ -25,28 +25,10 @@ adds word.AddCsk = true
 adds word.AddPublic = true
 adds _ = false
 
--- the words on a key of the set
-abbrev pub is_on_key : Word → Bool
-is_on_key word.SetDecoupled = true
-is_on_key word.SetPresent = true
-is_on_key word.SetSigner = true
-is_on_key word.SetAtParent = true
-is_on_key word.SetStale = true
-is_on_key word.SetVisible = true
-is_on_key word.SetDsVisible = true
-is_on_key word.SetRrsigVisible = true
-is_on_key word.Delete = true
-is_on_key _ = false
-
--- the words on a roll that goes on
-abbrev pub is_on_roll : Word → Bool
-is_on_roll word.Report1 = true
-is_on_roll word.Wait1 = true
-is_on_roll word.Report2 = true
-is_on_roll word.Wait2 = true
-is_on_roll word.Done = true
-is_on_roll word.Abort = true
-is_on_roll _ = false
+-- the words whose call has texts or lists of its own
+abbrev pub takes_memory : Word → Bool
+takes_memory word.Start = true
+takes_memory w = adds w
 
 -- what a start says
 abbrev pub start_says : Start → Word × List Value
