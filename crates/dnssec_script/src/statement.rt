@@ -139,10 +139,7 @@ fn call_of_word<'a>(
         Word::AddKsk | Word::AddZsk | Word::AddCsk | Word::AddPublic => {
             call_that_adds(alloc, word, fields)
         }
-        Word::Start => match read_start(alloc, fields)? {
-            Some(start) => Ok(Some(Statement::Start(start))),
-            None => Ok(None),
-        },
+        Word::Start => call_that_starts(alloc, fields),
         _ => Ok(call_of_parts(word, fields)),
     }
 }
@@ -293,19 +290,22 @@ fn availability(may_come_in: bool) -> Available
     }
 }
 
-/// The start of a roll, made from the fields after its word.
-fn read_start<'a>(alloc: Global, fields: Fields<'a>) -> Result<Option<Start<'a>>, AllocError>
+/// The call of the word that starts a roll, made from the fields after it.
+fn call_that_starts<'a>(
+    alloc: Global,
+    fields: Fields<'a>,
+) -> Result<Option<Statement<'a>>, AllocError>
     ensures read { IfOk result (λ found.
-        option_map start_says found ≡ said_after_word Word.Start fields.entry) }
+        option_map statement_says found ≡ said_after_word Word.Start fields.entry) }
     ensures memory { IfErr result (λ _. IsSome (said_after_word Word.Start fields.entry)) }
 {
     let Some((rolltype, old, new, moment)) = start(fields) else {
         return Ok(None);
     };
-    Ok(Some(Start {
+    Ok(Some(Statement::Start(Start {
         rolltype,
         old: old.references(alloc)?,
         new: new.references(alloc)?,
         moment,
-    }))
+    })))
 }
