@@ -7,10 +7,11 @@ use Rattle.dnssec_run.specs.declared.{call.Call.Call, record.Entry.Entry}
 use Rattle.dnssec_script.specs.Inner.{Reading.HasRead, Reading.IsReadFault, Reading.ReadsOn}
 use Rattle.dnssec_script.specs.Inner.Statement.{statement_says}
 use Rattle.dnssec_script.specs.Script.{IsScript, call_says}
+use Rattle.dnssec_script.proofs.Judging.{begins}
 use Rattle.dnssec_script.specs.declared.{lines.Lines.Lines, lines.ReadFault.ReadFault}
 use Rattle.dnssec_script.specs.declared.statement.Statement.{Statement}
 use Rattle.dnssec_record.specs.{Answer.AnswerFault, Fault.fault_of_reading}
-use Rattle.dnssec_record.specs.declared.fault.ScriptFault.{ScriptFault}
+use Rattle.dnssec_record.specs.declared.fault.ScriptFault.{ScriptFault, TheVariants.OutOfMemory}
 use Rattle.dnssec_record.proofs.Answering.{answer_fault}
 
 -- these are left of the lines of a script, and this holds of the calls of the others and of their
@@ -70,3 +71,32 @@ pub fault_made : (P : List ℕ → List Call → List Entry → Type 0) {T : Typ
 fault_made P {script = script} fault h r gives next =
     let p = err_from_is_err_and r gives in
     rw (p.1, p.2) (answer_fault script fault (next script h.name h.calls h.read))
+
+-- ---- a loop whose lines are handed in, with what they are made on
+
+-- these are the lines of a script that has made no call yet, on this
+abbrev pub ForEach : Lines → (List ℕ → Type 0) → (List ℕ → Type 0) → Type 0
+ForEach lines On P = (script name : List ℕ) → HasRead script name [] lines → On name → P script
+
+-- the fault of the next line
+pub fault_made_on : {lines left : Lines} {On : List ℕ → Type 0}
+    {P : List ℕ → List Call → List Entry → Type 0} {T : Type 0} (fault : ReadFault)
+    (r : Result T ScriptFault) → IsErrAnd r (λ e. e ≡ fault_of_reading fault)
+    → ForEach lines On (λ script. HasMade script left P)
+    → ((s name : List ℕ) (calls : List Call) → HasRead s name calls left → IsReadFault s fault)
+    → IfErr r (λ e. ForEach lines On (λ script. AnswerFault script e))
+fault_made_on fault r gives made next =
+    let p = err_from_is_err_and r gives in
+    rw (p.1, p.2) (λ script name read so.
+    let h = made script name read so in
+    answer_fault script fault (next script h.name h.calls h.read))
+
+-- memory that runs out isn't missing, since the first line names a zone
+pub memory_made_on : {lines left : Lines} {On : List ℕ → Type 0}
+    {P : List ℕ → List Call → List Entry → Type 0} {T : Type 0}
+    (r : Result T ScriptFault) → IsErrAnd r (λ e. e ≡ OutOfMemory)
+    → ForEach lines On (λ script. HasMade script left P)
+    → IfErr r (λ e. ForEach lines On (λ script. AnswerFault script e))
+memory_made_on r gives made =
+    let p = err_from_is_err_and r gives in
+    rw (p.1, p.2) (λ script name read so. begins (made script name read so).read)

@@ -1,8 +1,6 @@
 -- Each turn of the loop answers the call of one line.
 use Rattle.std.proofs.Common.{string_bytes}
-use Rattle.std.proofs.lemmas.Result.{err_from_is_err_and}
-use Rattle.dnssec_script.proofs.Judging.{begins}
-use Rattle.dnssec_record.proofs.{Answering.answer_fault, Made.none_made}
+use Rattle.dnssec_record.proofs.Made.{fault_made_on, memory_made_on, none_made}
 use Rattle.dnssec_record.proofs.Running.{all_answered, one_more}
 use Rattle.dnssec_record.proofs.script.answer_lines.Goals as goal
 
@@ -27,26 +25,16 @@ returns-clause-ok c script name read so =
 
 pub returns-in_err-statement-clause-err : goal.returns-in_err-statement-clause-err
 returns-in_err-statement-clause-err c =
-    let r = c.from_residual.result in
-    let p = err_from_is_err_and r c.from_residual.ensures.1 in
-    rw (p.1, p.2) (λ script name read so.
-    let h = c.loop-text.invariant script name read so in
-    answer_fault script _ (c.in_err-statement.ensures.err script h.name h.calls h.read))
+    fault_made_on _ _ c.from_residual.ensures.1 c.loop-text.invariant c.in_err-statement.ensures.err
 
 pub returns-in_err-made-clause-err : goal.returns-in_err-made-clause-err
 returns-in_err-made-clause-err c =
-    let r = c.from_residual-in_err-made.result in
-    let p = err_from_is_err_and r c.from_residual-in_err-made.ensures.1 in
-    rw (p.1, p.2) (λ script name read so. begins (c.loop-text.invariant script name read so).read)
+    memory_made_on _ c.from_residual-in_err-made.ensures.1 c.loop-text.invariant
 
 pub returns-in_err-push_answer-clause-err : goal.returns-in_err-push_answer-clause-err
 returns-in_err-push_answer-clause-err c =
-    let r = c.from_residual-in_err-push_answer.result in
-    let p = err_from_is_err_and r c.from_residual-in_err-push_answer.ensures.1 in
-    rw (p.1, p.2) (λ script name read so. begins (c.loop-text.invariant script name read so).read)
+    memory_made_on _ c.from_residual-in_err-push_answer.ensures.1 c.loop-text.invariant
 
 pub returns-in_err-push_closing-clause-err : goal.returns-in_err-push_closing-clause-err
 returns-in_err-push_closing-clause-err c =
-    let r = c.from_residual-in_err-push_closing.result in
-    let p = err_from_is_err_and r c.from_residual-in_err-push_closing.ensures.1 in
-    rw (p.1, p.2) (λ script name read so. begins (c.loop-text.invariant script name read so).read)
+    memory_made_on _ c.from_residual-in_err-push_closing.ensures.1 c.loop-text.invariant

@@ -1,12 +1,9 @@
 -- Each turn of the loop makes the call of one line.
 use Rattle.std.proofs.Common.{◌≢◌, subst, sym}
 use Rattle.std.proofs.lemmas.List.Elements.{All-nil, All-push}
-use Rattle.std.proofs.lemmas.Result.{err_from_is_err_and}
 use Rattle.dnssec_base.specs.declared.error.Error.TheVariants.{OutOfMemory}
 use Rattle.dnssec_run.specs.declared.record.Reply.TheVariants.{Refused}
-use Rattle.dnssec_script.proofs.Judging.{begins}
-use Rattle.dnssec_record.proofs.Answering.{answer_fault}
-use Rattle.dnssec_record.proofs.Made.{all_made, none_made, one_made}
+use Rattle.dnssec_record.proofs.Made.{all_made, fault_made_on, memory_made_on, none_made, one_made}
 use Rattle.dnssec_record.proofs.Sessions.{zone_of}
 use Rattle.dnssec_record.proofs.session.Session.take_lines.Goals as goal
 
@@ -41,29 +38,17 @@ returns-clause-ok c script name read so =
 
 pub returns-in_err-made-clause-err : goal.returns-in_err-made-clause-err
 returns-in_err-made-clause-err c =
-    let r = c.from_residual-in_err-made.result in
-    let p = err_from_is_err_and r c.from_residual-in_err-made.ensures.1 in
-    rw (p.1, p.2)
-    (λ script name read so. begins (c.loop-statement.invariant script name read so).read)
+    memory_made_on _ c.from_residual-in_err-made.ensures.1 c.loop-statement.invariant
 
 pub returns-in_err-reply-clause-err : goal.returns-in_err-reply-clause-err
 returns-in_err-reply-clause-err c =
-    let r = c.from_residual-in_err-reply.result in
-    let p = err_from_is_err_and r c.from_residual-in_err-reply.ensures.1 in
-    rw (p.1, p.2)
-    (λ script name read so. begins (c.loop-statement.invariant script name read so).read)
+    memory_made_on _ c.from_residual-in_err-reply.ensures.1 c.loop-statement.invariant
 
 pub returns-in_err-check_memory-clause-err : goal.returns-in_err-check_memory-clause-err
 returns-in_err-check_memory-clause-err c =
-    let r = c.from_residual-in_err-check_memory.result in
-    let p = err_from_is_err_and r c.from_residual-in_err-check_memory.ensures.1 in
-    rw (p.1, p.2)
-    (λ script name read so. begins (c.loop-statement.invariant script name read so).read)
+    memory_made_on _ c.from_residual-in_err-check_memory.ensures.1 c.loop-statement.invariant
 
 pub returns-in_err-statement-clause-err : goal.returns-in_err-statement-clause-err
 returns-in_err-statement-clause-err c =
-    let r = c.from_residual.result in
-    let p = err_from_is_err_and r c.from_residual.ensures.1 in
-    rw (p.1, p.2) (λ script name read so.
-    let h = c.loop-statement.invariant script name read so in
-    answer_fault script _ (c.in_err-statement.ensures.err script h.name h.calls h.read))
+    fault_made_on _ _ c.from_residual.ensures.1 c.loop-statement.invariant
+    c.in_err-statement.ensures.err
