@@ -5,19 +5,7 @@ use Rattle.std.specs.Prelude.{codes, decimal, string_bytes}
 use Rattle.std.specs.List.{flat_map}
 use Rattle.dnssec_base.specs.ErrorTexts.{error_text}
 use Rattle.dnssec_key.specs.declared.roll.Action.{Action}
-use Rattle.dnssec_key.specs.declared.roll.Action.TheVariants.{
-  UpdateDnskeyRrset,
-  CreateCdsRrset,
-  RemoveCdsRrset,
-  UpdateDsRrset,
-  UpdateRrsig,
-  ReportDnskeyPropagated,
-  WaitDnskeyPropagated,
-  ReportDsPropagated,
-  WaitDsPropagated,
-  ReportRrsigPropagated,
-  WaitRrsigPropagated,
-}
+use Rattle.dnssec_key.specs.declared.roll.Action.TheVariants as action
 use Rattle.dnssec_run.specs.declared.record.Entry.{Entry}
 use Rattle.dnssec_run.specs.declared.record.Published.{Published}
 use Rattle.dnssec_run.specs.declared.record.PublishedKey.{PublishedKey}
@@ -27,17 +15,17 @@ use Rattle.dnssec_judge.specs.declared.verdict.Broken.{Broken}
 
 -- the name of each action
 abbrev pub action_name : Action → List ℕ
-action_name UpdateDnskeyRrset = codes "UpdateDnskeyRrset"
-action_name CreateCdsRrset = codes "CreateCdsRrset"
-action_name RemoveCdsRrset = codes "RemoveCdsRrset"
-action_name UpdateDsRrset = codes "UpdateDsRrset"
-action_name UpdateRrsig = codes "UpdateRrsig"
-action_name ReportDnskeyPropagated = codes "ReportDnskeyPropagated"
-action_name WaitDnskeyPropagated = codes "WaitDnskeyPropagated"
-action_name ReportDsPropagated = codes "ReportDsPropagated"
-action_name WaitDsPropagated = codes "WaitDsPropagated"
-action_name ReportRrsigPropagated = codes "ReportRrsigPropagated"
-action_name WaitRrsigPropagated = codes "WaitRrsigPropagated"
+action_name action.UpdateDnskeyRrset = codes "UpdateDnskeyRrset"
+action_name action.CreateCdsRrset = codes "CreateCdsRrset"
+action_name action.RemoveCdsRrset = codes "RemoveCdsRrset"
+action_name action.UpdateDsRrset = codes "UpdateDsRrset"
+action_name action.UpdateRrsig = codes "UpdateRrsig"
+action_name action.ReportDnskeyPropagated = codes "ReportDnskeyPropagated"
+action_name action.WaitDnskeyPropagated = codes "WaitDnskeyPropagated"
+action_name action.ReportDsPropagated = codes "ReportDsPropagated"
+action_name action.WaitDsPropagated = codes "WaitDsPropagated"
+action_name action.ReportRrsigPropagated = codes "ReportRrsigPropagated"
+action_name action.WaitRrsigPropagated = codes "WaitRrsigPropagated"
 
 -- actions, with a space before each
 abbrev pub actions_text : List Action → List ℕ
