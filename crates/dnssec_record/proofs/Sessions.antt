@@ -1,6 +1,6 @@
 -- A session whose calls are handed in one by one.
 use Rattle.std.proofs.Common.{◌≡◌, ℕ, List, [], ◌∷◌, ◌++◌, Option, Some, refl, sym, ◌∙◌, ap}
-use Rattle.std.proofs.Common.{IfSome, IsSome, false, is_some, subst, true}
+use Rattle.std.proofs.Common.{Bool, IfSome, IsSome, is_some, subst}
 use Rattle.std.specs.Option.{option_map}
 use Rattle.std.specs.Prelude.{codes}
 use Rattle.dnssec_run.specs.{Moments.moments_of, Record.is_accepted}
@@ -8,10 +8,10 @@ use Rattle.dnssec_run.specs.declared.call.Call.{Call}
 use Rattle.dnssec_run.specs.declared.record.{Entry.Entry, Reply.Reply}
 use Rattle.dnssec_record.specs.Inner.Zone.{IsZoneAfter}
 use Rattle.dnssec_record.specs.Output.{reply_text}
-use Rattle.dnssec_record.specs.Session.{Accepts, Advances, GoesOn, Refuses, Stands, StandsAfter}
+use Rattle.dnssec_record.specs.Session.{Advances, Decides, GoesOn, Stands, StandsAfter}
 use Rattle.dnssec_record.specs.declared.session.Session.{Session}
-use Rattle.dnssec_script.specs.Script.{AreLinesOf, AreScript, IsLineOf, IsZoneLine, NamesZone}
-use Rattle.dnssec_script.specs.Script.{call_says, says}
+use Rattle.dnssec_script.specs.Script.{AreScript, IsLineOf, IsZoneLine, NamesZone, call_says, says}
+use Rattle.dnssec_script.proofs.Judging.{line_more}
 use Rattle.dnssec_script.specs.Inner.Statement.{statement_says}
 use Rattle.dnssec_script.specs.declared.statement.Statement.{Statement}
 
@@ -41,19 +41,12 @@ zone_of s so = record {
 -- ---- lines
 
 -- one more line makes one more call
-lines_more : (lines : List (List ℕ)) (calls : List Call) (line : List ℕ) (call : Call)
-    → AreLinesOf lines calls → IsLineOf line call
-    → AreLinesOf (lines ++ line ∷ []) (calls ++ call ∷ [])
-lines_more [] [] line call so is = (is, tt)
-lines_more (l ∷ ls) (k ∷ ks) line call so is = (so.0, lines_more ls ks line call so.1 is)
-lines_more _ _ line call so is = absurd so
-
 pub script_more : (lines : List (List ℕ)) (name : List ℕ) (calls : List Call) (line : List ℕ)
     (call : Call) → AreScript lines name calls → IsLineOf line call
     → AreScript (lines ++ line ∷ []) name (calls ++ call ∷ [])
 script_more [] name calls line call so is = absurd so
 script_more (zone ∷ lines) name calls line call so is =
-    (so.0, lines_more lines calls line call so.1 is)
+    (so.0, line_more lines calls line call so.1 is)
 
 -- a line whose statement made a call of a session that stands after the same calls: the text is the
 -- answer by its reply
@@ -83,23 +76,14 @@ answered lines entries line next statement text so said call is_call after is = 
   is_reply = after.is_reply;
 }
 
--- so the call was accepted if its reply says so
-pub accepts : {lines : List (List ℕ)} {entries : List Entry} {line : List ℕ} {next : Session}
-    {reply : Reply} {text : List ℕ} → Answered lines entries line next reply text
-    → is_accepted reply ≡ true → Accepts lines entries line next text
-accepts here so = record {
+-- so the call was accepted or refused, as its reply says
+pub decides : {accepted : Bool} {lines : List (List ℕ)} {entries : List Entry} {line : List ℕ}
+    {next : Session} {reply : Reply} {text : List ℕ}
+    → Answered lines entries line next reply text → is_accepted reply ≡ accepted
+    → Decides accepted lines entries line next text
+decides here so = record {
   goes_on = here.goes_on;
-  accepted = ap is_accepted here.is_reply ∙ so;
-}
-
--- and was refused if it says that
-pub refuses : {lines : List (List ℕ)} {entries : List Entry} {line : List ℕ} {next : Session}
-    {reply : Reply} {text : List ℕ} → Answered lines entries line next reply text
-    → is_accepted reply ≡ false → Refuses lines entries line text
-refuses {next = next} here so = record {
-  next = next;
-  goes_on = here.goes_on;
-  refused = ap is_accepted here.is_reply ∙ so;
+  is_decided = ap is_accepted here.is_reply ∙ so;
 }
 
 -- a line whose zone was read names one

@@ -1,6 +1,6 @@
 -- What a session knows of its calls so far, and what it says to the next.
 use Rattle.std.specs.Prelude.{◌≡◌, ℕ, ◌+◌, List, [], ◌∷◌, ◌++◌, length, map, codes, string_bytes}
-use Rattle.std.specs.Prelude.{Option, None, ◌≢◌, All, true, false}
+use Rattle.std.specs.Prelude.{Option, None, ◌≢◌, All, Bool, true, false}
 use Rattle.dnssec_base.specs.declared.error.Error.TheVariants as no
 use Rattle.dnssec_run.specs.declared.call.Call.{Call}
 use Rattle.dnssec_run.specs.declared.record.Entry.{Entry}
@@ -77,18 +77,19 @@ pub record GoesOn (lines : List (List ℕ)) (entries : List Entry) (line : List 
   pub stands : Stands (lines ++ line ∷ []) (entries ++ entry ∷ []) next
   pub is_answer : text ≡ reply_text entry.reply ++ codes "\n"
 
--- the same, and the call was accepted
-pub record Accepts (lines : List (List ℕ)) (entries : List Entry) (line : List ℕ) (next : Session)
-    (text : List ℕ) : Type 0 where
+-- the same, and the call was accepted, or was refused
+pub record Decides (accepted : Bool) (lines : List (List ℕ)) (entries : List Entry) (line : List ℕ)
+    (next : Session) (text : List ℕ) : Type 0 where
   pub goes_on : GoesOn lines entries line next text
-  pub accepted : is_accepted goes_on.entry.reply ≡ true
+  pub is_decided : is_accepted goes_on.entry.reply ≡ accepted
+
+-- it was accepted
+abbrev pub Accepts : List (List ℕ) → List Entry → List ℕ → Session → List ℕ → Type 0
+Accepts = Decides true
 
 -- a session that makes the call of one more line refuses it, and the text is the answer
-pub record Refuses (lines : List (List ℕ)) (entries : List Entry) (line text : List ℕ)
-    : Type 0 where
-  pub next : Session
-  pub goes_on : GoesOn lines entries line next text
-  pub refused : is_accepted goes_on.entry.reply ≡ false
+abbrev pub Refuses : List (List ℕ) → List Entry → List ℕ → List ℕ → Type 0
+Refuses lines entries line text = (next : Session) × Decides false lines entries line next text
 
 -- the fault of a first line: memory isn't missing if it names no zone
 abbrev pub FaultOfZone : List ℕ → ScriptFault → Type 0

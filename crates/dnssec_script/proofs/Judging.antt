@@ -106,7 +106,7 @@ silent_first zone name taken calls line rest is make silent = record {
 -- ---- how far a script is read
 
 -- one more line, and its call
-line_more : (lines : List (List ℕ)) (calls : List Call) (line : List ℕ) (call : Call)
+pub line_more : (lines : List (List ℕ)) (calls : List Call) (line : List ℕ) (call : Call)
     → AreLinesOf lines calls → IsLineOf line call
     → AreLinesOf (lines ++ line ∷ []) (calls ++ call ∷ [])
 line_more [] [] line call make is = (is, tt)

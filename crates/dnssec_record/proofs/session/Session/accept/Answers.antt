@@ -3,7 +3,7 @@ use Rattle.std.proofs.Common.{[], IfErr, Result, Err, Ok, false, length-append, 
 use Rattle.std.proofs.Common.{true, ◌++◌, ◌∙◌, ◌∷◌, ◌≡◌}
 use Rattle.dnssec_run.specs.{Moments.moments_of, Record.is_accepted}
 use Rattle.dnssec_record.specs.declared.session.Session.{Session}
-use Rattle.dnssec_record.proofs.Sessions.{accepts, answered, refuses, session_of, speaks, zone_of}
+use Rattle.dnssec_record.proofs.Sessions.{answered, decides, session_of, speaks, zone_of}
 use Rattle.dnssec_record.proofs.session.Session.accept.Goals as goal
 
 pub returns-then-not-is_accepted-clause-ok : goal.returns-then-not-is_accepted-clause-ok
@@ -18,11 +18,13 @@ returns-then-not-is_accepted-clause-ok c = (
       let next : Session = record {
         zone = c.answer.new.self;
         moments = moments_of (entries ++ came.entry ∷ []);
-      } in
-      refuses (answered lines entries c.args.line.now next c.in-Some.statement _ so (sym said)
-      made.call made.is_call
-      (record { entry = came.entry; stands = came.stands; is_reply = came.is_reply })
-      c.in_ok-tried.ensures.1) refused,
+      } in (
+        next,
+        decides (answered lines entries c.args.line.now next c.in-Some.statement _ so (sym said)
+            made.call made.is_call
+            (record { entry = came.entry; stands = came.stands; is_reply = came.is_reply })
+            c.in_ok-tried.ensures.1) refused,
+      ),
 )
 
 pub returns-clause-ok : goal.returns-clause-ok
@@ -35,7 +37,7 @@ returns-clause-ok c = λ lines entries so.
     let stands = session_of _ (c.fit.ensures _ _ _ came.stands)
     (c.in_ok-take.ensures.ok entries came.entry so.stands.moments came.is_moment) in (
       c.calls.ensures so.name _ _ stands ∙ length-append entries (came.entry ∷ []),
-      accepts (answered lines entries c.args.line.now _ c.in-Some.statement _ so (sym said)
+      decides (answered lines entries c.args.line.now _ c.in-Some.statement _ so (sym said)
           made.call made.is_call
           (record { entry = came.entry; stands = stands; is_reply = came.is_reply })
           c.in_ok-tried.ensures.1) accepted,
