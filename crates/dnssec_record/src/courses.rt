@@ -54,7 +54,7 @@ impl<'a> Turn<'a> {
         }
     }
 
-    /// The same once the call has this reply.
+    /// What it means after this reply: a refused call means nothing.
     pub(crate) fn after(self, reply: &Reply) -> Self
         ensures { result ≡ turn_after self.entry reply.now }
     {

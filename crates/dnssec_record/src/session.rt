@@ -194,7 +194,7 @@ impl Session {
 
     /// Makes the call of the line if it is accepted, and answers it with a line. So the calls that
     /// the session has made are those of the lines that a caller keeps, and their numbers those of
-    /// these lines. It takes as long as the call and a copy of what the session keeps, but for the
+    /// these lines. It takes as long as the call and a copy of what the session keeps, except the
     /// moments of its calls. So of the lines before only what the judge keeps of them costs time.
     ///
     /// # Errors
