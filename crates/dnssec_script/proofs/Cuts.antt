@@ -1,12 +1,12 @@
 -- A text that is cut at a byte: its first part, and the others.
 use Rattle.std.proofs.Common.{◌≡◌, ℕ, ◌+◌, Bool, true, false, Option, Some, None, List, []}
-use Rattle.std.proofs.Common.{◌∷◌, take, drop, length, sym, ap, ◌∙◌, ◌==◌, arith, refl}
+use Rattle.std.proofs.Common.{◌∷◌, take, drop, length, sym, ap, ◌==◌, arith}
 use Rattle.std.proofs.Common.{if◌then◌else◌, ◌≤◌, ◌<◌, get_or, not}
 use Rattle.std.proofs.lemmas.Simd.{run_in_chunk_fails}
 use Rattle.std.proofs.lemmas.{Bool.ltb-true, Bool.ltb-false}
 use Rattle.std.proofs.lemmas.List.Splits.{slice_split_first, slice_split_none}
 use Rattle.std.proofs.lemmas.List.Sums.{fails_before_first}
-use Rattle.std.specs.{List.position, List.position_or_len, List.slice_split, Prelude.nat_lt}
+use Rattle.std.specs.{List.position_or_len, List.slice_split, Prelude.nat_lt}
 use Rattle.std.specs.{List.prefix_len, Simd.Lanes.chunk}
 use Rattle.std.specs.Option.{option_map_or}
 use Rattle.dnssec_script.specs.Script.{first_field}
@@ -26,21 +26,15 @@ by_place byte text false within =
     slice_split_none (λ b. b == byte) text
     (λ k d below. fails_before_first (λ b. b == byte) text k d (omega arith))
 
-pub parts_of : (byte : ℕ) (text : List ℕ) (place : Option ℕ)
-    → place ≡ position (λ b. b == byte) text
-    → slice_split (λ b. b == byte) text ≡ parts_by byte text place
-parts_of byte text place found =
-    by_place byte text _ refl ∙ ap (parts_by byte text) (sym found)
-
--- no line feed comes before the next one that is seen sixteen bytes at a time
-pub further : (text : List ℕ) (at r : ℕ) → at + 16 ≤ length text
-    → r ≡ prefix_len (λ b. not (b == 10)) (chunk at 16 text)
-    → ((k : ℕ) → k < at → (get_or text k 0 == 10) ≡ false)
-    → (k : ℕ) → k < at + r → (get_or text k 0 == 10) ≡ false
-further text at r room counted before k below = grind (
+-- no such byte comes before the next one that is seen sixteen bytes at a time
+pub further : (byte : ℕ) (text : List ℕ) (at r : ℕ) → at + 16 ≤ length text
+    → r ≡ prefix_len (λ b. not (b == byte)) (chunk at 16 text)
+    → ((k : ℕ) → k < at → (get_or text k 0 == byte) ≡ false)
+    → (k : ℕ) → k < at + r → (get_or text k 0 == byte) ≡ false
+further byte text at r room counted before k below = grind (
   arith,
   before k,
-  run_in_chunk_fails (λ b. b == 10) text at 16 r 0 room counted k,
+  run_in_chunk_fails (λ b. b == byte) text at 16 r 0 room counted k,
 )
 
 -- the fields of a line, by the first and those after it

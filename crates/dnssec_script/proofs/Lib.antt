@@ -2,8 +2,7 @@
 --
 -- | Function                | Lemma                          | Files             |
 -- |-------------------------|--------------------------------|-------------------|
--- | `split_once`            | `parts_of`                     | Cuts              |
--- | `split_line`, `line_end` | `by_place`, `further`         | Cuts              |
+-- | `split_once`, `place_of` | `by_place`, `further`         | Cuts              |
 -- | `number`                | `too_great`                    | Digits            |
 -- | `Fields::roll`          | `no_text`, `roll_read`         | Rolls, Ascii      |
 -- | `ReferenceList::references`   | `each_reference`, `parts_of`   | Lists             |

@@ -1,16 +1,16 @@
 //! The fields of a line of a script, and what each says.
-ghost use Rattle.std.specs.Prelude.{◌≡◌, ◌≤◌, ◌==◌, if◌then◌else◌, List, [], ◌∷◌, map, IfOk};
+ghost use Rattle.std.specs.Prelude.{◌≡◌, ◌≤◌, if◌then◌else◌, List, [], map, IfOk};
 ghost use Rattle.std.specs.Prelude.{Option, Some, None, is_some, IfSome};
 ghost use denote.Bor.{now};
-ghost use Rattle.std.specs.{List.slice_split, Option.option_map};
+ghost use Rattle.std.specs.Option.{option_map};
 ghost use Rattle.dnssec_script.specs.Script.{Value, Reference, Private, References, Flag, Roll};
 ghost use Rattle.dnssec_script.specs.Script.{Number, Moment, is_reference, as_reference};
 ghost use Rattle.dnssec_script.specs.Script.{as_private, as_list, as_yes_no, as_roll, as_number};
 ghost use Rattle.dnssec_script.specs.Script.{as_algorithm, as_tag, as_ttl, as_time};
 ghost use Rattle.dnssec_script.specs.Script.{is_list, is_number, number_of, references_of};
 ghost use Rattle.dnssec_script.specs.Script.{value_at, values_of, first_field, fields_of};
-ghost use Rattle.dnssec_script.specs.Inner.Reading.{parts_left};
 
+use crate::cut::split_once;
 use dnssec_base::SecurityAlgorithm;
 use dnssec_keyset::{RollType, UnixTime};
 use std::alloc::{AllocError, Global};
@@ -110,16 +110,6 @@ fn is_list(text: &[u8]) -> bool
         || text
             .split(|byte| *byte == b',')
             .all(|part| is_reference(part))
-}
-
-/// The text up to the first such byte, and what comes after it; none if it has no such byte.
-fn split_once(text: &[u8], byte: u8) -> (&[u8], Option<&[u8]>)
-    ensures { slice_split (λ b. b == byte) text.now ≡ result.0.now ∷ parts_left byte result.1 }
-{
-    match text.iter().position(|other| *other == byte) {
-        Some(at) => (&text[..at], Some(&text[at + 1..])),
-        None => (text, None),
-    }
 }
 
 /// The fields of a line that haven't been read yet, each between single spaces.

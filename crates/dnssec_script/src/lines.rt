@@ -1,24 +1,17 @@
 //! The lines of a script.
-ghost use Rattle.std.specs.Prelude.{◌≡◌, ◌≤◌, ◌+◌, ◌==◌, ◌∷◌, ℕ, suc, List, [], map, length};
-ghost use Rattle.std.specs.Prelude.{IfOk, IfErr, IfSome, IfNone, not};
-ghost use Rattle.std.specs.List.{position_or_len, prefix_len, slice_split};
-ghost use Rattle.std.specs.Simd.Lanes.{chunk};
+ghost use Rattle.std.specs.Prelude.{◌≡◌, ℕ, suc, List, [], map, IfOk, IfErr, IfSome, IfNone};
 ghost use denote.Bor.{now};
 ghost use Rattle.dnssec_base.specs.NameText as names;
 ghost use Rattle.dnssec_run.specs.declared.call.Call.{Call};
 ghost use Rattle.dnssec_script.specs.Script.{BeginsWithZone, IsZoneLine, NamesZone};
 ghost use Rattle.dnssec_script.specs.Script.{lines_of, without_end};
-ghost use Rattle.dnssec_script.specs.Inner.Reading.{HasRead, IsReadFault, ReadsOn};
-ghost use Rattle.dnssec_script.specs.Inner.Reading.{lines_left, parts_left};
+ghost use Rattle.dnssec_script.specs.Inner.Reading.{HasRead, IsReadFault, ReadsOn, lines_left};
 ghost use Rattle.dnssec_script.specs.declared.lines.ReadFault.TheVariants.{OutOfMemory};
 
+use crate::cut::split_once;
 use crate::statement::{Statement, read_line};
 use dnssec_base::{Name, NameError};
 use std::alloc::{AllocError, Global};
-use std::simd::prelude::*;
-
-/// How many bytes are looked at together for a line feed.
-const LANES: usize = 16;
 
 /// Why a script isn't read on.
 #[derive(Clone, Copy, Debug, PartialEq)]
@@ -60,48 +53,6 @@ fn without_end(script: &[u8]) -> &[u8]
         Some((last, text)) => { if *last == b'\n' { text } else { script } }
         None => script,
     }
-}
-
-/// The first line of a text, and what comes after its line feed; none if it has no line feed.
-fn split_line(text: &[u8]) -> (&[u8], Option<&[u8]>)
-    ensures { slice_split (λ b. b == 10) text.now ≡ result.0.now ∷ parts_left 10 result.1 }
-{
-    let end = line_end(text);
-    if end < text.len() {
-        (&text[..end], Some(&text[end + 1..]))
-    } else {
-        (text, None)
-    }
-}
-
-/// Where the first line feed stands, or the length of a text without one. Most of a script's bytes
-/// are read here first, so it looks at many at a time.
-fn line_end(text: &[u8]) -> usize
-    ensures { result ≡ position_or_len (λ b. b == 10) text.now }
-{
-    let mut end = 0;
-    while text.len() - end >= LANES {
-        let ahead = line_feed_in(text, end) as usize;
-        if ahead < LANES {
-            return end + ahead;
-        }
-        end += LANES;
-    }
-    while end < text.len() && text[end] != b'\n' {
-        end += 1;
-    }
-    end
-}
-
-/// How many of the next bytes come before their first line feed.
-fn line_feed_in(text: &[u8], at: usize) -> u32
-    requires { at + 16 ≤ length text.now }
-    ensures { result ≡ prefix_len (λ b. not (b == 10)) (chunk at 16 text.now) }
-{
-    let hits = u8x16::from_slice(&text[at..])
-        .simd_eq(u8x16::splat(b'\n'))
-        .to_bitmask();
-    if hits == 0 { 16 } else { hits.trailing_zeros() }
 }
 
 /// The name of the zone, if this is the first line of a script.
@@ -160,7 +111,7 @@ impl<'a> Lines<'a> {
         ensures zone { IfOk result (λ _. BeginsWithZone script.now) }
         ensures err { IfErr result (IsReadFault script.now) }
     {
-        let (first, rest) = split_line(without_end(script));
+        let (first, rest) = split_once(without_end(script), b'\n');
         match read_zone(alloc, first)? {
             Some(name) => Ok((name, Lines { rest, count: 1 })),
             None => Err(ReadFault::Malformed(1)),
@@ -188,7 +139,7 @@ impl<'a> Lines<'a> {
         let Some(count) = self.count.checked_add(1) else {
             return Err(ReadFault::OutOfMemory);
         };
-        let (line, rest) = split_line(text);
+        let (line, rest) = split_once(text, b'\n');
         self.rest = rest;
         self.count = count;
         match read_line(alloc, line)? {

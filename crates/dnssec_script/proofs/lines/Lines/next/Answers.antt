@@ -16,18 +16,18 @@ returns-in_err-statement-clause-err c =
 
 pub returns-in-Some-2-clause-ok : goal.returns-in-Some-2-clause-ok
 returns-in-Some-2-clause-ok c =
-    let left = ap (parts_left 10) c.in-Some.is ∙ c.split_line.ensures in
+    let left = ap (parts_left 10) c.in-Some.is ∙ c.split_once.ensures in
     let said = rw c.in-Some-2.is at c.in_ok-statement.ensures.read in
     read_on c.args.self.now (record {
-      rest = c.split_line.result.1;
+      rest = c.split_once.result.1;
       count = c.in-Some-checked_add.count;
-    }) c.split_line.result.0.now left (search rules) _ c.in-Some-2.statement refl (sym said)
+    }) c.split_once.result.0.now left (search rules) _ c.in-Some-2.statement refl (sym said)
 
 pub returns-in-None-clause-err : goal.returns-in-None-clause-err
 returns-in-None-clause-err c script name calls read =
-    let left = ap (parts_left 10) c.in-Some.is ∙ c.split_line.ensures in
+    let left = ap (parts_left 10) c.in-Some.is ∙ c.split_once.ensures in
     let said = rw c.in-None.is at c.in_ok-statement.ensures.read in
     read_fault c.args.self.now (record {
-      rest = c.split_line.result.1;
+      rest = c.split_once.result.1;
       count = c.in-Some-checked_add.count;
-    }) c.split_line.result.0.now left (search rules) script name calls (ap is_some (sym said)) read
+    }) c.split_once.result.0.now left (search rules) script name calls (ap is_some (sym said)) read
