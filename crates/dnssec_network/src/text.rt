@@ -11,7 +11,7 @@ mod session;
 
 pub use answer::{answer_due, answer_questions};
 pub use fault::{DueFault, LineFault, NotesFault};
-pub use line::{kind_name, read_before, read_fact};
+pub use line::{either_named, kind_name, read_before, read_fact};
 pub use questions::{answer_lines, read_question};
 pub use reading::{read_notes, without_end};
 pub use reports::due_lines;

@@ -14,11 +14,15 @@ use Rattle.dnssec_network.specs.Facts.{Before}
 
 -- ---- words
 
+-- the value with this name, of two values with their names
+abbrev pub either_named : {T : Type 0} → List ℕ → List ℕ × T → List ℕ × T → Option T
+either_named name one other =
+    if bytes_eq name one.0 then Some one.1
+    else (if bytes_eq name other.0 then Some other.1 else None)
+
 -- the words of facts
 unfoldable pub word_named : List ℕ → Option FactWord
-word_named name =
-    if bytes_eq name (codes "published") then Some Published
-    else (if bytes_eq name (codes "everywhere") then Some Everywhere else None)
+word_named name = either_named name (codes "published", Published) (codes "everywhere", Everywhere)
 
 -- the kinds of sets
 unfoldable pub kind_named : List ℕ → Option SetKind

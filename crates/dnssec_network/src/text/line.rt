@@ -3,8 +3,8 @@ ghost use Rattle.std.specs.Prelude.{◌≡◌, List};
 ghost use Rattle.std.specs.Option.{option_map};
 ghost use Rattle.dnssec_script.specs.Script.{values_of};
 ghost use Rattle.dnssec_network.specs.Text.Lines.{as_before, as_fact, before_forms, before_says};
-ghost use Rattle.dnssec_network.specs.Text.Lines.{fact_says, kind_at, kind_name, kind_named};
-ghost use Rattle.dnssec_network.specs.Text.Lines.{news_after, news_says, word_at, word_named};
+ghost use Rattle.dnssec_network.specs.Text.Lines.{either_named, fact_says, kind_at, kind_name};
+ghost use Rattle.dnssec_network.specs.Text.Lines.{kind_named, news_after, news_says, word_at};
 
 use crate::fact::{Before, Fact, News};
 use dnssec_record::Fields;
@@ -17,15 +17,15 @@ pub(crate) enum FactWord {
     Everywhere,
 }
 
-/// The word with this name.
-#[tactic(auto, unfolding(crate::specs::Text::Lines::word_named))]
-fn word_named(name: &[u8]) -> Option<FactWord>
-    ensures { result ≡ word_named name.now }
+/// The value that has this name, of two values with their names.
+pub fn either_named<T: Copy>(name: &[u8], one: (&[u8], T), other: (&[u8], T)) -> Option<T>
+    ensures { result ≡ either_named name.now (one.entry.0.now, one.entry.1)
+        (other.entry.0.now, other.entry.1) }
 {
-    if name == b"published".as_slice() {
-        Some(FactWord::Published)
-    } else if name == b"everywhere".as_slice() {
-        Some(FactWord::Everywhere)
+    if name == one.0 {
+        Some(one.1)
+    } else if name == other.0 {
+        Some(other.1)
     } else {
         None
     }
@@ -59,11 +59,14 @@ pub fn kind_name(kind: SetKind) -> &'static str
 }
 
 /// The first field as a word.
+#[tactic(auto, unfolding(crate::specs::Text::Lines::word_named))]
 fn first_word<'a>(fields: Fields<'a>) -> Option<(FactWord, Fields<'a>)>
     ensures { option_map (λ x. (x.0, x.1)) result ≡ word_at fields.entry }
 {
     let (name, fields) = fields.next()?;
-    Some((word_named(name)?, fields))
+    let published = (b"published".as_slice(), FactWord::Published);
+    let everywhere = (b"everywhere".as_slice(), FactWord::Everywhere);
+    Some((either_named(name, published, everywhere)?, fields))
 }
 
 /// The first field as a kind of sets.
