@@ -95,15 +95,16 @@ resting = λ i roll. each roll i
     each roll = grind arith
 
 module _ (name : List ℕ) where
+  abbrev pub set_of : Keys → Rolls → Lists → KeySetParts
+  set_of keys rolls lists = record { name = name; keys = keys; rolls = rolls; lists = lists }
+
+  abbrev pub with_adds : (List ℕ → ℕ) → KeySetParts → World
+  with_adds added set = record { set = set; added = added }
+
   -- what is there, by the entries of its keys
   abbrev pub world_of : Entries → Option RollState → Lists → (List ℕ → ℕ) → World
-  world_of es phase lists added = record {
-    set = record { name = name; keys = from_entries es; rolls = rolls_in phase; lists = lists };
-    added = added;
-  }
-
-  abbrev with_adds : (List ℕ → ℕ) → KeySetParts → World
-  with_adds added set = record { set = set; added = added }
+  world_of es phase lists added =
+      with_adds added (set_of (from_entries es) (rolls_in phase) lists)
 
   -- a run whose last position has these keys, this phase and these adds
   pub record Reached (cs : List Call) (entries : List Entry) (es : Entries)
@@ -124,10 +125,8 @@ module _ (name : List ℕ) where
   begun = record {
     lists = no_lists;
     run = run_none name;
-    here = world_none name [] ∙ (λ i. record {
-      set = record { name = name; keys = empty; rolls = resting' i; lists = no_lists };
-      added = λ q. 0;
-    });
+    here = world_none name []
+        ∙ (λ i. with_adds (λ q. 0) (set_of empty (resting' i) no_lists));
   }
     where
       resting' : no_rolls ≡ rolls_in None
@@ -205,32 +204,21 @@ module _ (name : List ℕ) where
 
   -- ---- what a call leaves
 
+  abbrev pub by : (List ℕ → KeyParts → KeyParts) → Entries → Entries
+  by f es = map (λ (e : List ℕ × KeyParts). (e.0, f e.0 e.1)) es
+
   moved : (f : List ℕ → KeyParts → KeyParts) (es : Entries) → T (is_sorted order es)
-      → keyset.keys_by f (from_entries es)
-      ≡ from_entries (map (λ (e : List ℕ × KeyParts). (e.0, f e.0 e.1)) es)
-  moved f es up = ap (λ (es : Entries).
-      from_entries (map (λ (e : List ℕ × KeyParts). (e.0, f e.0 e.1)) es)) (entries-of es up)
+      → keyset.keys_by f (from_entries es) ≡ from_entries (by f es)
+  moved f es up = ap (λ (es : Entries). from_entries (by f es)) (entries-of es up)
 
   -- the set after a start, a report or a wait
   pub leaves : (f : List ℕ → KeyParts → KeyParts) (es : Entries) (phase next : Option RollState)
       (lists : Lists) → T (is_sorted order es)
-      → ◌≡◌ {A = KeySetParts} (record {
-        name = name;
-        keys = from_entries (map (λ (e : List ℕ × KeyParts). (e.0, f e.0 e.1)) es);
-        rolls = rolls_in next;
-        lists = lists;
-      }) (record {
-        name = name;
-        keys = keyset.keys_by f (from_entries es);
-        rolls = with_phase (rolls_in phase) AlgorithmRoll next;
-        lists = lists;
-      })
-  leaves f es phase next lists up = λ i. record {
-    name = name;
-    keys = sym (moved f es up) i;
-    rolls = sym (again phase next) i;
-    lists = lists;
-  }
+      → set_of (from_entries (by f es)) (rolls_in next) lists
+      ≡ set_of (keyset.keys_by f (from_entries es)) (with_phase (rolls_in phase) AlgorithmRoll next)
+      lists
+  leaves f es phase next lists up =
+      λ i. set_of (sym (moved f es up) i) (sym (again phase next) i) lists
 
   abbrev pub ids : (KeyType → Bool) → Entries → (List ℕ → ℕ) → List Id
   ids passes es added = map (λ (e : List ℕ × KeyParts). (e.0, added e.0))
@@ -259,9 +247,6 @@ module _ (name : List ℕ) where
     zone_signers = h.4 ∙ shown signs_zone es phase lists added h.0;
   }
 
-  abbrev pub by : (List ℕ → KeyParts → KeyParts) → Entries → Entries
-  by f es = map (λ (e : List ℕ × KeyParts). (e.0, f e.0 e.1)) es
-
   module _ (cs : List Call) (entries : List Entry) (es : Entries) (phase : Option RollState)
       (added : List ℕ → ℕ) (c : Call) (r : Reply) (p : Published) (next : Option RollState) where
     -- a start, a report or a wait
@@ -271,17 +256,11 @@ module _ (name : List ℕ) where
         → keyset.clearance (world_of es phase lists added).set (call_of c) ≡ Clear)
         → reply_of r ≡ keyset.accepted_reply (call_of c)
         → ((lists : Lists) → keyset.after (call_of c) (world_of es phase lists added).set
-        ≡ record {
-          name = name;
-          keys = keyset.keys_by f (from_entries es);
-          rolls = with_phase (rolls_in phase) AlgorithmRoll next;
-          lists = (keyset.after (call_of c) (world_of es phase lists added).set).lists;
-        })
+        ≡ set_of (keyset.keys_by f (from_entries es))
+        (with_phase (rolls_in phase) AlgorithmRoll next)
+        (keyset.after (call_of c) (world_of es phase lists added).set).lists)
         → ((lists : Lists) → world_after (suc (length cs)) (world_of es phase lists added) c r
-        ≡ record {
-          set = keyset.after (call_of c) (world_of es phase lists added).set;
-          added = added;
-        })
+        ≡ with_adds added (keyset.after (call_of c) (world_of es phase lists added).set))
         → Shows p (by f es) added
         → Reached (cs ++ c ∷ []) (entries ++ entry_of c r p ∷ []) (by f es) next added
     rolled f at up accepted clear same after world shown =
@@ -299,15 +278,8 @@ module _ (name : List ℕ) where
       (r : Reply) (p : Published) (at : Reached cs entries es (Some Done) added)
       → is_accepted r ≡ true → reply_of r ≡ keyset.Actions []
       → ((lists : Lists) → world_after (suc (length cs)) (world_of es (Some Done) lists added)
-      (RollDone AlgorithmRoll) r ≡ record {
-        set = record {
-          name = name;
-          keys = from_entries es;
-          rolls = with_phase (rolls_in (Some Done)) AlgorithmRoll None;
-          lists = lists;
-        };
-        added = added;
-      })
+      (RollDone AlgorithmRoll) r ≡ with_adds added (set_of (from_entries es)
+      (with_phase (rolls_in (Some Done)) AlgorithmRoll None) lists))
       → Shows p es added
       → Reached (cs ++ RollDone AlgorithmRoll ∷ [])
       (entries ++ entry_of (RollDone AlgorithmRoll) r p ∷ []) es None added
@@ -316,18 +288,6 @@ module _ (name : List ℕ) where
       sym (again (Some Done) None) in
       goes-on cs entries es (Some Done) added (RollDone AlgorithmRoll) r p es None at.lists added at
       accepted refl same
-      (λ i. record {
-        name = name;
-        keys = from_entries es;
-        rolls = rolls i;
-        lists = at.lists;
-      })
-      ((λ i. record {
-        set = record {
-          name = name;
-          keys = from_entries es;
-          rolls = rolls i;
-          lists = at.lists;
-        };
-        added = added;
-      }) ∙ sym (world at.lists)) (shows p es None at.lists added shown)
+      (λ i. set_of (from_entries es) (rolls i) at.lists)
+      ((λ i. with_adds added (set_of (from_entries es) (rolls i) at.lists))
+      ∙ sym (world at.lists)) (shows p es None at.lists added shown)

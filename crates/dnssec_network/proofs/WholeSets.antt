@@ -201,33 +201,21 @@ module _ (heap : Global) (name : List ℕ) (one other : ℕ) where
   KeptAt n = (algorithm : ℕ) → HasKeyOf keeps_ksk algorithm (world_at name calls entries (suc n))
       → HasKeyOf keeps_zsk algorithm (world_at name calls entries (suc n))
 
+  -- a key that is no KSK, or doesn't stay
+  no : {A : Type 0} → false ≡ true → A
+  no is = absurd (true≢false (sym is))
+
   kept5 : KeptAt 4
   unfolding column
   kept5 = rw at5 (kept keys5 (world_of name keys5 (Some Propagation1) run5.lists added)
-      (gets keys5) (
-        λ no_ksk. absurd (true≢false (sym no_ksk)),
-        (
-          λ not_yet. absurd (true≢false (sym not_yet)),
-          (
-            λ no_ksk. absurd (true≢false (sym no_ksk)),
-            (λ is. (99 ∷ [], _, ap (λ f. f (99 ∷ [])) (gets keys5), refl, refl), tt),
-          ),
-        ),
-      ))
+      (gets keys5)
+      (no, (no, (no, ((λ is. (99 ∷ [], _, ap (λ f. f (99 ∷ [])) (gets keys5), refl, refl)), tt)))))
 
   kept11 : KeptAt 10
   unfolding column
   kept11 = rw at11 (kept keys11 (world_of name keys11 (Some Propagation1) run11.lists added)
-      (gets keys11) (
-        λ no_ksk. absurd (true≢false (sym no_ksk)),
-        (
-          λ is. (97 ∷ [], _, ap (λ f. f (97 ∷ [])) (gets keys11), refl, refl),
-          (
-            λ no_ksk. absurd (true≢false (sym no_ksk)),
-            (λ leaves. absurd (true≢false (sym leaves)), tt),
-          ),
-        ),
-      ))
+      (gets keys11)
+      (no, ((λ is. (97 ∷ [], _, ap (λ f. f (97 ∷ [])) (gets keys11), refl, refl)), (no, (no, tt)))))
 
   whole : KeepsWhole name calls entries
   whole = record {

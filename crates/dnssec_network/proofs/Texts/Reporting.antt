@@ -23,11 +23,11 @@ is_due_after lines notes entries session keyset steps moments noted seconds text
     record {
       name = so.name;
       calls = so.calls;
-      before = noted.before;
-      facts = noted.facts;
       is_script = so.is_script;
       is_run = after.follows.records.run;
       are_notes = subst (λ m. AreNotes m notes noted.before noted.facts) at are;
+      before = noted.before;
+      facts = noted.facts;
       is_text = is ∙ (λ i. due_text (set i).rolls (λ roll. last roll i) (at i) noted.before
           noted.facts seconds);
     }
