@@ -78,12 +78,6 @@ some-number words i some =
     let k = lowest (word_at words i) some in (64 * i + k.0, bit-of words i k.0 k.1 k.2)
 
 -- words that have a bit in common share a number
-pub shared : (words others : List ℕ) (i : ℕ) → HasSome (common_at words others i)
-    → Share words others
-shared words others i some =
-    let k = lowest _ some in let both = both-set _ _ k.0 k.2 in
-    (64 * i + k.0, bit-of words i k.0 k.1 both.0, bit-of others i k.0 k.1 both.1)
-
 pub all-shared : (words ones others : List ℕ) (i : ℕ) → HasSome (all_at words ones others i)
     → ShareAll words ones others
 all-shared words ones others i some =
@@ -104,13 +98,6 @@ kept-bits old other new is n =
     let e = is (n / 64) in grind (arith, nat_tests, e, bit_at_and, bit_at-lt)
 
 -- words that have none in common share no number
-pub apart : (words others : List ℕ) → ((i : ℕ) → common_at words others i ≡ 0)
-    → Share words others → ⊥
-apart words others none t =
-    let e = none (t.0 / 64) in
-    let m = bit_at_and (word_at words (t.0 / 64)) (word_at others (t.0 / 64)) (t.0 % 64) in
-    grind (arith, nat_tests, e, m, t.1, t.2, bit_at-zero)
-
 pub all-apart : (words ones others : List ℕ) → ((i : ℕ) → all_at words ones others i ≡ 0)
     → ShareAll words ones others → ⊥
 all-apart words ones others none t =
@@ -176,12 +163,6 @@ kept-words first with now rest other new index le one more (suc i) =
     grind (arith, nat_tests, more i, get_or_past rest i 0)
 
 -- no bit is common, if none is of the first words nor of the others
-pub none-common : (first with : ℕ) (words others : List ℕ) → bit_and first with ≡ 0
-    → ((i : ℕ) → common_at words others i ≡ 0)
-    → (i : ℕ) → common_at (first ∷ words) (with ∷ others) i ≡ 0
-none-common first with words others one more zero = one
-none-common first with words others one more (suc i) = more i
-
 pub none-of-all : (first one with : ℕ) (words ones others : List ℕ)
     → bit_and (bit_and first one) with ≡ 0
     → ((i : ℕ) → all_at words ones others i ≡ 0)

@@ -4,8 +4,7 @@ ghost use Rattle.std.specs.Prelude.{if◌then◌else◌, IfOk, IfErr, OnOk, Some
 ghost use Rattle.std.specs.Prelude.{vec_len};
 ghost use Rattle.std.specs.List.{list_any};
 ghost use Rattle.dnssec_base.specs.declared.error.Error.TheVariants.{OutOfMemory};
-ghost use Rattle.dnssec_judge.specs.Bits.{HasSome, Share, ShareAll, all_at, common_at, has};
-ghost use Rattle.dnssec_judge.specs.Bits.{word_at, words_of};
+ghost use Rattle.dnssec_judge.specs.Bits.{HasSome, ShareAll, all_at, has, word_at, words_of};
 
 use dnssec_keyset::Error;
 use std::alloc::Global;
@@ -156,15 +155,6 @@ impl Bits {
         self.first == 0 && are_noughts(&self.rest)
     }
 
-    /// Whether the sets have a number in common.
-    #[inline(always)]
-    pub(crate) fn meets(&self, other: &Bits) -> bool
-        ensures yes { result ≡ true → Share (words_of self.now) (words_of other.now) }
-        ensures no { result ≡ false → Share (words_of self.now) (words_of other.now) → ⊥ }
-    {
-        self.first & other.first != 0 || do_meet(&self.rest, &other.rest)
-    }
-
     /// Whether the three sets have a number in common.
     #[inline(always)]
     pub(crate) fn meets_both(&self, one: &Bits, other: &Bits) -> bool
@@ -207,21 +197,7 @@ fn are_noughts(words: &[u64]) -> bool
     true
 }
 
-/// Whether a bit is set in words at the same place of both lists.
-fn do_meet(words: &[u64], others: &[u64]) -> bool
-    ensures yes { result ≡ true → (i : ℕ) × HasSome (common_at words.now others.now i) }
-    ensures no { result ≡ false → (i : ℕ) → common_at words.now others.now i ≡ 0 }
-{
-    for (index, word) in words.iter().enumerate() {
-        let other = others.get(index).copied().unwrap_or(0);
-        if *word & other != 0 {
-            return true;
-        }
-    }
-    false
-}
-
-/// The same of three lists.
+/// Whether a bit is set in words at the same place of all three lists.
 fn do_all_meet(words: &[u64], ones: &[u64], others: &[u64]) -> bool
     ensures yes { result ≡ true → (i : ℕ) × HasSome (all_at words.now ones.now others.now i) }
     ensures no { result ≡ false → (i : ℕ) → all_at words.now ones.now others.now i ≡ 0 }

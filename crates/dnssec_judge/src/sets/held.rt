@@ -116,7 +116,8 @@ impl OpenSet {
     pub(crate) fn holds_with_signers(&self, zone: &OpenSet) -> bool
         ensures { result ≡ zone_holds (set_of self.now) (set_of zone.now) }
     {
-        self.keys.meets(&zone.keys)
+        // The zone's keys stand for both.
+        self.keys.meets_both(&zone.keys, &zone.keys)
     }
 
     /// Whether it, as a DS set, has a chain with a DNSKEY set and zone signers.

@@ -1,6 +1,5 @@
 -- No number is in it.
-use Rattle.dnssec_judge.specs.Bits.{words_of}
-use Rattle.dnssec_judge.proofs.Words.{none_set}
+use Rattle.dnssec_judge.{proofs.Words.none_set, specs.Bits.words_of}
 use Rattle.dnssec_judge.proofs.sets.held.OpenSet.is_empty.Goals as goal
 
 pub returns : goal.returns

@@ -1,6 +1,5 @@
 -- The three share a number.
-use Rattle.dnssec_judge.specs.Bits.{words_of}
-use Rattle.dnssec_judge.proofs.Words.{all_met}
+use Rattle.dnssec_judge.{proofs.Words.all_met, specs.Bits.words_of}
 use Rattle.dnssec_judge.proofs.sets.held.OpenSet.names_key_of.Goals as goal
 
 pub returns : goal.returns

@@ -1,7 +1,0 @@
--- The words so far have no bit in common.
-use Rattle.std.proofs.Common.{◌≡◌, ℕ, ◌<◌}
-use Rattle.dnssec_judge.specs.Bits.{common_at}
-use Rattle.dnssec_judge.proofs.sets.bits.do_meet.Given as goal
-
-abbrev pub invariant-loop-index : goal.invariant-loop-index
-invariant-loop-index l = (i : ℕ) → i < l.index → common_at l.words l.others i ≡ 0
