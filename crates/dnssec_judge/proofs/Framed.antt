@@ -1,27 +1,23 @@
 -- A list that keeps a frame, and the numbers of the list of before.
 use Rattle.std.proofs.Common.{◌≡◌, ◌∙◌, ◌++◌, ◌∷◌, [], ap, arith, map, refl, sym, subst, suc, ℕ}
-use Rattle.std.proofs.Common.{List, Some, append-nil, drop, length, take}
-use Rattle.std.proofs.Math.Seq.{drop-append_seam, take-append_seam}
+use Rattle.std.proofs.Common.{false, List, Option, Some, append-nil, drop, length, take}
 use Rattle.std.proofs.lemmas.List.{append_cancel_left, append_cancel_right, length-append}
-use Rattle.std.proofs.lemmas.List.{length-map}
+use Rattle.std.proofs.lemmas.List.{length-map, take-map, drop-map, take_at, drop_at, map-append}
+use Rattle.std.proofs.Math.Seq.{drop-append_seam, take-append_seam}
+use Rattle.std.proofs.{lemmas.Bool.false_from_ne_true, Common.take-append-drop}
 use Rattle.std.specs.List.{insert, remove}
-use Rattle.dnssec_run.specs.declared.record.{Frame.Frame, PublishedKey.PublishedKey}
-use Rattle.dnssec_run.specs.Frames.{KeepsFrame}
-use Rattle.dnssec_run.specs.Published.{Id, id_of}
-use Rattle.dnssec_judge.specs.Numbers.{Grows, StandFor, key_at}
+use Rattle.dnssec_run.specs.declared.{record.PublishedKey.PublishedKey, record.Frame.Frame}
+use Rattle.dnssec_run.specs.{Published.Id, Published.id_of, Frames.KeepsFrame, Origins.same_ids}
+use Rattle.dnssec_run.proofs.Since.{same-ids}
+use Rattle.dnssec_judge.proofs.Table.{stand-both, stand-on, stand-once}
 use Rattle.dnssec_judge.specs.declared.sets.numbers.Numbers.{Numbers}
-use Rattle.dnssec_judge.proofs.Table.{InThree, in-three, stand-both, stand-on, stand-once}
-use Rattle.dnssec_judge.proofs.Table.{stand-len, stand-three}
+use Rattle.dnssec_judge.specs.Numbers.{Grows, StandFor, key_at}
 
 -- lists that stand in one frame differ only within
 within : (front one other back : List Id) → front ++ (one ++ back) ≡ front ++ (other ++ back)
     → one ≡ other
 within front one other back e =
     append_cancel_right one other back (append_cancel_left front (one ++ back) (other ++ back) e)
-
-image-len : {A B : Type 0} (f : A → B) (xs : List A) (ys : List B) → map f xs ≡ ys
-    → length xs ≡ length ys
-image-len f xs ys e = sym (length-map xs f) ∙ ap length e
 
 -- a list whose front is as long as the list is its front
 only-front : (front rest all : List Id) → all ≡ front ++ rest → length all ≡ length front
@@ -39,61 +35,103 @@ all-front frame old new keeps whole len =
     ∙ sym (only-front keeps.front (keeps.is ++ keeps.back) new keeps.splits_new
     (sym whole ∙ sym keeps.front_len))
 
--- how the numbers of before and the keys fall into parts
+-- ---- lists in three parts
+
+-- these are the parts of a list whose first and last have these lengths
+abbrev IsCut : {A : Type 0} → List A → ℕ → ℕ → List A → List A → List A → Type 0
+IsCut {A} xs m k one two three = (a b d : List A) → xs ≡ a ++ (b ++ d) → length a ≡ m → length d ≡ k
+    → (one ≡ a) × (two ≡ b) × (three ≡ d)
+
+-- so if the list's image falls into parts of these lengths, they are the images of its parts
+cut-image : {A B : Type 0} (f : A → B) (xs : List A) (m k : ℕ) (one two three : List A)
+    → IsCut xs m k one two three → (ys zs us : List B) → map f xs ≡ ys ++ (zs ++ us)
+    → length ys ≡ m → length us ≡ k → (map f one ≡ ys) × (map f two ≡ zs) × (map f three ≡ us)
+cut-image {A} {B} f xs m k one two three cut ys zs us e em ek =
+    let s = cut (take (length ys) xs) (take (length zs) rest) (drop (length zs) rest)
+    (sym (take-append-drop (length ys) xs)
+    ∙ ap (λ more. take (length ys) xs ++ more) (sym (take-append-drop (length zs) rest)))
+    (sym (length-map (take (length ys) xs) f) ∙ ap length first ∙ em)
+    (sym (length-map (drop (length zs) rest) f) ∙ ap length last ∙ ek) in
+    (ap (map f) s.0 ∙ first, ap (map f) s.1 ∙ middle, ap (map f) s.2 ∙ last)
+  where
+    rest : List A
+    rest = drop (length ys) xs
+
+    first : map f (take (length ys) xs) ≡ ys
+    first = sym (take-map f (length ys) xs) ∙ ap (take (length ys)) e
+        ∙ take_at ys (zs ++ us) (length ys) refl
+
+    rest-is : map f rest ≡ zs ++ us
+    rest-is = sym (drop-map f (length ys) xs) ∙ ap (drop (length ys)) e
+        ∙ drop_at ys (zs ++ us) (length ys) refl
+
+    middle : map f (take (length zs) rest) ≡ zs
+    middle = sym (take-map f (length zs) rest) ∙ ap (take (length zs)) rest-is
+        ∙ take_at zs us (length zs) refl
+
+    last : map f (drop (length zs) rest) ≡ us
+    last = sym (drop-map f (length zs) rest) ∙ ap (drop (length zs)) rest-is
+        ∙ drop_at zs us (length zs) refl
+
+-- the numbers of before and the keys of a list, cut where the frame says
 module _ (t : Numbers) (before : List ℕ) (list : List PublishedKey) (was : List Id) (frame : Frame)
-    (h : StandFor t before was) (keeps : KeepsFrame frame was (map id_of list)) where
-  pub old : InThree (key_at t) before (map Some keeps.front) (map Some keeps.was)
-      (map Some keeps.back)
-  old = stand-three t before was keeps.front keeps.was keeps.back keeps.splits_old h
+    (h : StandFor t before was) (keeps : KeepsFrame frame was (map id_of list))
+    (front middle back : List ℕ) (ahead changed behind : List PublishedKey)
+    (cut : IsCut before frame.front frame.back front middle back)
+    (cut-list : IsCut list frame.front frame.back ahead changed behind) where
+  numbers : StandFor t front keeps.front × StandFor t middle keeps.was × StandFor t back keeps.back
+  numbers = cut-image (key_at t) before frame.front frame.back front middle back cut
+      (map Some keeps.front) (map Some keeps.was) (map Some keeps.back)
+      (h ∙ ap (map {B = Option Id} Some) keeps.splits_old
+      ∙ map-append {B = Option Id} Some keeps.front (keeps.was ++ keeps.back)
+      ∙ ap (λ more. map {B = Option Id} Some keeps.front ++ more)
+      (map-append {B = Option Id} Some keeps.was keeps.back))
+      (length-map {B = Option Id} keeps.front Some ∙ keeps.front_len)
+      (length-map {B = Option Id} keeps.back Some ∙ keeps.back_len)
 
-  pub new : InThree id_of list keeps.front keeps.is keeps.back
-  new = in-three id_of list keeps.front keeps.is keeps.back keeps.splits_new
-
-  pub old-front : length old.one ≡ frame.front
-  old-front = stand-len t old.one keeps.front old.is_one ∙ keeps.front_len
-
-  pub old-back : length old.three ≡ frame.back
-  old-back = stand-len t old.three keeps.back old.is_three ∙ keeps.back_len
-
-  pub new-front : length new.one ≡ frame.front
-  new-front = image-len id_of new.one keeps.front new.is_one ∙ keeps.front_len
-
-  pub new-back : length new.three ≡ frame.back
-  new-back = image-len id_of new.three keeps.back new.is_three ∙ keeps.back_len
+  keys : map id_of changed ≡ keeps.is
+  keys = (cut-image id_of list frame.front frame.back ahead changed behind cut-list keeps.front
+      keeps.is keeps.back keeps.splits_new keeps.front_len keeps.back_len).1
 
   -- if the numbers in the middle stand for the keys there, nothing has changed
-  pub all-same : (middle : List ℕ) (changed : List PublishedKey) → middle ≡ old.two
-      → changed ≡ new.two → StandFor t middle (map id_of changed) → was ≡ map id_of list
-  all-same middle changed m k stands =
-      let there : StandFor t old.two (map id_of new.two) =
-      subst (λ (ns : List ℕ). StandFor t ns (map id_of new.two)) m
-      (subst (λ (ks : List PublishedKey). StandFor t middle (map id_of ks)) k stands) in
-      let same : keeps.was ≡ keeps.is =
-      stand-once t old.two keeps.was (map id_of new.two) old.is_two there ∙ new.is_two in
-      keeps.splits_old ∙ ap (λ (ks : List Id). keeps.front ++ (ks ++ keeps.back)) same
+  pub is-same : StandFor t middle (map id_of changed) → was ≡ map id_of list
+  is-same stands =
+      keeps.splits_old ∙ ap (λ (ks : List Id). keeps.front ++ (ks ++ keeps.back))
+      (stand-once t middle keeps.was (map id_of changed) numbers.1 stands ∙ keys)
       ∙ sym keeps.splits_new
 
-  -- and if nothing has changed, they do
-  pub same-middle : (middle : List ℕ) (changed : List PublishedKey) → middle ≡ old.two
-      → changed ≡ new.two → was ≡ map id_of list → StandFor t middle (map id_of changed)
-  same-middle middle changed m k same =
-      let inner : keeps.was ≡ keeps.is =
-      within keeps.front keeps.was keeps.is keeps.back
-      (sym keeps.splits_old ∙ same ∙ keeps.splits_new) in
-      let there : StandFor t old.two (map id_of new.two) =
-      subst (StandFor t old.two) (inner ∙ sym new.is_two) old.is_two in
-      subst (λ (ks : List PublishedKey). StandFor t middle (map id_of ks)) (sym k)
-      (subst (λ (ns : List ℕ). StandFor t ns (map id_of new.two)) (sym m) there)
+  -- or else the list is another
+  is-other : (StandFor t middle (map id_of changed) → ⊥) → same_ids was (map id_of list) ≡ false
+  is-other lacks = false_from_ne_true (same_ids was (map id_of list)) (λ e.
+      (let inner : keeps.was ≡ keeps.is = within keeps.front keeps.was keeps.is keeps.back
+      (sym keeps.splits_old ∙ (same-ids was (map id_of list)).0 e ∙ keeps.splits_new) in
+      lacks (subst (StandFor t middle) (inner ∙ sym keys) numbers.1)))
 
-  -- numbers of the keys in the middle stand between those of before
-  pub stand-between : (u : Numbers) (ns : List ℕ) → Grows t u → StandFor u ns (map id_of new.two)
-      → StandFor u (old.one ++ (ns ++ old.three)) (map id_of list)
-  stand-between u ns grows stands =
-      subst (StandFor u (old.one ++ (ns ++ old.three))) (sym keeps.splits_new)
-      (stand-both u old.one (ns ++ old.three) keeps.front (keeps.is ++ keeps.back)
-      (stand-on t u old.one keeps.front grows old.is_one)
-      (stand-both u ns old.three keeps.is keeps.back (subst (StandFor u ns) new.is_two stands)
-      (stand-on t u old.three keeps.back grows old.is_three)))
+  -- it is read, if other numbers stand between those of before
+  pub read-between : (u : Numbers) (ns after : List ℕ) → after ≡ front ++ (ns ++ back)
+      → Grows t u → StandFor u ns (map id_of changed) → (StandFor t middle (map id_of changed) → ⊥)
+      → StandFor u after (map id_of list) × (same_ids was (map id_of list) ≡ false)
+  read-between u ns after is grows stands lacks = (
+    rw (is, keeps.splits_new)
+        (stand-both u front (ns ++ back) keeps.front (keeps.is ++ keeps.back)
+        (stand-on t u front keeps.front grows numbers.0)
+        (stand-both u ns back keeps.is keeps.back (subst (StandFor u ns) keys stands)
+        (stand-on t u back keeps.back grows numbers.2))),
+    is-other lacks,
+  )
+
+  -- or if those of before stay around those that are read
+  pub read-anew : (u : Numbers) (ns after : List ℕ) → after ≡ ns
+      → ((before after : List Id) → StandFor t front before → StandFor t back after
+      → StandFor u ns (before ++ (map id_of changed ++ after)))
+      → (StandFor t middle (map id_of changed) → ⊥)
+      → StandFor u after (map id_of list) × (same_ids was (map id_of list) ≡ false)
+  read-anew u ns after is stands lacks = (
+    rw (is, keeps.splits_new)
+        (subst (λ (ks : List Id). StandFor u ns (keeps.front ++ (ks ++ keeps.back))) keys
+        (stands keeps.front keeps.back numbers.0 numbers.2)),
+    is-other lacks,
+  )
 
 -- ---- a number more or less
 

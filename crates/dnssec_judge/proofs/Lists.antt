@@ -1,10 +1,11 @@
 -- Lists: what a test finds among keys, and what all items of a list have that a loop has passed.
-use Rattle.std.proofs.Common.{◌≡◌, ◌+◌, ◌<◌, ◌≤◌, ℕ, Bool, List, get_or, length, subst, refl, take}
-use Rattle.std.proofs.lemmas.Bool.Decides.{Decides-like}
+use Rattle.std.proofs.Common.{◌≡◌, ◌∙◌, ◌+◌, ◌-◌, ◌<◌, ◌≤◌, ◌∷◌, [], ℕ, zero, suc, Bool, List}
+use Rattle.std.proofs.Common.{Option, None, Some, ap, arith, get_or, length, refl, subst, sym, take}
 use Rattle.std.proofs.lemmas.List.Folds.{Any-from_list_any, list_any-from_Any}
-use Rattle.std.proofs.lemmas.List.{take_all, Elements.All-contains, Elements.All-more}
-use Rattle.std.specs.{Bool.Decides, List.All, List.Contains, List.list_any}
-use Rattle.dnssec_run.{proofs.Since.same-id, specs.Origins.same_id, specs.Published.Id}
+use Rattle.std.proofs.lemmas.List.Elements.{All-contains, All-more}
+use Rattle.std.proofs.lemmas.{Bool.Decides.Decides-like, Option.slice_get_within, List.take_all}
+use Rattle.std.specs.{List.All, List.Contains, List.list_any, Prelude.slice_get, Bool.Decides}
+use Rattle.dnssec_run.{specs.Origins.same_id, proofs.Since.same-id, specs.Published.Id}
 use Rattle.dnssec_judge.specs.Chained.{is_in}
 
 -- a test finds a key that passes, if there is one
@@ -30,3 +31,20 @@ pub all-passed : {X : Type 0} (P : X → Type 0) (xs : List X) (i : ℕ) → len
     → All P (take i xs) → (x : X) → Contains xs x → P x
 all-passed P xs i le all x c =
     All-contains P xs x (subst (λ ys. All P ys) (take_all i xs le) all) c
+
+-- a last item that says as much as none may go
+pub without-last : {A B : Type 0} (read : Option A → B) (x : A) → read (Some x) ≡ read None
+    → (xs less : List A) (m : ℕ) → m ≡ length xs → less ≡ take (m - 1) xs
+    → slice_get xs (m - 1) ≡ Some x → (n : ℕ) → read (slice_get less n) ≡ read (slice_get xs n)
+without-last {A} {B} read x none xs less m is rest last n =
+    rw rest (by xs (m - 1)
+    (let lt = slice_get_within xs (m - 1) x last in omega (arith, is, lt)) last n)
+  where
+    by : (xs : List A) (i : ℕ) → suc i ≡ length xs → slice_get xs i ≡ Some x
+        → (n : ℕ) → read (slice_get (take i xs) n) ≡ read (slice_get xs n)
+    by [] i is last n = absurd (omega (arith, is))
+    by (y ∷ []) zero is last zero = sym none ∙ ap read (sym last)
+    by (y ∷ []) zero is last (suc n) = refl
+    by (y ∷ z ∷ xs) zero is last n = absurd (omega (arith, is))
+    by (y ∷ xs) (suc i) is last zero = refl
+    by (y ∷ xs) (suc i) is last (suc n) = by xs i (omega (arith, is)) last n

@@ -1,37 +1,17 @@
 -- Keys and their numbers: what a table has with a key more or less, and what lists of numbers stand
 -- for.
-use Rattle.std.proofs.Common.{drop, take-append-drop, ◌≡◌, ℕ, zero, suc, ◌<◌, true, false, refl}
-use Rattle.std.proofs.Common.{sym, ◌∙◌, ap, arith, subst, List, [], ◌∷◌, ◌++◌, length, map, take}
-use Rattle.std.proofs.Common.{Option, None, Some, inl, inr}
-use Rattle.std.proofs.lemmas.List.{take-map, drop-map, length-map, take_at, drop_at, map-append}
-use Rattle.std.specs.Prelude.{slice_get, ◌-◌, Bool, IsSome, if◌then◌else◌, nat_eq}
-use Rattle.std.proofs.lemmas.{Bool.cases_eq, Bool.cases_lt, Option.none-some, Option.same_Some}
-use Rattle.std.proofs.lemmas.Option.{slice_get-map, slice_get_past, slice_get_within}
-use Rattle.std.specs.{List.Contains, HashMap.get, Option.option_map}
+use Rattle.std.proofs.Common.{◌≡◌, ℕ, zero, suc, ◌<◌, true, false, refl, sym, ◌∙◌, ap, arith, subst}
+use Rattle.std.proofs.Common.{List, [], ◌∷◌, ◌++◌, length, map, Option, None, Some, inl, inr}
+use Rattle.std.proofs.lemmas.Option.{none-some, same_Some, slice_get-map, slice_get_past}
+use Rattle.std.specs.Prelude.{slice_get, Bool, IsSome, if◌then◌else◌, nat_eq}
+use Rattle.std.proofs.lemmas.{List.length-map, List.map-append, Bool.cases_eq, Bool.cases_lt}
+use Rattle.std.specs.{Option.option_map, List.Contains, HashMap.get}
 use Rattle.dnssec_run.specs.declared.record.PublishedKey.{PublishedKey}
 use Rattle.dnssec_run.specs.Published.{Id, id_of}
 use Rattle.dnssec_judge.specs.Numbers.{Grows, IsTable, StandFor, key_at, key_in}
 use Rattle.dnssec_judge.specs.declared.sets.numbers.Numbers.{Numbers}
 
 -- ---- keys at places
-
--- a last place without a key may go
-pub without-last : (keys less : List (Option PublishedKey)) (m : ℕ) → m ≡ length keys
-    → less ≡ take (m - 1) keys → slice_get keys (m - 1) ≡ Some None
-    → (n : ℕ) → key_in (slice_get less n) ≡ key_in (slice_get keys n)
-without-last keys less m is rest last n =
-    rw rest (by keys (m - 1)
-    (let lt = slice_get_within keys (m - 1) None last in omega (arith, is, lt)) last n)
-  where
-    by : (keys : List (Option PublishedKey)) (i : ℕ) → suc i ≡ length keys
-        → slice_get keys i ≡ Some None
-        → (n : ℕ) → key_in (slice_get (take i keys) n) ≡ key_in (slice_get keys n)
-    by [] i is last n = absurd (omega (arith, is))
-    by (k ∷ []) zero is last zero = ap key_in (sym last)
-    by (k ∷ []) zero is last (suc n) = refl
-    by (k ∷ l ∷ keys) zero is last n = absurd (omega (arith, is))
-    by (k ∷ keys) (suc i) is last zero = refl
-    by (k ∷ keys) (suc i) is last (suc n) = by keys i (omega (arith, is)) last n
 
 -- a key stands at a place of the list
 pub key-within : (keys : List (Option PublishedKey)) (n : ℕ) (k : Id)
@@ -147,47 +127,3 @@ stand-both t ns ms ks ls h g =
 pub stand-push : (t : Numbers) (ns : List ℕ) (ks : List Id) (n : ℕ) (k : Id) → StandFor t ns ks
     → key_at t n ≡ Some k → StandFor t (ns ++ n ∷ []) (ks ++ k ∷ [])
 stand-push t ns ks n k h e = stand-both t ns (n ∷ []) ks (k ∷ []) h (λ i. e i ∷ [])
-
--- ---- parts of lists
-
--- a list whose image falls into three parts falls into three parts
-pub record InThree {A B : Type 0} (f : A → B) (xs : List A) (ys zs us : List B) : Type 0 where
-  pub one : List A
-  pub two : List A
-  pub three : List A
-  pub whole : xs ≡ one ++ (two ++ three)
-  pub is_one : map f one ≡ ys
-  pub is_two : map f two ≡ zs
-  pub is_three : map f three ≡ us
-
-pub in-three : {A B : Type 0} (f : A → B) (xs : List A) (ys zs us : List B)
-    → map f xs ≡ ys ++ (zs ++ us) → InThree f xs ys zs us
-in-three {A} {B} f xs ys zs us e = record {
-  one = take (length ys) xs;
-  two = take (length zs) rest;
-  three = drop (length zs) rest;
-  whole = sym (take-append-drop (length ys) xs)
-      ∙ ap (λ more. take (length ys) xs ++ more) (sym (take-append-drop (length zs) rest));
-  is_one = sym (take-map f (length ys) xs) ∙ ap (take (length ys)) e
-      ∙ take_at ys (zs ++ us) (length ys) refl;
-  is_two = sym (take-map f (length zs) rest) ∙ ap (take (length zs)) rest-is
-      ∙ take_at zs us (length zs) refl;
-  is_three = sym (drop-map f (length zs) rest) ∙ ap (drop (length zs)) rest-is
-      ∙ drop_at zs us (length zs) refl;
-}
-  where
-    rest : List A
-    rest = drop (length ys) xs
-
-    rest-is : map f rest ≡ zs ++ us
-    rest-is = sym (drop-map f (length ys) xs) ∙ ap (drop (length ys)) e
-        ∙ drop_at ys (zs ++ us) (length ys) refl
-
--- the numbers of a list that falls into three parts fall into three parts
-pub stand-three : (t : Numbers) (ns : List ℕ) (whole ks ls ms : List Id)
-    → whole ≡ ks ++ (ls ++ ms) → StandFor t ns whole
-    → InThree (key_at t) ns (map Some ks) (map Some ls) (map Some ms)
-stand-three t ns whole ks ls ms is h =
-    in-three (key_at t) ns (map Some ks) (map Some ls) (map Some ms)
-    (h ∙ ap (map {B = Option Id} Some) is ∙ map-append {B = Option Id} Some ks (ls ++ ms)
-    ∙ ap (λ more. map {B = Option Id} Some ks ++ more) (map-append {B = Option Id} Some ls ms))

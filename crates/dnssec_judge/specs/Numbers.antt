@@ -1,14 +1,10 @@
 -- The keys of a record as small numbers: what numbers, and sets of them, stand for.
-use Rattle.std.specs.Prelude.{◌≡◌, ℕ, Bool, true, not, List, map, nat_eq, slice_get}
-use Rattle.std.specs.Prelude.{Option, None, Some, IsSome}
-use Rattle.std.specs.{HashMap.get, List.Contains, Option.option_map}
-use Rattle.dnssec_run.specs.declared.record.{Frame.Frame, PublishedKey.PublishedKey}
+use Rattle.std.specs.Prelude.{◌≡◌, ℕ, Bool, true, not, List, map, nat_eq, slice_get, Option, None}
+use Rattle.std.specs.{Prelude.Some, Prelude.IsSome, Option.option_map, List.Contains, HashMap.get}
+use Rattle.dnssec_run.specs.declared.{record.PublishedKey.PublishedKey, record.Frame.Frame}
+use Rattle.dnssec_run.specs.{Origins.CachedSet, Origins.same_ids, Published.Id, Published.id_of}
 use Rattle.dnssec_run.specs.Frames.{KeepsFrame}
-use Rattle.dnssec_run.specs.Origins.{CachedSet, same_ids}
-use Rattle.dnssec_run.specs.Published.{Id, id_of}
-use Rattle.dnssec_judge.specs.Bits.{has_bit}
-use Rattle.dnssec_judge.specs.Sets.{Numbered}
-use Rattle.dnssec_judge.specs.declared.sets.numbers.Numbers.{Numbers}
+use Rattle.dnssec_judge.specs.{declared.sets.numbers.Numbers.Numbers, Sets.Numbered, Bits.has_bit}
 
 -- what stands at a place: a key, or none
 abbrev pub key_in : Option (Option PublishedKey) → Option Id
@@ -28,6 +24,10 @@ pub record IsTable (t : Numbers) : Type 0 where
 abbrev pub Grows : Numbers → Numbers → Type 0
 Grows old new = (n : ℕ) (k : Id) → key_at old n ≡ Some k → key_at new n ≡ Some k
 
+-- what is done to a table leaves a table in which each key keeps its number
+abbrev pub Extends : Numbers → Numbers → Type 0
+Extends old new = IsTable old → IsTable new × Grows old new
+
 -- these are the numbers of the keys of a list, one by one
 abbrev pub StandFor : Numbers → List ℕ → List Id → Type 0
 StandFor t numbers keys = map (key_at t) numbers ≡ map Some keys
@@ -36,8 +36,7 @@ StandFor t numbers keys = map (key_at t) numbers ≡ map Some keys
 -- those of that one, and it is another
 pub record IsRead (old new : Numbers) (before after : List ℕ) (frame : Frame) (list : List Id)
     (is_other : Bool) : Type 0 where
-  pub table : IsTable old → IsTable new
-  pub grows : IsTable old → Grows old new
+  pub extends : Extends old new
   pub read : (was : List Id) → IsTable old → StandFor old before was → KeepsFrame frame was list →
       StandFor new after list × (same_ids was list ≡ not is_other)
 

@@ -56,13 +56,13 @@ watches-over es kind n t u w h means last = record {
   dues = h.dues;
   in_order = h.in_order;
   numbered = h.numbered;
+  means = means;
   spans = h.spans;
   begins = h.begins;
   goes_on = h.goes_on;
   keeps = h.keeps;
-  means = means;
-  came_at = h.came_at;
   last = last;
+  came_at = h.came_at;
 }
 
 -- numbers that are in no set of the window may be given to other keys

@@ -73,10 +73,10 @@ pub copy-knows : (es : List Entry) (j : Judge) (t : Numbers) (ds dnskey zone : W
     → IsSame j.ds ds → IsSame j.dnskey dnskey → IsSame j.zone zone → Knows es j
     → Knows es (record j { numbers = t; ds = ds; dnskey = dnskey; zone = zone })
 copy-knows es j t ds dnskey zone table same p q z h = record {
-  at = h.at;
-  steps = h.steps;
   verdict = h.verdict;
   follows = let f = h.follows in record {
+    at = f.at;
+    steps = f.steps;
     time = f.time;
     table = table f.table;
     ds = watches-same j.ds ds p es Ds (length es) t

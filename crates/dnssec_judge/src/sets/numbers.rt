@@ -3,7 +3,7 @@ ghost use Rattle.std.specs.Prelude.{◌↔◌, ◌≡◌, ◌≤◌, ◌++◌, �
 ghost use Rattle.std.specs.Prelude.{IfOk, IfErr, IfSome, List, OnOk, length, vec_len};
 ghost use Rattle.dnssec_base.specs.declared.error.Error.TheVariants.{OutOfMemory};
 ghost use Rattle.dnssec_run.specs.Published.{Id, id_of};
-ghost use Rattle.dnssec_judge.specs.Numbers.{Grows, IsRead, IsTable, StandFor, key_at};
+ghost use Rattle.dnssec_judge.specs.Numbers.{Extends, IsRead, IsTable, StandFor, key_at};
 
 use super::number_list::NumberList;
 use dnssec_keyset::Error;
@@ -135,8 +135,7 @@ impl Numbers {
         ensures ok { IfOk result (λ numbers. (ahead after : List Id) → IsTable self.old →
             StandFor self.old front.now ahead → StandFor self.old back.now after →
             StandFor self.new numbers.items (ahead ++ (map id_of changed.now ++ after))) }
-        ensures table { OnOk result (IsTable self.old → IsTable self.new) }
-        ensures grows { OnOk result (IsTable self.old → Grows self.old self.new) }
+        ensures extends { OnOk result (Extends self.old self.new) }
         ensures err { IfErr result (λ e. e ≡ OutOfMemory) }
     {
         let mut numbers = Vec::from_slice(alloc, front)?;
@@ -181,8 +180,7 @@ impl Numbers {
     /// The number of a key. It gets one if it has none.
     pub(crate) fn number_of(&mut self, key: &PublishedKey) -> Result<usize, Error>
         ensures ok { IfOk result (λ n. key_at self.new n ≡ Some (id_of key.now)) }
-        ensures table { OnOk result (IsTable self.old → IsTable self.new) }
-        ensures grows { OnOk result (IsTable self.old → Grows self.old self.new) }
+        ensures extends { OnOk result (Extends self.old self.new) }
         ensures err { IfErr result (λ e. e ≡ OutOfMemory) }
     {
         if let Some(number) = self.find(key) {

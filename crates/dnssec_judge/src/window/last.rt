@@ -4,7 +4,7 @@ ghost use Rattle.dnssec_base.specs.declared.error.Error.TheVariants.{OutOfMemory
 ghost use Rattle.dnssec_run.specs.Frames.{KeepsSet};
 ghost use Rattle.dnssec_run.specs.Origins.{CachedSet};
 ghost use Rattle.dnssec_run.specs.Published.{id_of};
-ghost use Rattle.dnssec_judge.specs.Numbers.{Grows, IsTable};
+ghost use Rattle.dnssec_judge.specs.Numbers.{Extends, IsTable};
 ghost use Rattle.dnssec_judge.specs.Inner.Window.{IsOther, IsSameLast, StandForSet};
 
 use crate::sets::{NumberList, Numbers, OpenSet};
@@ -52,8 +52,7 @@ impl Last {
         signers: &[PublishedKey],
         frames: (Frame, Frame),
     ) -> Result<Option<OpenSet>, Error>
-        ensures table { OnOk result (IsTable numbers.old → IsTable numbers.new) }
-        ensures grows { OnOk result (IsTable numbers.old → Grows numbers.old numbers.new) }
+        ensures extends { OnOk result (Extends numbers.old numbers.new) }
         ensures set { OnOk result ((before : CachedSet) → IsTable numbers.old →
             StandForSet numbers.old self.old before →
             KeepsSet frames before (map id_of keys.now, map id_of signers.now) →

@@ -1,6 +1,5 @@
 -- The same words, except words at the end that are 0.
-use Rattle.std.proofs.Common.{◌≡◌, ℕ}
-use Rattle.std.specs.Prelude.{get_or, vec_len}
+use Rattle.std.{specs.Prelude.get_or, specs.Prelude.vec_len, proofs.Common.◌≡◌, proofs.Common.ℕ}
 use Rattle.dnssec_judge.proofs.sets.bits.Bits.trim.Given as goal
 
 abbrev pub invariant-loop-self : goal.invariant-loop-self

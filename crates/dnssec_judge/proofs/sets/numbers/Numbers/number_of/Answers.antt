@@ -21,12 +21,14 @@ returns c =
     ∙ c.in_ok-insert.ensures.updates.0 p) in
     record {
       ok = here;
-      table = λ t. table-grown old new number key none here others
-          (λ n e. c.find.ensures.none c.in_default.is t n e)
-          (λ p h. subst IsSome (sym (at p)) (some-update (nat_eq key.1 p) number
-          (get nat_eq old.by_added p) h))
-          (subst IsSome (sym (ap (λ m. get nat_eq m key.1) c.in_ok-write.ensures.kept
-          ∙ c.in_ok-insert.ensures.updates.1)) refl) t;
-      grows = λ t. grown old new number key none here others;
+      extends = λ t. (
+        table-grown old new number key none here others
+            (λ n e. c.find.ensures.none c.in_default.is t n e)
+            (λ p h. subst IsSome (sym (at p)) (some-update (nat_eq key.1 p) number
+            (get nat_eq old.by_added p) h))
+            (subst IsSome (sym (ap (λ m. get nat_eq m key.1) c.in_ok-write.ensures.kept
+            ∙ c.in_ok-insert.ensures.updates.1)) refl) t,
+        grown old new number key none here others,
+      );
       err = tt;
     }

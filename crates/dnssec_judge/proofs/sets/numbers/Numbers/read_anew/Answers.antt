@@ -1,11 +1,10 @@
 -- Each key has its number.
-use Rattle.std.proofs.Common.{◌≡◌, ◌∙◌, ◌+◌, ◌++◌, ◌∷◌, ap, map, sym, List, ℕ, subst, take}
-use Rattle.std.proofs.Common.{[], rules, ◌<◌, get_or, length, append_assoc, append-nil}
+use Rattle.std.proofs.Common.{◌≡◌, ◌∙◌, ◌+◌, ◌++◌, ◌∷◌, ap, map, sym, List, ℕ, subst, take, []}
+use Rattle.std.proofs.Common.{rules, ◌<◌, get_or, length, append_assoc, append-nil}
 use Rattle.std.proofs.lemmas.List.{map-append, take_all, take_more}
-use Rattle.dnssec_run.specs.declared.record.PublishedKey.{PublishedKey}
-use Rattle.dnssec_run.specs.Published.{id_of}
-use Rattle.dnssec_judge.specs.Numbers.{StandFor}
+use Rattle.dnssec_run.specs.{declared.record.PublishedKey.PublishedKey, Published.id_of}
 use Rattle.dnssec_judge.proofs.Table.{stand-both, stand-on, stand-push}
+use Rattle.dnssec_judge.specs.Numbers.{StandFor}
 use Rattle.dnssec_judge.proofs.sets.numbers.Numbers.read_anew.Goals as goal
 
 -- the ids of the keys of a list with one more
@@ -30,20 +29,20 @@ loop-key-preserved c t =
     let so = c.loop-key.invariant t in
     let list = c.args.changed.now in let i = c.loop-key.key-index in
     let old = c.loop-key.self in let new = c.number_of.new.self in
-    let grows = c.in_ok-number.ensures.grows so.0 in
+    let extends = c.in_ok-number.ensures.extends so.0 in
     let ids = map id_of (take i list) in
     let id = id_of c.key-item.result in
     let pushed : c.push.new.self.items ≡ c.loop-key.numbers.items ++ c.in_ok-number.number ∷ [] =
     search rules in (
-      c.in_ok-number.ensures.table so.0,
-      λ n k e. grows n k (so.1 n k e),
+      extends.0,
+      λ n k e. extends.1 n k (so.1 n k e),
       λ ahead h. subst (λ (ns : List ℕ). StandFor new ns (ahead ++ map id_of (take (i + 1) list)))
           (sym pushed) (subst (StandFor new (c.loop-key.numbers.items
           ++ c.in_ok-number.number ∷ []))
           (append_assoc ahead ids (id ∷ []) ∙ ap (λ more. ahead ++ more)
           (sym (one-more list i c.key-item.result c.loop-key-test.true c.key-item.is)))
           (stand-push new c.loop-key.numbers.items (ahead ++ ids) c.in_ok-number.number id
-          (stand-on old new c.loop-key.numbers.items (ahead ++ ids) grows (so.2 ahead h))
+          (stand-on old new c.loop-key.numbers.items (ahead ++ ids) extends.1 (so.2 ahead h))
           c.in_ok-number.ensures.ok)),
     )
 
