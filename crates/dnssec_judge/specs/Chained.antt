@@ -1,8 +1,7 @@
 -- The chain of trust, as tests of lists of keys.
 use Rattle.std.specs.Prelude.{Bool, true, false, ◌&&◌, List, [], ◌∷◌}
 use Rattle.std.specs.List.{list_any}
-use Rattle.dnssec_run.specs.Origins.{same_id}
-use Rattle.dnssec_run.specs.Published.{Id}
+use Rattle.dnssec_run.specs.{Origins.same_id, Published.Id}
 
 abbrev pub is_in : List Id → Id → Bool
 is_in ids k = list_any (λ other. same_id other k) ids

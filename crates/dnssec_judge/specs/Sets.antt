@@ -1,10 +1,9 @@
 -- A set that caches may hold, by the numbers of its keys, and whether two or three of them hold in
 -- a chain.
 use Rattle.std.specs.Prelude.{◌&&◌, ◌||◌, ℕ, Bool, List}
-use Rattle.dnssec_judge.specs.declared.sets.held.OpenSet.{OpenSet}
-use Rattle.dnssec_judge.specs.declared.window.pairs.Link.{Link}
 use Rattle.dnssec_judge.specs.declared.window.pairs.Link.TheVariants.{Named, Signed}
 use Rattle.dnssec_judge.specs.Bits.{has_none, meet, meet_three, words_of}
+use Rattle.dnssec_judge.specs.declared.{sets.held.OpenSet.OpenSet, window.pairs.Link.Link}
 
 -- bits for the keys of a set, and for its signers
 abbrev pub Numbered : Type 0

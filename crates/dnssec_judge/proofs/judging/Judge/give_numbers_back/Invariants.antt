@@ -1,7 +1,6 @@
 -- Numbers in use stay with their keys.
 use Rattle.std.proofs.Common.{◌≡◌, ℕ, true}
-use Rattle.dnssec_judge.specs.Numbers.{IsTable, key_at}
-use Rattle.dnssec_judge.specs.Judge.{is_in_use}
+use Rattle.dnssec_judge.specs.{Numbers.IsTable, Numbers.key_at, Judge.is_in_use}
 use Rattle.dnssec_judge.proofs.judging.Judge.give_numbers_back.Given as goal
 
 abbrev pub invariant-loop-number : goal.invariant-loop-number

@@ -1,12 +1,10 @@
 -- Without frames any set may follow any other.
 use Rattle.std.proofs.Common.{List, Option, None, Some}
 use Rattle.std.specs.Option.{option_map}
-use Rattle.dnssec_run.specs.declared.record.Frames.{Frames}
-use Rattle.dnssec_run.specs.declared.record.{Entry.Entry, Published.Published}
+use Rattle.dnssec_run.specs.declared.record.{Frames.Frames, Published.Published}
+use Rattle.dnssec_run.specs.{Safe.Ds, Safe.Dnskey, Safe.ZoneSigners, declared.record.Entry.Entry}
+use Rattle.dnssec_run.{specs.Origins.CachedSet, specs.Origins.set_in, proofs.Around.keeps-none}
 use Rattle.dnssec_run.specs.Frames.{no_frame}
-use Rattle.dnssec_run.specs.Origins.{CachedSet, set_in}
-use Rattle.dnssec_run.specs.Safe.{Ds, Dnskey, ZoneSigners}
-use Rattle.dnssec_run.proofs.Around.{keeps-none}
 use Rattle.dnssec_judge.specs.{Inner.Window.KeepsNext, Judge.KeepsLast}
 use Rattle.dnssec_judge.proofs.judging.Judge.note.Goals as goal
 

@@ -1,8 +1,7 @@
 -- It is in each set.
-use Rattle.std.proofs.Common.{ap, subst, sym}
-use Rattle.std.proofs.lemmas.List.Elements.{All-contains}
-use Rattle.dnssec_judge.specs.Inner.Window.{IsHelped, IsIn}
+use Rattle.std.proofs.{lemmas.List.Elements.All-contains, Common.ap, Common.subst, Common.sym}
 use Rattle.dnssec_judge.specs.declared.{sets.held.OpenSet.OpenSet, window.holding.Many.Many}
+use Rattle.dnssec_judge.specs.Inner.Window.{IsHelped, IsIn}
 use Rattle.dnssec_judge.proofs.window.Window.common.Goals as goal
 
 pub returns-in-Some : goal.returns-in-Some

@@ -1,8 +1,7 @@
 -- The new sets are those from a place on.
-use Rattle.std.proofs.Common.{◌≡◌, ◌∙◌, ◌-◌, ◌+◌, ◌≤◌, ap, arith, get_or, inl, inr, List, ℕ}
-use Rattle.std.proofs.Common.{drop, subst, sym}
-use Rattle.std.specs.List.{Contains}
-use Rattle.std.proofs.lemmas.{Bool.cases_lt, Bool.ltb-true, List.get_or-drop, List.length-drop}
+use Rattle.std.proofs.Common.{◌≡◌, ◌∙◌, ◌-◌, ◌+◌, ◌≤◌, ap, arith, get_or, inl, inr, List, ℕ, drop}
+use Rattle.std.proofs.lemmas.{List.get_or-drop, List.length-drop, Bool.cases_lt, Bool.ltb-true}
+use Rattle.std.{proofs.Common.subst, proofs.Common.sym, specs.List.Contains}
 use Rattle.dnssec_judge.specs.declared.sets.held.OpenSet.{OpenSet}
 use Rattle.dnssec_judge.proofs.window.Window.new_sets.Goals as goal
 

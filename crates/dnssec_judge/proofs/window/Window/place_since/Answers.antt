@@ -1,10 +1,9 @@
 -- The first set that came at a position or later came then, or none did.
-use Rattle.std.proofs.Common.{◌≡◌, ◌∙◌, ◌≤◌, ap, arith, get_or, length, List}
-use Rattle.std.{proofs.Common.Some, proofs.Common.refl, proofs.Common.sym, specs.Prelude.slice_get}
+use Rattle.std.proofs.Common.{◌≡◌, ◌∙◌, ◌≤◌, ap, arith, get_or, length, List, Some, refl, sym}
 use Rattle.std.proofs.lemmas.Option.{get_or_from_slice_get, slice_get_read, slice_get_within}
-use Rattle.dnssec_judge.specs.declared.sets.held.OpenSet.{OpenSet}
+use Rattle.std.specs.Prelude.{slice_get}
 use Rattle.dnssec_judge.proofs.OneByOne.Ages.{found-since, none-since}
-use Rattle.dnssec_judge.specs.Inner.Window.{came_since}
+use Rattle.dnssec_judge.specs.{declared.sets.held.OpenSet.OpenSet, Inner.Window.came_since}
 use Rattle.dnssec_judge.proofs.window.Window.place_since.Goals as goal
 
 pub returns-in-Some-clause-some : goal.returns-in-Some-clause-some

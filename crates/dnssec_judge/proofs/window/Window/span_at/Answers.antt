@@ -1,14 +1,11 @@
 -- Each span has its set.
-use Rattle.std.proofs.Common.{◌≡◌, ◌∙◌, ap, arith, length, List, Option, refl, Some}
-use Rattle.std.proofs.Common.{subst, sym}
-use Rattle.std.specs.{Option.option_map, Prelude.slice_get}
 use Rattle.std.proofs.lemmas.Option.{none-some, same_Some, slice_get-map, slice_get_read}
-use Rattle.std.proofs.lemmas.Option.{slice_get_within}
-use Rattle.dnssec_judge.proofs.OneByOne.Ages.{found-since}
-use Rattle.dnssec_judge.specs.{Sets.set_of, declared.sets.held.OpenSet.OpenSet}
-use Rattle.dnssec_judge.specs.declared.window.{Span.Span}
-use Rattle.dnssec_judge.specs.Inner.Window.{IsKept, came_since, lifted, set_of_any}
-use Rattle.dnssec_judge.specs.Inner.Window.{set_since, stretch}
+use Rattle.std.proofs.Common.{◌≡◌, ◌∙◌, ap, arith, length, List, Option, refl, Some, subst, sym}
+use Rattle.std.{proofs.lemmas.Option.slice_get_within, specs.Option.option_map}
+use Rattle.std.specs.Prelude.{slice_get}
+use Rattle.dnssec_judge.specs.Inner.Window.{IsKept, came_since, lifted, set_of_any, set_since}
+use Rattle.dnssec_judge.{specs.declared.sets.held.OpenSet.OpenSet, proofs.OneByOne.Ages.found-since}
+use Rattle.dnssec_judge.specs.{declared.window.Span.Span, Inner.Window.stretch, Sets.set_of}
 use Rattle.dnssec_judge.proofs.window.Window.span_at.Goals as goal
 
 pub returns-in_err-held : goal.returns-in_err-held

@@ -13,38 +13,38 @@ seek at d zone = with_keys at d.at (set_of d.set.now) zone.floor (stretches_of z
 
 pub returns-in_default : goal.returns-in_default
 returns-in_default c n k m =
-    let d = c.args.ds.now in let zone = c.args.zone.now in
-    done (seek c.args.at d zone) c.args.dnskey.now c.loop-place.place
-    (c.loop-place.invariant n k m) (c.in_default.ensures n k)
+    done (seek c.args.at c.args.ds.now c.args.zone.now)
+    c.args.dnskey.now c.loop-place.place (c.loop-place.invariant n k m)
+    (c.in_default.ensures n k)
 
 pub loop-place-preserved-then-hold_below : goal.loop-place-preserved-then-hold_below
 loop-place-preserved-then-hold_below c n k m =
-    let d = c.args.ds.now in let zone = c.args.zone.now in let f = c.in-Some.keys in
-    miss (seek c.args.at d zone) c.args.dnskey.now c.loop-place.place
-    (c.loop-place.invariant n k m) f (c.in-Some.ensures n k)
-    (signers-held n c.args.at c.args.dnskey.now zone k m (set_of d.set.now) d.at f.at
-    (set_of f.set.now) (sym c.holds_with_keys.ensures ∙ c.if-holds_with_keys.true)
+    let d = c.args.ds.now in let f = c.in-Some.keys in
+    miss (seek c.args.at c.args.ds.now c.args.zone.now)
+    c.args.dnskey.now c.loop-place.place (c.loop-place.invariant n k m) f
+    (c.in-Some.ensures n k) (signers-held n c.args.at c.args.dnskey.now c.args.zone.now k m
+    (set_of d.set.now) d.at f.at (set_of f.set.now)
+    (sym c.holds_with_keys.ensures ∙ c.if-holds_with_keys.true)
     (sym (c.hold_below.ensures n m) ∙ c.if-hold_below.true))
 
 pub returns-in-Some-find_zone : goal.returns-in-Some-find_zone
 returns-in-Some-find_zone c n k m =
-    let d = c.args.ds.now in let zone = c.args.zone.now in let f = c.in-Some.keys in
-    hit (seek c.args.at d zone) c.args.dnskey.now c.loop-place.place
-    (c.loop-place.invariant n k m) f (c.in-Some.ensures n k)
-    _ (ap (option_map (broken c.args.at d.at f.at))
+    let f = c.in-Some.keys in
+    hit (seek c.args.at c.args.ds.now c.args.zone.now)
+    c.args.dnskey.now c.loop-place.place (c.loop-place.invariant n k m) f
+    (c.in-Some.ensures n k) _ (ap (option_map (broken c.args.at c.args.ds.now.at f.at))
     (sym (c.find_zone.ensures n m) ∙ c.in-Some-find_zone.is))
 
 pub loop-place-preserved : goal.loop-place-preserved
 loop-place-preserved c n k m =
-    let d = c.args.ds.now in let zone = c.args.zone.now in let f = c.in-Some.keys in
-    miss (seek c.args.at d zone) c.args.dnskey.now c.loop-place.place
-    (c.loop-place.invariant n k m) f (c.in-Some.ensures n k)
-    (ap (option_map (broken c.args.at d.at f.at))
+    let f = c.in-Some.keys in
+    miss (seek c.args.at c.args.ds.now c.args.zone.now)
+    c.args.dnskey.now c.loop-place.place (c.loop-place.invariant n k m) f
+    (c.in-Some.ensures n k) (ap (option_map (broken c.args.at c.args.ds.now.at f.at))
     (sym (c.find_zone.ensures n m) ∙ c.in_default-find_zone.is))
 
 pub returns : goal.returns
 returns c n k m =
-    let d = c.args.ds.now in let zone = c.args.zone.now in
-    past (seek c.args.at d zone) c.args.dnskey.now c.loop-place.place
-    (c.loop-place.invariant n k m)
+    past (seek c.args.at c.args.ds.now c.args.zone.now)
+    c.args.dnskey.now c.loop-place.place (c.loop-place.invariant n k m)
     (omega (arith, c.len-place-end.ensures, c.loop-place-test.false))

@@ -1,7 +1,6 @@
 -- Words past the last are 0 as before.
 use Rattle.std.proofs.Common.{arith, ◌≤◌, ◌-◌, ◌++◌, ◌∙◌, ap, length, List, take, ℕ}
-use Rattle.std.proofs.Math.ListN.{replicate}
-use Rattle.std.specs.Prelude.{get_or, vec_len}
+use Rattle.std.{specs.Prelude.get_or, specs.Prelude.vec_len, proofs.Math.ListN.replicate}
 use Rattle.dnssec_judge.proofs.Words.{filled}
 use Rattle.dnssec_judge.proofs.sets.bits.Bits.fill_up.Goals as goal
 

@@ -1,7 +1,6 @@
 -- A word that isn't 0 has a number.
 use Rattle.std.proofs.Common.{arith, suc}
-use Rattle.dnssec_judge.specs.Bits.{words_of}
-use Rattle.dnssec_judge.proofs.Words.{some-number}
+use Rattle.dnssec_judge.{proofs.Words.some-number, specs.Bits.words_of}
 use Rattle.dnssec_judge.proofs.sets.bits.Bits.is_empty.Goals as goal
 
 pub returns-then-self-eq0-clause-no : goal.returns-then-self-eq0-clause-no

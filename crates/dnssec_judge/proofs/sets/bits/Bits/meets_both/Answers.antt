@@ -1,9 +1,8 @@
 -- The first words have a bit in common, or others have.
-use Rattle.std.proofs.Common.{arith, suc}
-use Rattle.std.proofs.lemmas.{Nat.and_le_l}
+use Rattle.std.proofs.{lemmas.Nat.and_le_l, Common.arith, Common.suc}
 use Rattle.std.specs.Int.Bits.{bit_and}
-use Rattle.dnssec_judge.specs.Bits.{words_of}
 use Rattle.dnssec_judge.proofs.Words.{all-apart, all-shared, none-of-all}
+use Rattle.dnssec_judge.specs.Bits.{words_of}
 use Rattle.dnssec_judge.proofs.sets.bits.Bits.meets_both.Goals as goal
 
 pub returns-then-self-one-ne0-clause-yes : goal.returns-then-self-one-ne0-clause-yes

@@ -1,13 +1,12 @@
 -- One bit of one word is cleared.
 use Rattle.std.proofs.Common.{◌≡◌, ◌∙◌, ◌<◌, ◌+◌, ◌∷◌, Bool, ap, arith, false, get_or, length, refl}
-use Rattle.std.proofs.Common.{suc, sym, true, zero, List, ℕ, ◌%◌, ◌/◌}
-use Rattle.std.proofs.lemmas.{Bool.eqb-true, List.get_or_past, Nat.and_le_l}
-use Rattle.std.proofs.lemmas.Bool.Decides.{nat_tests}
 use Rattle.std.proofs.lemmas.Nat.Bits.{bit_at_clear_other, bit_at_clear_same}
-use Rattle.std.specs.{Int.bit_not, Int.w64, Int.Bits.bit_and}
+use Rattle.std.proofs.Common.{suc, sym, true, zero, List, ℕ, ◌%◌, ◌/◌}
 use Rattle.std.specs.Prelude.{◌^◌, ◌*◌, if◌then◌else◌, nat_eq, set}
-use Rattle.dnssec_judge.specs.Bits.{has_bit, word_at, words_of}
+use Rattle.std.proofs.lemmas.{Bool.Decides.nat_tests, List.get_or_past, Bool.eqb-true, Nat.and_le_l}
+use Rattle.std.specs.Int.{bit_not, w64, Bits.bit_and}
 use Rattle.dnssec_judge.proofs.Words.{first-written, written-words}
+use Rattle.dnssec_judge.specs.Bits.{has_bit, word_at, words_of}
 use Rattle.dnssec_judge.proofs.sets.bits.Bits.take_out.Goals as goal
 
 -- the word of a number without its bit

@@ -1,9 +1,8 @@
 -- The set has one number more.
-use Rattle.std.proofs.Common.{◌≡◌, ◌∙◌, ◌∷◌, [], Bool, List, ap, false, refl, rules, suc, sym}
-use Rattle.std.proofs.Common.{true, zero, ℕ}
-use Rattle.dnssec_judge.specs.Bits.{has_bit}
-use Rattle.std.specs.List.{insert, list_any}
+use Rattle.std.proofs.Common.{◌≡◌, ◌∙◌, ◌∷◌, [], Bool, List, ap, false, refl, rules, suc, sym, true}
 use Rattle.std.specs.Prelude.{◌||◌, if◌then◌else◌, nat_eq}
+use Rattle.std.{specs.List.insert, specs.List.list_any, proofs.Common.zero, proofs.Common.ℕ}
+use Rattle.dnssec_judge.specs.Bits.{has_bit}
 use Rattle.dnssec_judge.proofs.sets.number_list.NumberList.insert.Goals as goal
 
 any-first : (b c : Bool) → (b || c) ≡ (if b then true else c)

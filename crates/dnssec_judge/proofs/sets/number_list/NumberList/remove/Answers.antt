@@ -1,9 +1,8 @@
 -- The set has one number less, unless it stands elsewhere too.
 use Rattle.std.proofs.Common.{◌≡◌, ◌∙◌, ◌∷◌, [], ◌<◌, Bool, List, ap, arith, false, length, refl}
-use Rattle.std.proofs.Common.{suc, sym, true, zero, ℕ}
-use Rattle.std.specs.List.{list_any, remove}
-use Rattle.std.proofs.lemmas.Bool.{eqb-true}
 use Rattle.std.specs.Prelude.{◌||◌, get_or, if◌then◌else◌, nat_eq}
+use Rattle.std.proofs.Common.{suc, sym, true, zero, ℕ}
+use Rattle.std.{specs.List.list_any, specs.List.remove, proofs.lemmas.Bool.eqb-true}
 use Rattle.dnssec_judge.proofs.sets.number_list.NumberList.remove.Goals as goal
 
 swap : (a b c : Bool) → (a || (b || c)) ≡ (b || (a || c))

@@ -1,6 +1,5 @@
 -- All numbers are those of the keys if and only if those that are left are.
-use Rattle.std.proofs.Common.{drop, map}
-use Rattle.std.specs.Prelude.{◌↔◌}
+use Rattle.std.{proofs.Common.drop, proofs.Common.map, specs.Prelude.◌↔◌}
 use Rattle.dnssec_run.specs.Published.{id_of}
 use Rattle.dnssec_judge.specs.Numbers.{StandFor}
 use Rattle.dnssec_judge.proofs.sets.numbers.Numbers.are.Given as goal

@@ -1,6 +1,5 @@
 -- The same keys stand at the same places.
-use Rattle.std.proofs.Common.{◌≡◌, ℕ}
-use Rattle.std.specs.Prelude.{vec_len}
+use Rattle.std.{specs.Prelude.vec_len, proofs.Common.◌≡◌, proofs.Common.ℕ}
 use Rattle.dnssec_judge.specs.Numbers.{key_at}
 use Rattle.dnssec_judge.proofs.sets.numbers.Numbers.drop_last.Given as goal
 

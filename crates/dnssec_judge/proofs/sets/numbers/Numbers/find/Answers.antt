@@ -1,8 +1,7 @@
 -- A key that has a number is known by the position of its add.
+use Rattle.std.proofs.lemmas.Option.{none-some, slice_get_past}
 use Rattle.std.proofs.Common.{◌∙◌, ap, sym, arith, inl, inr}
-use Rattle.std.proofs.lemmas.{Bool.cases_lt, Bool.false≢true, Option.none-some}
-use Rattle.std.proofs.lemmas.Option.{slice_get_past}
-use Rattle.std.specs.Prelude.{is_some}
+use Rattle.std.{proofs.lemmas.Bool.cases_lt, proofs.lemmas.Bool.false≢true, specs.Prelude.is_some}
 use Rattle.dnssec_run.specs.Published.{id_of}
 use Rattle.dnssec_judge.specs.Numbers.{key_in}
 use Rattle.dnssec_judge.proofs.sets.numbers.Numbers.find.Goals as goal

@@ -1,10 +1,8 @@
 -- The key at the place is the same, or another, or there is none.
+use Rattle.std.proofs.lemmas.Option.{none-some, same_Some, slice_get_past, slice_get_read}
 use Rattle.std.proofs.Common.{◌∙◌, ap, arith, length, refl, sym, Some}
-use Rattle.std.proofs.lemmas.{Bool.true≢false, Option.none-some, Option.same_Some}
-use Rattle.std.proofs.lemmas.Option.{slice_get_past, slice_get_read}
-use Rattle.std.specs.Option.{option_map}
-use Rattle.dnssec_run.proofs.Since.{same-id}
-use Rattle.dnssec_run.specs.Published.{id_of}
+use Rattle.std.{proofs.lemmas.Bool.true≢false, specs.Option.option_map}
+use Rattle.dnssec_run.{specs.Published.id_of, proofs.Since.same-id}
 use Rattle.dnssec_judge.specs.Numbers.{key_in}
 use Rattle.dnssec_judge.proofs.sets.numbers.Numbers.is.Goals as goal
 

@@ -1,14 +1,13 @@
 -- Each key that has a number is known anew.
-use Rattle.std.proofs.Common.{◌≡◌, ◌∙◌, ap, sym, arith, inl, inr, length, refl, subst, ℕ}
-use Rattle.std.proofs.Common.{List, Option, Some}
-use Rattle.std.proofs.lemmas.{Bool.cases_lt, Option.none-some, Option.same_Some}
-use Rattle.std.proofs.lemmas.Option.{slice_get_read}
-use Rattle.std.specs.{HashMap.get, Option.option_map}
-use Rattle.std.specs.Prelude.{IsSome, nat_eq, slice_get}
-use Rattle.dnssec_run.specs.Published.{Id, id_of}
+use Rattle.std.proofs.Common.{◌≡◌, ◌∙◌, ap, sym, arith, inl, inr, length, refl, subst, ℕ, List}
+use Rattle.std.proofs.lemmas.Option.{none-some, same_Some, slice_get_read}
+use Rattle.std.specs.{Prelude.IsSome, Prelude.nat_eq, Prelude.slice_get, Option.option_map}
+use Rattle.std.proofs.{lemmas.Bool.cases_lt, Common.Option, Common.Some}
+use Rattle.std.specs.HashMap.{get}
 use Rattle.dnssec_run.specs.declared.record.PublishedKey.{PublishedKey}
-use Rattle.dnssec_judge.specs.Numbers.{key_in}
+use Rattle.dnssec_run.specs.Published.{Id, id_of}
 use Rattle.dnssec_judge.proofs.Table.{key-within, some-update, table-from}
+use Rattle.dnssec_judge.specs.Numbers.{key_in}
 use Rattle.dnssec_judge.proofs.sets.numbers.Numbers.renew.Goals as goal
 
 pub loop-number-preserved : goal.loop-number-preserved

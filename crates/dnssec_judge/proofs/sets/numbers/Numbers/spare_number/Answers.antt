@@ -1,6 +1,5 @@
 -- After the last place stands no key.
-use Rattle.std.proofs.Common.{ap, arith}
-use Rattle.std.proofs.lemmas.Option.{slice_get_past}
+use Rattle.std.proofs.{lemmas.Option.slice_get_past, Common.ap, Common.arith}
 use Rattle.dnssec_judge.specs.Numbers.{key_in}
 use Rattle.dnssec_judge.proofs.sets.numbers.Numbers.spare_number.Goals as goal
 

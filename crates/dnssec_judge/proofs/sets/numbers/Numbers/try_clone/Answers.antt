@@ -1,13 +1,11 @@
 -- The same keys stand at the same places, and are known.
 use Rattle.std.proofs.Common.{◌≡◌, ◌∙◌, ap, map, sym, List, Option, subst, ℕ}
 use Rattle.std.proofs.lemmas.List.{Elements.same_from_all_zip, take_all}
-use Rattle.std.specs.{Map.lookup, Option.option_map}
-use Rattle.std.specs.Prelude.{IsSome, nat_eq}
-use Rattle.dnssec_run.specs.declared.record.PublishedKey.{PublishedKey}
-use Rattle.dnssec_run.specs.Published.{id_of}
-use Rattle.dnssec_judge.specs.{Numbers.key_in, declared.sets.numbers.Numbers.Numbers}
-use Rattle.std.specs.Prelude.{slice_get}
-use Rattle.dnssec_judge.proofs.Table.{same-keys, table-from}
+use Rattle.std.specs.{Prelude.IsSome, Prelude.nat_eq, Prelude.slice_get, Option.option_map}
+use Rattle.std.specs.Map.{lookup}
+use Rattle.dnssec_run.specs.{declared.record.PublishedKey.PublishedKey, Published.id_of}
+use Rattle.dnssec_judge.specs.declared.sets.numbers.Numbers.{Numbers}
+use Rattle.dnssec_judge.{proofs.Table.same-keys, proofs.Table.table-from, specs.Numbers.key_in}
 use Rattle.dnssec_judge.proofs.sets.numbers.Numbers.try_clone.Goals as goal
 
 pub returns : goal.returns

@@ -1,6 +1,5 @@
 -- The copies so far.
-use Rattle.std.proofs.Common.{◌≡◌, map, take}
-use Rattle.std.specs.Option.{option_map}
+use Rattle.std.{proofs.Common.◌≡◌, proofs.Common.map, proofs.Common.take, specs.Option.option_map}
 use Rattle.dnssec_run.specs.Published.{id_of}
 use Rattle.dnssec_judge.proofs.sets.numbers.Numbers.try_clone.Given as goal
 

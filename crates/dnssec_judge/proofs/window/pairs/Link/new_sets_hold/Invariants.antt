@@ -1,8 +1,7 @@
 -- The new sets so far passed the test.
 use Rattle.std.proofs.Common.{◌≡◌, take, true, ℕ}
 use Rattle.std.specs.List.{All}
-use Rattle.dnssec_judge.specs.Sets.{holds, set_of}
-use Rattle.dnssec_judge.specs.Inner.Window.{Keeps, all_in}
+use Rattle.dnssec_judge.specs.{Inner.Window.Keeps, Inner.Window.all_in, Sets.holds, Sets.set_of}
 use Rattle.dnssec_judge.proofs.window.pairs.Link.new_sets_hold.Given as goal
 
 abbrev pub invariant-loop-one : goal.invariant-loop-one
