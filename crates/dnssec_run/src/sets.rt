@@ -268,9 +268,9 @@ fn key_at<'a>(
 }
 
 /// Renews the sets that a call has touched, and says whether there are any. After a setter it looks
-/// only at the key that was set, and says whether they have changed. After any other call it reads
-/// all keys with their positions, in one walk in the order of the references, and uses again what
-/// was published before. Notes the frames of the changes.
+/// only at the key that was set, and says whether they have changed. Notes the frames of the
+/// changes.
+#[inline(always)]
 pub(crate) fn renew(
     alloc: Global,
     keyset: &KeySet,
@@ -299,6 +299,29 @@ pub(crate) fn renew(
     if let Some(reference) = only {
         return renew_key(alloc, keyset, added, sets, touched, reference, frames);
     }
+    renew_all(alloc, keyset, added, order, sets, touched, frames)?;
+    Ok(true)
+}
+
+/// Renews the sets that a call has touched: reads all keys with their positions, in one walk in the
+/// order of the references, and uses again what was published before. Notes the frames of the
+/// changes.
+// Out of line, so that a call that touches no set doesn't clear the room for its lists.
+#[inline(never)]
+fn renew_all(
+    alloc: Global,
+    keyset: &KeySet,
+    added: &BTreeMap<String, usize>,
+    order: &mut WalkOrder,
+    sets: &mut Published,
+    touched: ByKind<bool>,
+    frames: &mut Frames,
+) -> Result<(), Error>
+    ensures frames { OnOk result (KeepsFrames frames.new sets.old sets.new) }
+    ensures read { OnOk result ((v w : World) → IsPublished sets.old v → Leaves touched v w →
+        Agrees keyset.now (tree.get_by_text added.now) w → IsPublished sets.new w) }
+    ensures err { IfErr result (λ e. e ≡ OutOfMemory) }
+{
     let keys = keyset.keys();
     *frames = Frames {
         ds: Frame::of(touched.ds, sets.ds.len()),
@@ -328,7 +351,7 @@ pub(crate) fn renew(
     sets.dnskey = dnskey.into_keys();
     sets.dnskey_signers = dnskey_signers.into_keys();
     sets.zone_signers = zone_signers.into_keys();
-    Ok(true)
+    Ok(())
 }
 
 /// A copy of what is published.

@@ -6,7 +6,7 @@ use Rattle.dnssec_run.specs.Published.{in_ds, in_dnskey, signs_dnskey, signs_zon
 use Rattle.dnssec_run.proofs.Around.{read-frame}
 use Rattle.dnssec_run.proofs.Positions.{kind_at, kind_of_key, passing-shown, reads-all, reads-begin}
 use Rattle.dnssec_run.proofs.Positions.{reads-next, reads-past}
-use Rattle.dnssec_run.proofs.sets.renew.Goals as goal
+use Rattle.dnssec_run.proofs.sets.renew_all.Goals as goal
 
 pub loop-reference-init : goal.loop-reference-init
 loop-reference-init c =
@@ -26,10 +26,10 @@ loop-reference-init c =
 pub loop-reference-preserved : goal.loop-reference-preserved
 loop-reference-preserved c =
     let key = hash.get_by_text c.keys-keys.result.now in
-    let steps = c.in-Some-2.ensures.steps in
+    let steps = c.in-Some.ensures.steps in
     let inv = c.loop-reference.invariant in
     let found : Some c.keytype-keytype.result
-    ≡ kind_at key (string_bytes c.in-Some-2.reference.now) =
+    ≡ kind_at key (string_bytes c.in-Some.reference.now) =
     ap Some c.keytype-keytype.ensures ∙ ap kind_of_key c.in-Some-key_at.ensures in
     record {
       ds = let shown = c.in_ok-show.ensures in
@@ -46,13 +46,13 @@ loop-reference-preserved c =
           shown.left shown.touched shown.fits inv.zone_signers;
     }
 
-pub loop-reference-preserved-in_default-key_at : goal.loop-reference-preserved-in_default-key_at
-loop-reference-preserved-in_default-key_at c =
+pub loop-reference-preserved-in_default : goal.loop-reference-preserved-in_default
+loop-reference-preserved-in_default c =
     let key = hash.get_by_text c.keys-keys.result.now in
-    let steps = c.in-Some-2.ensures.steps in
+    let steps = c.in-Some.ensures.steps in
     let inv = c.loop-reference.invariant in
-    let none : None ≡ kind_at key (string_bytes c.in-Some-2.reference.now) =
-    ap kind_of_key c.in_default-key_at.ensures in
+    let none : None ≡ kind_at key (string_bytes c.in-Some.reference.now) =
+    ap kind_of_key c.in_default.ensures in
     record {
       ds = reads-past in_ds key _ _ _ _ _ _ _ steps none inv.ds;
       dnskey = reads-past in_dnskey key _ _ _ _ _ _ _ steps none inv.dnskey;
@@ -61,7 +61,7 @@ loop-reference-preserved-in_default-key_at c =
     }
 
 pub returns-clause-read : goal.returns-clause-read
-returns-clause-read c v w was leaves only agrees =
+returns-clause-read c v w was leaves agrees =
     let key = hash.get_by_text c.keys-keys.result.now in
     let none = c.in-None.ensures.steps.0 in
     let ordered = c.iter-reference-items.ensures.ordered in
@@ -86,7 +86,7 @@ returns-clause-read c v w was leaves only agrees =
     }
 
 pub returns-clause-frames : goal.returns-clause-frames
-returns-clause-frames c changed =
+returns-clause-frames c =
     let inv = c.loop-reference.invariant in
     let key = hash.get_by_text c.keys-keys.result.now in
     let sets = c.args.sets.now in

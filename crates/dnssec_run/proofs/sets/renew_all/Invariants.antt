@@ -2,7 +2,7 @@
 use Rattle.std.specs.HashMap as hash
 use Rattle.dnssec_run.specs.Published.{in_ds, in_dnskey, signs_dnskey, signs_zone}
 use Rattle.dnssec_run.proofs.Positions.{Reads}
-use Rattle.dnssec_run.proofs.sets.renew.Given as goal
+use Rattle.dnssec_run.proofs.sets.renew_all.Given as goal
 
 abbrev pub invariant-loop-reference : goal.invariant-loop-reference
 invariant-loop-reference l = record {
