@@ -55,13 +55,13 @@ watches-over es kind n t u w h means last = record {
   floor = h.floor;
   dues = h.dues;
   in_order = h.in_order;
-  numbered = h.numbered;
   means = means;
+  numbered = h.numbered;
   spans = h.spans;
   begins = h.begins;
+  last = last;
   goes_on = h.goes_on;
   keeps = h.keeps;
-  last = last;
   came_at = h.came_at;
 }
 

@@ -52,10 +52,10 @@ module _ (es : List Entry) (e : Entry) (j w : Judge) (h : Knows es j) (found-is 
       follows = record {
         at = f.at;
         steps = f.steps;
-        time = f.time;
-        table = f.table;
         within = within;
         tested = all;
+        time = f.time;
+        table = f.table;
         ds = f.ds;
         dnskey = f.dnskey;
         zone = f.zone;

@@ -19,11 +19,11 @@ returns-in_default c n k l m s =
 
 pub loop-place-preserved-then-is_empty : goal.loop-place-preserved-then-is_empty
 loop-place-preserved-then-is_empty c n k l m s =
-    let f = c.in-Some.first in
     miss (seek c.args.at c.args.dnskey.now c.args.zone.now)
-    c.args.ds.now c.loop-place.place (c.loop-place.invariant n k l m s) f
+    c.args.ds.now c.loop-place.place (c.loop-place.invariant n k l m s) c.in-Some.first
     (c.in-Some.ensures n k) (no-keys n c.args.at c.args.dnskey.now c.args.zone.now l m
-    (set_of f.set.now) f.at (sym c.is_empty.ensures ∙ c.if-is_empty.true))
+    (set_of c.in-Some.first.set.now) c.in-Some.first.at
+    (sym c.is_empty.ensures ∙ c.if-is_empty.true))
 
 pub loop-place-preserved-then-hold_below : goal.loop-place-preserved-then-hold_below
 loop-place-preserved-then-hold_below c n k l m s =
