@@ -11,8 +11,8 @@ use Rattle.dnssec_policy.specs.declared.policy.ZskMethod.TheVariants as zsks
 use Rattle.dnssec_policy.specs.declared.text.wish.Wish.TheVariants as wish
 use Rattle.dnssec_policy.specs.declared.text.wish.{WishWord.WishWord}
 use Rattle.dnssec_policy.specs.declared.text.wish.WishWord.TheVariants as word
-use Rattle.dnssec_policy.specs.Text.Wishes.{as_first, as_wish, base_of, ksk_named}
-use Rattle.dnssec_policy.specs.Text.Wishes.{scheme_of, wish_after, word_named, zsk_named}
+use Rattle.dnssec_policy.specs.Text.Wishes.{as_first, as_wish, base_of, scheme_of}
+use Rattle.dnssec_policy.specs.Text.Wishes.{wish_after, word_named}
 use Rattle.dnssec_policy.specs.Text.Writing.{IsNumber, IsSecond, rolls_text, word_name}
 use Rattle.dnssec_policy.proofs.Texts.Cut.{first-field, lacks, one-field}
 use Rattle.dnssec_policy.proofs.Texts.Numbers.{digits-lack, number-back, time-back}
@@ -69,7 +69,7 @@ once-back role t (second, small, is) =
 -- the names of its rolls have no line feed in them, and are read as the scheme
 pub rolls-back : (scheme : Scheme) → lacks 10 (rolls_text scheme)
     × (scheme_of (fields_of (rolls_text scheme)) ≡ Some scheme)
-unfolding scheme_of ksk_named zsk_named
+unfolding scheme_of
 rolls-back (Split ksks.DoubleSignature zsks.PrePublish) = (refl, refl)
 rolls-back (Split ksks.DoubleSignature zsks.DoubleSignature) = (refl, refl)
 rolls-back (Split ksks.DoubleDs zsks.PrePublish) = (refl, refl)

@@ -2,6 +2,7 @@
 use Rattle.std.specs.Prelude.{ℕ, if◌then◌else◌, Bool, true, false, List, [], codes}
 use Rattle.std.specs.Prelude.{Option, None, Some, option_and_then}
 use Rattle.std.specs.{Option.option_map, Str.bytes_eq}
+use Rattle.dnssec_network.specs.Text.Lines.{either_named}
 use Rattle.dnssec_script.specs.Script.{Form, Value, Moment, Number, as_number, as_time, fields_of}
 use Rattle.dnssec_script.specs.Script.{first_field, value_at, values_of}
 use Rattle.dnssec_policy.specs.declared.policy.KeyRole.{KeyRole}
@@ -19,17 +20,16 @@ use Rattle.dnssec_policy.specs.declared.text.wish.WishWord.TheVariants as word
 -- ---- the first line
 
 -- how KSKs are rolled, by the name of the roll
-unfoldable pub ksk_named : List ℕ → Option KskMethod
+abbrev pub ksk_named : List ℕ → Option KskMethod
 ksk_named name =
-    if bytes_eq name (codes "ksk-roll") then Some ksks.DoubleSignature
-    else (if bytes_eq name (codes "ksk-double-ds-roll") then Some ksks.DoubleDs else None)
+    either_named name (codes "ksk-roll", ksks.DoubleSignature)
+    (codes "ksk-double-ds-roll", ksks.DoubleDs)
 
 -- and ZSKs
-unfoldable pub zsk_named : List ℕ → Option ZskMethod
+abbrev pub zsk_named : List ℕ → Option ZskMethod
 zsk_named name =
-    if bytes_eq name (codes "zsk-roll") then Some zsks.PrePublish
-    else (if bytes_eq name (codes "zsk-double-signature-roll") then Some zsks.DoubleSignature
-    else None)
+    either_named name (codes "zsk-roll", zsks.PrePublish)
+    (codes "zsk-double-signature-roll", zsks.DoubleSignature)
 
 -- what a field says that is a number or a moment
 abbrev pub amount : Value → ℕ

@@ -2,47 +2,19 @@
 ghost use Rattle.std.specs.Prelude.{◌≡◌, Ok};
 ghost use Rattle.std.specs.Option.{option_map};
 ghost use Rattle.dnssec_policy.specs.Text.Wishes.{after, as_first, as_wish, base_of, is_for};
-ghost use Rattle.dnssec_policy.specs.Text.Wishes.{has_role, ksk_named, moment_in, no_wish};
-ghost use Rattle.dnssec_policy.specs.Text.Wishes.{scheme_of, seconds_in, single_of, slot};
-ghost use Rattle.dnssec_policy.specs.Text.Wishes.{split_of, wish_after, with_deletion};
-ghost use Rattle.dnssec_policy.specs.Text.Wishes.{with_lifetime, with_once, with_slot, word_at};
-ghost use Rattle.dnssec_policy.specs.Text.Wishes.{word_named, zsk_named};
+ghost use Rattle.dnssec_policy.specs.Text.Wishes.{has_role, moment_in, no_wish, scheme_of};
+ghost use Rattle.dnssec_policy.specs.Text.Wishes.{seconds_in, single_of, slot, split_of};
+ghost use Rattle.dnssec_policy.specs.Text.Wishes.{wish_after, with_deletion, with_lifetime};
+ghost use Rattle.dnssec_policy.specs.Text.Wishes.{with_once, with_slot, word_at, word_named};
 ghost use Rattle.dnssec_policy.specs.Text.Reading.{line_after, policy_with, said_after};
 
 use super::fault::WishFault;
 use crate::policy::{KeyRole, KskMethod, Policy, Scheme, Term, ZskMethod};
 use dnssec_keyset::{SecurityAlgorithm, UnixTime};
+use dnssec_network::either_named;
 use dnssec_script::Fields;
 
 // ---- the first line
-
-/// How KSKs are rolled by the roll of this name.
-#[tactic(auto, unfolding(crate::specs::Text::Wishes::ksk_named))]
-fn ksk_named(name: &[u8]) -> Option<KskMethod>
-    ensures { result ≡ ksk_named name.now }
-{
-    if name == b"ksk-roll".as_slice() {
-        Some(KskMethod::DoubleSignature)
-    } else if name == b"ksk-double-ds-roll".as_slice() {
-        Some(KskMethod::DoubleDs)
-    } else {
-        None
-    }
-}
-
-/// How ZSKs are rolled by the roll of this name.
-#[tactic(auto, unfolding(crate::specs::Text::Wishes::zsk_named))]
-fn zsk_named(name: &[u8]) -> Option<ZskMethod>
-    ensures { result ≡ zsk_named name.now }
-{
-    if name == b"zsk-roll".as_slice() {
-        Some(ZskMethod::PrePublish)
-    } else if name == b"zsk-double-signature-roll".as_slice() {
-        Some(ZskMethod::DoubleSignature)
-    } else {
-        None
-    }
-}
 
 /// CSKs, if no field follows.
 fn single(fields: Fields<'_>) -> Option<Scheme>
@@ -57,7 +29,12 @@ fn split(ksk: KskMethod, fields: Fields<'_>) -> Option<Scheme>
     ensures { result ≡ split_of ksk fields.entry }
 {
     let (name, fields) = fields.next()?;
-    let zsk = zsk_named(name)?;
+    let pre_publish = (b"zsk-roll".as_slice(), ZskMethod::PrePublish);
+    let double = (
+        b"zsk-double-signature-roll".as_slice(),
+        ZskMethod::DoubleSignature,
+    );
+    let zsk = either_named(name, pre_publish, double)?;
     fields.end()?;
     Some(Scheme::Split(ksk, zsk))
 }
@@ -69,10 +46,11 @@ fn scheme(fields: Fields<'_>) -> Option<Scheme>
 {
     let (name, fields) = fields.next()?;
     if name == b"csk-roll".as_slice() {
-        single(fields)
-    } else {
-        split(ksk_named(name)?, fields)
+        return single(fields);
     }
+    let double_signature = (b"ksk-roll".as_slice(), KskMethod::DoubleSignature);
+    let double_ds = (b"ksk-double-ds-roll".as_slice(), KskMethod::DoubleDs);
+    split(either_named(name, double_signature, double_ds)?, fields)
 }
 
 /// The fields after `policy`: the number of the algorithm, and the rolls of a scheme.
