@@ -11,7 +11,8 @@ use Rattle.dnssec_run.specs.Safe.{SetKind, Ds, Dnskey, ZoneSigners, retires}
 use Rattle.dnssec_run.proofs.Chain.Trust.{each-holds, mark, moment}
 use Rattle.dnssec_network.specs.{Facts.AreTrue, Network.MayBeHeld, Network.Network}
 use Rattle.dnssec_network.specs.{Network.ReportsAreTrue, Reports.IsByNotes, Reports.NoneGoesBack}
-use Rattle.dnssec_network.proofs.{Held.held-cached, Held.held-each, Noted.notes_make_reports_true}
+use Rattle.dnssec_network.proofs.Held.{held-cached, held-each, past_report}
+use Rattle.dnssec_network.proofs.Noted.{notes_make_reports_true}
 use Rattle.dnssec_policy.specs.{declared.policy.Policy.Policy, Automatic.IsAutomatic}
 use Rattle.dnssec_policy.specs.Kept.{AutomaticRunsServeKeepers, IsAutomaticKeeping, IsHeldBy}
 use Rattle.dnssec_policy.specs.Kept.{KeptAlgorithmsSign, keeping}
@@ -68,19 +69,7 @@ automatic-of auto n call is = elim (auto n call is) [ inl a ↦ inl a | inr s �
 still-back : (seconds : ℕ) (entries : List Entry) (network : Network) (time : ℕ)
     → NoneGoesBack entries network time → NoneGoesBack entries (keeping seconds network) time
 still-back seconds entries network time back r kind speaks =
-    let was = back (record {
-      at = r.at;
-      roll = r.roll;
-      second = r.second;
-      ttl = r.ttl;
-      moment = r.moment;
-      base = r.base;
-      after = r.after;
-      made = r.made;
-      mark = r.mark;
-      moment_is = r.moment_is;
-      base_is = r.base_is;
-    }) kind speaks in
+    let was = back (past_report r.mark r.moment_is r.base_is r.after r.made) kind speaks in
     record { servers = was.servers; versions = was.versions }
 
 pub serves-keepers : AutomaticRunsServeKeepers
