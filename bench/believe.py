@@ -17,7 +17,10 @@ CRATES = Path(__file__).absolute().parent.parent / "crates"
 
 # The first line of a definition of specs/, with the name that it defines.
 HEAD = re.compile(r"^\s*(?:(?:pub|abbrev|unfoldable)\s+)*(?:record|data)?\s*([^\s:(]+)\s*[:(]")
-USE = re.compile(r"use Rattle\.(\w+)\.specs\.([\w.]+?)(?:\.\{([^}]*)\}|\s+as\s+(\w+))")
+# An import of names of one module, of a module, or of names of several modules.
+USE = re.compile(
+    r"use Rattle\.(\w+)\.specs(?:\.([\w.]+?))??(?:\.\{([^}]*)\}|\s+as\s+(\w+))"
+)
 # A name that isn't a field of another.
 NAME = re.compile(r"(?<![\w.◌-])[A-Za-z_][\w-]*(?:\.[A-Za-z_][\w-]*)*")
 TYPE = re.compile(r"^pub (?:enum|struct) (\w+)[^\n]*", re.M)
@@ -39,7 +42,9 @@ def imports(text):
             modules[alias] = (crate, module)
         for item in filter(None, re.split(r"[,\s]+", listed.replace(" as ", "="))):
             meant, _, called = item.partition("=")
-            names[called or meant] = (crate, module, meant)
+            within, _, name = meant.rpartition(".")
+            place = ".".join(filter(None, (module, within)))
+            names[called or name] = (crate, place, name)
     return names, modules
 
 
