@@ -150,14 +150,8 @@ class Unattended(Running):
 
     async def goes_on(self):
         """All that goes on beside ticks, until the time is over or something fails."""
-        parts = [self.primary(), self.parent(), self.changing(), self.jumping(), self.timer(),
-                 self.wishing()]
-        tasks = [asyncio.ensure_future(part) for part in parts]
-        try:
-            await asyncio.gather(*tasks)
-        finally:
-            for task in tasks:
-                task.cancel()
+        await side_by_side(self.primary(), self.parent(), self.changing(), self.jumping(),
+                           self.timer(), self.wishing())
 
     # ---- the timer
 
@@ -355,6 +349,16 @@ async def stands_still(world, name):
         end(process, signal.SIGCONT)
 
 
+async def side_by_side(*parts):
+    """Runs these at once. After one has failed, the others are ended."""
+    tasks = [asyncio.ensure_future(part) for part in parts]
+    try:
+        await asyncio.gather(*tasks)
+    finally:
+        for task in tasks:
+            task.cancel()
+
+
 def scene(name):
     async def played(zone):
         operator = Unattended(zone, WANTED[name])
@@ -362,12 +366,7 @@ def scene(name):
         parts = [operator.goes_on()]
         if name == FAILS:
             parts.append(failing(zone.world, operator.until, operator.dice, operator.counts))
-        tasks = [asyncio.ensure_future(part) for part in parts]
-        try:
-            await asyncio.gather(*tasks)
-        finally:
-            for task in tasks:
-                task.cancel()
+        await side_by_side(*parts)
         await operator.check()
         told = ", ".join(f"{count} {what}" for what, count in sorted(operator.counts.items()))
         print(f"    {zone.name} {told}", flush=True)

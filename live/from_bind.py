@@ -82,12 +82,17 @@ class Bind:
         raise Failed(f"BIND doesn't sign {self.zone.name}")
 
     async def given(self):
-        made = dns.zone.Zone(self.zone.name, relativize=False)
-        try:
-            await dns.asyncquery.inbound_xfr(HERE, made, port=self.port, timeout=5)
-        except (dns.exception.DNSException, OSError, EOFError):
-            return None
-        return made
+        return await zone_at(self.zone.name, self.port)
+
+
+async def zone_at(name, port):
+    """The zone as the server at a port gives it, or None."""
+    made = dns.zone.Zone(name, relativize=False)
+    try:
+        await dns.asyncquery.inbound_xfr(HERE, made, port=port, timeout=5)
+    except (dns.exception.DNSException, OSError, EOFError):
+        return None
+    return made
 
 
 def types_of(made):

@@ -10,7 +10,7 @@ from pathlib import Path
 
 from by_command import TTL
 from dnspython import dns
-from from_bind import HERE, free_port
+from from_bind import HERE, free_port, zone_at
 from keys import run
 from processes import Failed, program
 
@@ -111,12 +111,7 @@ class Signer:
 
     async def given(self):
         """The zone as it gives it."""
-        made = dns.zone.Zone(self.zone.name, relativize=False)
-        try:
-            await dns.asyncquery.inbound_xfr(HERE, made, port=self.port, timeout=5)
-        except (dns.exception.DNSException, OSError, EOFError):
-            return None
-        return made
+        return await zone_at(self.zone.name, self.port)
 
     async def is_up(self):
         for _ in range(PATIENCE * 5):

@@ -4,7 +4,6 @@ so that one runs at a time, and each line is on disk before anybody acts on it."
 from __future__ import annotations
 
 import contextlib
-import os
 import re
 from dataclasses import dataclass
 from pathlib import Path
@@ -13,6 +12,8 @@ from typing import Iterator
 from keyset import Damaged, Lines, locked
 from keyset.file import Writer
 from keyset.notes import path_of
+
+from .place import touched
 
 SUFFIX = ".tick"
 # An act has begun, on an unsigned zone of this size and time; one is done; the DS set of a call was
@@ -113,9 +114,7 @@ def place_of(script: str | Path) -> Path:
 @contextlib.contextmanager
 def alone(script: str | Path) -> Iterator[Journal]:
     """The journal of a script, while no other tick has it. `Locked`: another one has."""
-    path = place_of(script)
-    os.close(os.open(path, os.O_RDWR | os.O_CREAT | os.O_NOFOLLOW | os.O_CLOEXEC, 0o644))
-    with locked(path) as file:
+    with locked(touched(place_of(script))) as file:
         yield Journal(file)
 
 

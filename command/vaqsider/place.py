@@ -28,11 +28,16 @@ def beside(script: str | Path) -> Path:
     return path_of(script).with_suffix(SUFFIX)
 
 
+def touched(path: Path) -> Path:
+    """The file, which is made empty if there is none. A link is refused."""
+    os.close(os.open(path, os.O_RDWR | os.O_CREAT | os.O_NOFOLLOW | os.O_CLOEXEC, 0o644))
+    return path
+
+
 @contextlib.contextmanager
 def alone(script: str | Path) -> Iterator[Writer]:
     """The lines that earlier acts have left, while no other act runs on this script."""
-    path = beside(script)
-    os.close(os.open(path, os.O_RDWR | os.O_CREAT | os.O_NOFOLLOW | os.O_CLOEXEC, 0o644))
+    path = touched(beside(script))
     with contextlib.ExitStack() as stack:
         yield patiently(lambda: stack.enter_context(locked(path)))
 
