@@ -170,13 +170,18 @@ def tags_given(made):
 def rolls(maker):
     """A scene: first keys, each roll that the signer can, one that is ended early, and a new script
     that takes over what the signer has."""
+    return with_signer(maker, each_roll)
+
+
+def with_signer(maker, goes_on):
+    """A scene of an operator whose signer runs until its end."""
 
     async def scene(zone):
         operator = Running(zone)
         operator.signer = maker(operator)
         try:
             await operator.signer.start(2)
-            await each_roll(operator)
+            await goes_on(operator)
         finally:
             operator.signer.end()
 

@@ -54,16 +54,7 @@ class Dnst(OfBind):
 
 
 def takeover(maker):
-    async def scene(zone):
-        operator = running.Running(zone)
-        operator.signer = maker(operator)
-        try:
-            await operator.signer.start(2)
-            await taken_over(operator)
-        finally:
-            operator.signer.end()
-
-    return scene
+    return running.with_signer(maker, taken_over)
 
 
 async def taken_over(operator):
