@@ -36,6 +36,16 @@ class Wrong(Exception):
     pass
 
 
+def status_of(name, test):
+    """Prints what a test says, or what is wrong, and gives the status of its program."""
+    try:
+        print(f"{name}: {test()}")
+    except Wrong as wrong:
+        print(f"{name}: {wrong}")
+        return 1
+    return 0
+
+
 def stored_scripts():
     """The stored scripts, each with its name and its answers."""
     for part in STORED.read_text().split("\n== ")[1::EVERY]:

@@ -13,7 +13,7 @@ import tempfile
 import time
 from pathlib import Path
 
-from tests.gate.tools import CRATES, TOP, Wrong, kit, run
+from tests.gate.tools import CRATES, TOP, kit, run, status_of
 
 HERE = "x86_64"
 
@@ -48,19 +48,19 @@ def build(archive, machine):
     run(top / "bin" / "rattle", "build", *words, "-o", archive, cwd=CRATES / "keyset_c")
 
 
-def main():
+def pack(folder, machine):
+    """Builds the library into a folder, and says how long that took."""
     began = time.monotonic()
-    folder, machine = Path(sys.argv[1]).resolve(), (*sys.argv[2:], HERE)[0]
     with tempfile.TemporaryDirectory() as room:
         archive = Path(room) / "libkeyset_c.a"
-        try:
-            build(archive, machine)
-            run(TOP / "library" / "pack.sh", archive, folder, machine)
-        except Wrong as wrong:
-            print(f"archive: {wrong}")
-            return 1
-    print(f"archive: {time.monotonic() - began:.0f} s")
-    return 0
+        build(archive, machine)
+        run(TOP / "library" / "pack.sh", archive, folder, machine)
+    return f"{time.monotonic() - began:.0f} s"
+
+
+def main():
+    folder, machine = Path(sys.argv[1]).resolve(), (*sys.argv[2:], HERE)[0]
+    return status_of("archive", lambda: pack(folder, machine))
 
 
 if __name__ == "__main__":

@@ -12,7 +12,7 @@ import tempfile
 from pathlib import Path
 
 from tables import answers
-from tests.gate.tools import Wrong, run, stored_scripts
+from tests.gate.tools import Wrong, run, status_of, stored_scripts
 
 HERE = Path(__file__).parent
 # The second judge is slow on longer scripts.
@@ -76,16 +76,15 @@ def compare(path):
     return f"{len(compared):,} scripts are answered as by the tables, {ended:,} have a whole roll"
 
 
-def main():
+def compared(folder, runs):
+    """Prints what the fuzzer says, and gives what the tables say of its scripts."""
     with tempfile.TemporaryDirectory() as room:
-        room = Path(room)
-        try:
-            print(*fuzz(Path(sys.argv[1]).resolve(), room, sys.argv[2]), sep="\n")
-            print(f"fuzz: {compare(room / 'answered')}")
-        except Wrong as wrong:
-            print(f"fuzz: {wrong}")
-            return 1
-    return 0
+        print(*fuzz(folder, Path(room), runs), sep="\n")
+        return compare(Path(room) / "answered")
+
+
+def main():
+    return status_of("fuzz", lambda: compared(Path(sys.argv[1]).resolve(), sys.argv[2]))
 
 
 if __name__ == "__main__":

@@ -15,7 +15,7 @@ from pathlib import Path
 
 from artefact import AARCH64, X86_64, Built, version
 from modules import stage_module
-from tests.gate.tools import RUNNER, TOP, Wrong, run
+from tests.gate.tools import RUNNER, TOP, Wrong, run, status_of
 
 SCRIPTS = [TOP / "examples" / f"{name}.script" for name in ("algorithm-roll", "ksk-roll")]
 PROJECT = """\
@@ -75,12 +75,7 @@ def test(folder, is_elsewhere, room):
 def main():
     folder, is_elsewhere = Path(sys.argv[1]).resolve(), sys.argv[2:] == ["elsewhere"]
     with tempfile.TemporaryDirectory() as room:
-        try:
-            print(f"go: {test(folder, is_elsewhere, Path(room))}")
-        except Wrong as wrong:
-            print(f"go: {wrong}")
-            return 1
-    return 0
+        return status_of("go", lambda: test(folder, is_elsewhere, Path(room)))
 
 
 if __name__ == "__main__":

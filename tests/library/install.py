@@ -20,7 +20,7 @@ from pathlib import Path
 
 from artefact import X86_64, Built
 from tarballs import pack_built
-from tests.gate.tools import CRATES, NOTED, SHOWN, STRICT, TOP, Wrong, run
+from tests.gate.tools import CRATES, NOTED, SHOWN, STRICT, TOP, Wrong, run, status_of
 from tests.library import mishaps
 
 INSTALL = TOP / "packaging" / "install.py"
@@ -314,12 +314,7 @@ def expect_uninstalled(moved, below, library, whole):
 def main():
     if len(sys.argv) != 2:
         sys.exit(__doc__)
-    try:
-        print(f"install: {test(Path(sys.argv[1]).resolve())}")
-    except Wrong as wrong:
-        print(f"install: {wrong}")
-        return 1
-    return 0
+    return status_of("install", lambda: test(Path(sys.argv[1]).resolve()))
 
 
 if __name__ == "__main__":
