@@ -222,10 +222,10 @@ fn at_roles(ksk: RoleMove, zsk: RoleMove, key: &mut KeyType)
 }
 
 /// Applies a setter, whatever the kind of the key.
-pub fn apply_setting(key: &mut Key, setting: Setting)
-    ensures { key.new ≡ set_by (setting_of setting) key.old }
+pub fn apply_setting(key: &mut Key, setting: &Setting)
+    ensures { key.new ≡ set_by (setting_of setting.now) key.old }
 {
-    match setting {
+    match *setting {
         Setting::Decoupled(value) => key.decoupled = value,
         Setting::Present(value, now) => {
             AtEachState(SetPresent(value)).at(&mut key.keytype);

@@ -4,7 +4,7 @@ use Rattle.std.specs.Prelude.{Option, ◌*◌, ◌-◌, IfNone}
 use Rattle.dnssec_base.specs.declared.error.Error.TheVariants.{WrongStateForRollOperation}
 use Rattle.dnssec_base.specs.declared.error.Error.TheVariants.{WrongKeyState}
 use Rattle.dnssec_zone.specs.{Wait.ttl_in, Wait.Barred, Wait.wait_in_phase, Wait.LacksStamp}
-use Rattle.dnssec_zone.specs.{Keys.Keys, Rolls.phase_of, Wait.IsOverFrom}
+use Rattle.dnssec_zone.specs.{Rolls.phase_of, Wait.IsOverFrom}
 use Rattle.dnssec_zone.proofs.Tests.{some_or_none}
 use Rattle.dnssec_key.specs.declared.roll.Half.{Half}
 use Rattle.dnssec_key.specs.declared.roll.Half.TheVariants.{First, Second}
@@ -28,15 +28,14 @@ pub ttl-shown : (half : Half) (roll : RollType) (i : SetInside) (v : KeySetParts
     → ttl_in half (phase_of v.rolls roll) ≡ Some ttl
 ttl-shown half roll i v e ttl is = ap (ttl_in half) (phase-shown roll i v e) ∙ sym is
 
--- and the end of the wait, if the walk over the keys found it
+-- and the end of the wait, if it was found
 pub end-shown : (half : Half) (roll : RollType) (i : SetInside) (v : KeySetParts) → set_view i ≡ v
-    → (ttl end : ℕ) (keys : Keys) → keys ≡ (set_view i).keys
-    → Some ttl ≡ ttl_in half (phase_of i.rolls roll) → IsOverFrom roll half ttl keys end
+    → (ttl end : ℕ) → Some ttl ≡ ttl_in half (phase_of i.rolls roll)
+    → IsOverFrom roll half ttl (set_view i).keys end
     → (ttl_in half (phase_of v.rolls roll) ≡ Some ttl) × IsOverFrom roll half ttl v.keys end
-end-shown half roll i v e ttl end keys same is over = (
+end-shown half roll i v e ttl end is over = (
   ttl-shown half roll i v e ttl is,
-  subst (λ keys. IsOverFrom roll half ttl keys end) (same ∙ ap (λ (w : KeySetParts). w.keys) e)
-      over,
+  subst (λ (w : KeySetParts). IsOverFrom roll half ttl w.keys end) e over,
 )
 
 -- what is left, if the moment is given as a duration

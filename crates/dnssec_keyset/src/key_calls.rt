@@ -137,7 +137,7 @@ impl KeySet {
         // Causes: `setting_refusal`.
         ensures { Step self.old (Set pubref.now (Decoupled value)) (reply_done result) self.new }
     {
-        self.set(pubref, Setting::Decoupled(value))
+        self.set(pubref, &Setting::Decoupled(value))
     }
 
     /// Puts a key into the DNSKEY set by hand, or takes it out, in each of its roles. A key that is
@@ -152,7 +152,7 @@ impl KeySet {
         ensures { Step self.old (Set pubref.now (Present value now.now))
             (reply_done result) self.new }
     {
-        self.set(pubref, Setting::Present(value, *now))
+        self.set(pubref, &Setting::Present(value, *now))
     }
 
     /// Sets by hand whether a key signs, in each of its roles. No memory is taken.
@@ -165,7 +165,7 @@ impl KeySet {
         // Causes: `setting_refusal`.
         ensures { Step self.old (Set pubref.now (Signer value)) (reply_done result) self.new }
     {
-        self.set(pubref, Setting::Signer(value))
+        self.set(pubref, &Setting::Signer(value))
     }
 
     /// Sets by hand whether the parent has to have a DS record for a KSK or a CSK. No memory is
@@ -179,7 +179,7 @@ impl KeySet {
         // Causes: `setting_refusal`.
         ensures { Step self.old (Set pubref.now (AtParent value)) (reply_done result) self.new }
     {
-        self.set(pubref, Setting::AtParent(value))
+        self.set(pubref, &Setting::AtParent(value))
     }
 
     /// Makes a key stale by hand. In each of its roles it is then old, and neither signs, nor is in
@@ -192,7 +192,7 @@ impl KeySet {
         // Causes: `setting_refusal`.
         ensures { Step self.old (Set pubref.now Stale) (reply_done result) self.new }
     {
-        self.set(pubref, Setting::Stale)
+        self.set(pubref, &Setting::Stale)
     }
 
     /// Stamps the key as seen in the DNSKEY set by all servers from `time` on. No memory is taken.
@@ -204,7 +204,7 @@ impl KeySet {
         // Causes: `setting_refusal`.
         ensures { Step self.old (Set pubref.now (VisibleAt time)) (reply_done result) self.new }
     {
-        self.set(pubref, Setting::VisibleAt(time))
+        self.set(pubref, &Setting::VisibleAt(time))
     }
 
     /// Stamps the key's DS record as seen by all servers of the parent from `time` on. No memory is
@@ -217,7 +217,7 @@ impl KeySet {
         // Causes: `setting_refusal`.
         ensures { Step self.old (Set pubref.now (DsVisibleAt time)) (reply_done result) self.new }
     {
-        self.set(pubref, Setting::DsVisibleAt(time))
+        self.set(pubref, &Setting::DsVisibleAt(time))
     }
 
     /// Stamps the key's signatures as seen by all servers from `time` on. No memory is taken.
@@ -230,7 +230,7 @@ impl KeySet {
         ensures { Step self.old (Set pubref.now (RrsigVisibleAt time))
             (reply_done result) self.new }
     {
-        self.set(pubref, Setting::RrsigVisibleAt(time))
+        self.set(pubref, &Setting::RrsigVisibleAt(time))
     }
 
     /// Deletes a key that is stale in each of its roles, also while rolls are in progress. No
@@ -258,9 +258,10 @@ impl KeySet {
     }
 
     /// Changes a key by hand. An early end leaves a key alone whose flag was set by hand.
-    fn set(&mut self, pubref: &str, setting: Setting) -> Result<(), Error>
+    fn set(&mut self, pubref: &str, setting: &Setting) -> Result<(), Error>
         // Causes: `setting_refusal`.
-        ensures { Step self.old (Set pubref.now (setting_of setting)) (reply_done result) self.new }
+        ensures { Step self.old (Set pubref.now (setting_of setting.now))
+            (reply_done result) self.new }
     {
         let key_tag = self.keys.set(pubref, setting)?;
         if setting.sets_flag() {

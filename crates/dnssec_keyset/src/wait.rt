@@ -64,8 +64,7 @@ impl KeySet {
         let Some(ttl) = self.rolls.ttl_in(rolltype, half) else {
             return Err(Error::WrongStateForRollOperation);
         };
-        self.keys.find_wait(rolltype, half, ttl);
-        let Some(end) = self.keys.over_from(rolltype, half, ttl) else {
+        let Some(end) = self.keys.find_wait(rolltype, half, ttl) else {
             return Err(Error::WrongKeyState);
         };
         let now = Duration::from(*now).as_nanos();

@@ -5,7 +5,7 @@ use Rattle.std.specs.FinMap.{from_entries, find, get, insert, remove, entries, e
 use Rattle.std.specs.FinMap.{entries-insert, get-entries, get-insert, get-remove, get-from_entries}
 use Rattle.dnssec_zone.specs.Inner.Counts.{bit, count, count_in, share, unlisted_passes}
 use Rattle.dnssec_zone.specs.Inner.Counts.{listed_passes, passes, CountsAgree, moves_counts}
-use Rattle.dnssec_zone.specs.Inner.Counts.{end_moves_kept}
+use Rattle.dnssec_zone.specs.Inner.Counts.{end_moves_kept, AreCountable}
 use Rattle.dnssec_zone.proofs.Quantified.{here-found, later-found, list_any-map, second}
 use Rattle.dnssec_zone.proofs.Walks.{AreApart, apart_by_bytes, entries_permute, put_permutes}
 use Rattle.std.proofs.lemmas.Bool.{and_right, cases_Bool, cond_both}
@@ -191,19 +191,23 @@ without-of t c w = grind arith
 none-of : (w : Want) → count_of no_counts w ≡ 0
 none-of w = grind arith
 
--- no more keys meet a want than can be counted
-abbrev pub Fits : Keys → Type 0
-Fits keys = (w : Want) → count_in (passes (serves_as_kept w)) keys ≤ 18446744073709551615
-
--- it is so for the keys of a hash map
-pub fits-shown : {Y S : Type 0} (m : HashMap (String Y) KeyParts S) → IsUnique string_eq m
-    → length m.entries ≤ 18446744073709551615 → Fits (keys_in_map m)
-fits-shown m unique fits w =
-    let p = passes (serves_as_kept w) in
-    omega (arith, fits, at_most p m.entries, count-shown p m unique)
+-- a hash map has as many keys as entries
+pub all_shown : {Y S : Type 0} (m : HashMap (String Y) KeyParts S) → IsUnique string_eq m
+    → count_in (λ q k. true) (keys_in_map m) ≡ length m.entries
+all_shown m unique = count-shown (λ q k. true) m unique ∙ all m.entries
   where
-    at_most : {Y : Type 0} (p : List ℕ → KeyParts → Bool) (es : List (String Y × KeyParts))
-        → count p (map (λ (e : String Y × KeyParts). (string_bytes e.0, e.1)) es) ≤ length es
+    all : {Y : Type 0} (es : List (String Y × KeyParts)) → count (λ q k. true)
+        (map (λ (e : String Y × KeyParts). (string_bytes e.0, e.1)) es) ≡ length es
+    all [] = refl
+    all (e ∷ es) = omega (arith, all es)
+
+-- no more keys meet a want than there are
+fits : (keys : Keys) → AreCountable keys → (w : Want)
+    → count_in (passes (serves_as_kept w)) keys ≤ 18446744073709551615
+fits keys few w = omega (arith, few, at_most (passes (serves_as_kept w)) (entries keys))
+  where
+    at_most : (p : List ℕ → KeyParts → Bool) (es : List (List ℕ × KeyParts))
+        → count p es ≤ count (λ q k. true) es
     at_most p [] = omega arith
     at_most p (e ∷ es) = grind (arith, at_most p es)
 
@@ -211,6 +215,13 @@ pub counts-none : (m : Keys) → ((q : List ℕ) → get m q ≡ None) → Count
 counts-none m none w = none-of w ∙ sym (ap (count_in (passes (serves_as_kept w)))
     (same_keys m fin.empty (λ q. none q ∙ sym (get-from_entries nat_list_cmp_total [] q)))
     ∙ count-entries (passes (serves_as_kept w)) [] tt)
+
+-- there are as many keys if one is exchanged
+pub countable-exchanged : (m n : Keys) (r : List ℕ) (k l : KeyParts) → get m r ≡ Some k
+    → ((q : List ℕ) → get n q ≡ (if bytes_eq r q then Some l else get m q))
+    → AreCountable m → AreCountable n
+countable-exchanged m n r k l found is few =
+    grind (arith, few, found, count-changed (λ q k. true) m n r (Some l) is)
 
 -- a key is put in, taken out or exchanged
 module _ (c : Counts) (m n : Keys) (r : List ℕ) (o : Option KeyParts)
@@ -229,15 +240,15 @@ module _ (c : Counts) (m n : Keys) (r : List ℕ) (o : Option KeyParts)
   counts-alike same w = omega (arith, change w, same w)
 
   -- it is new
-  pub counts-added : (x : KeyParts) → o ≡ Some x → get m r ≡ None → Fits n
+  pub counts-added : (x : KeyParts) → o ≡ Some x → get m r ≡ None → AreCountable n
       → CountsAgree (with_key x.keytype c) n
-  counts-added x here absent fits w =
-      grind (arith, with-of x.keytype c w, change w, here, absent, fits w)
+  counts-added x here absent few w =
+      grind (arith, with-of x.keytype c w, change w, here, absent, fits n few w)
 
   -- it stands for another one
-  pub counts-exchanged : (k l : KeyParts) → get m r ≡ Some k → o ≡ Some l → Fits n
+  pub counts-exchanged : (k l : KeyParts) → get m r ≡ Some k → o ≡ Some l → AreCountable n
       → CountsAgree (with_key l.keytype (without_key k.keytype c)) n
-  counts-exchanged k l there here fits w =
+  counts-exchanged k l there here few w =
       grind (
         arith,
         with-of l.keytype (without_key k.keytype c) w,
@@ -245,7 +256,7 @@ module _ (c : Counts) (m n : Keys) (r : List ℕ) (o : Option KeyParts)
         count-at (passes (serves_as_kept w)) m r,
         change w,
         old w,
-        fits w,
+        fits n few w,
         there,
         here,
       )
@@ -259,32 +270,38 @@ set-serves setting e k w = grind arith
 pub counts-set : (setting : Setting) (c : Counts) (m n : Keys) (r : List ℕ) (k : KeyParts)
     → get m r ≡ Some k
     → ((q : List ℕ) → get n q ≡ (if bytes_eq r q then Some (set_by setting k) else get m q))
-    → Fits n → CountsAgree c m
+    → AreCountable n → CountsAgree c m
     → CountsAgree (if moves_counts setting
     then with_key (set_by setting k).keytype (without_key k.keytype c) else c) n
-counts-set setting c m n r k found is fits old = cond_both (moves_counts setting) _ _
+counts-set setting c m n r k found is few old = cond_both (moves_counts setting) _ _
     (λ counts. CountsAgree counts n)
-    (λ e. counts-exchanged c m n r _ is old k (set_by setting k) found refl fits)
+    (λ e. counts-exchanged c m n r _ is old k (set_by setting k) found refl few)
     (λ e. counts-alike c m n r _ is old (λ w. grind (arith, found, set-serves setting e k w)))
 
 module _ {Y S : Type 0} (m n : HashMap (String Y) KeyParts S) (one : IsUnique string_eq m)
     (two : IsUnique string_eq n) {step : KeyParts → KeyParts} (walk : IsWalked step m n) where
-  -- a walk after which each key serves as before
+  -- a walk after which each key passes as before
+  pub count-kept : (p : KeyParts → Bool) → ((k : KeyParts) → p (step k) ≡ p k)
+      → count_in (λ q. p) (keys_in_map m) ≡ count_in (λ q. p) (keys_in_map n)
+  count-kept p alike =
+      rw (count-shown (λ q. p) n two, walk.is, as_many m.entries) (count-shown (λ q. p) m one)
+    where
+      as_many : (es : List (String Y × KeyParts)) →
+          count (λ q. p) (map (λ (e : String Y × KeyParts). (string_bytes e.0, e.1))
+          (map (λ (e : String Y × KeyParts). (e.0, step e.1)) es))
+          ≡ count (λ q. p) (map (λ (e : String Y × KeyParts). (string_bytes e.0, e.1)) es)
+      as_many [] = refl
+      as_many (e ∷ es) = λ i. bit (alike e.1 i) + as_many es i
+
+  -- there are as many keys
+  pub countable-kept : AreCountable (keys_in_map m) → AreCountable (keys_in_map n)
+  countable-kept few = omega (arith, few, count-kept (λ k. true) (λ k. refl))
+
   pub counts-kept : ((w : Want) (k : KeyParts) → serves_as_kept w (step k).keytype
       ≡ serves_as_kept w k.keytype) → (c : Counts) → CountsAgree c (keys_in_map m)
       → CountsAgree c (keys_in_map n)
   counts-kept alike c old w =
-      rw (count-shown p n two, walk.is, as_many m.entries) (old w ∙ count-shown p m one)
-    where
-      p : List ℕ → KeyParts → Bool
-      p = passes (serves_as_kept w)
-
-      as_many : (es : List (String Y × KeyParts)) →
-          count p (map (λ (e : String Y × KeyParts). (string_bytes e.0, e.1))
-          (map (λ (e : String Y × KeyParts). (e.0, step e.1)) es))
-          ≡ count p (map (λ (e : String Y × KeyParts). (string_bytes e.0, e.1)) es)
-      as_many [] = refl
-      as_many (e ∷ es) = λ i. bit (alike w e.1 i) + as_many es i
+      old w ∙ count-kept (λ k. serves_as_kept w k.keytype) (alike w)
 
 -- the counts by a walk
 folded : (w : Want) (es : List (List ℕ × KeyParts)) (c : Counts)
@@ -299,10 +316,11 @@ folded w (e ∷ es) c fits =
 pub counts-walked : {Y S : Type 0} (m : HashMap (String Y) KeyParts S) → IsUnique string_eq m
     → length m.entries ≤ 18446744073709551615
     → CountsAgree (fold (λ c k. with_key k.keytype c) no_counts (values m)) (keys_in_map m)
-counts-walked m unique fits w =
+counts-walked m unique few w =
     let these = count-shown (passes (serves_as_kept w)) m unique in
+    let fit = fits (keys_in_map m) (omega (arith, few, all_shown m unique)) w in
     rw (← values_by_bytes m.entries) (folded w (entries_by_bytes m) no_counts
-    (omega (arith, none-of w, these, fits-shown m unique fits w)) ∙ omega (arith, none-of w, these))
+    (omega (arith, none-of w, these, fit)) ∙ omega (arith, none-of w, these))
 
 -- ---- what moves no count: a phase's end that changes no flag that a count asks for, a stale key
 

@@ -2,13 +2,14 @@
 //! many of them a start could go on with, and the waits in progress. Each change of the keys is
 //! followed here, and in no other place.
 ghost use Rattle.std.specs.Prelude.{◌≡◌, ℕ, None, Some, true, false, nat_eq, IfOk, OnOk, OnErr};
-ghost use Rattle.std.specs.Prelude.{IsOkUnless, if◌then◌else◌, length, ◌≤◌, IsSome};
+ghost use Rattle.std.specs.Prelude.{IsOkUnless, if◌then◌else◌, length, ◌≤◌, ◌<◌, ◌^◌, IsSome};
 ghost use Rattle.std.specs.{List.fold, Option.option_map, String.string_eq};
 ghost use Rattle.std.specs.HashMap as hash;
 ghost use Rattle.dnssec_base.specs.declared.error.Error.TheVariants.{OutOfMemory};
 ghost use Rattle.dnssec_key.specs.Setters.{setting_of, set_by};
 ghost use Rattle.dnssec_key.specs.Inner.TagIndex.{has};
 ghost use Rattle.dnssec_zone.specs.Inner.Counts.{CountsAgree, count_after, count_of, counts_after};
+ghost use Rattle.dnssec_zone.specs.Inner.Counts.{count_in};
 ghost use Rattle.dnssec_zone.specs.Inner.Counts.{end_moves_kept, moves_counts, no_counts, with_key};
 ghost use Rattle.dnssec_zone.specs.Inner.Counts.{without_key};
 ghost use Rattle.dnssec_zone.specs.Inner.KeyMark.{marked};
@@ -110,20 +111,16 @@ impl Counts {
             KeyType::Include(_) => {}
         }
     }
+}
 
-    /// Follows a setter that changed a key. No count asks whether a key signs.
-    pub(crate) fn follow(&mut self, setting: &Setting, before: &KeyType, after: &KeyType)
-        ensures { self.new ≡ (if moves_counts (setting_of setting.now)
-            then with_key after.now (without_key before.now self.old) else self.old) }
-    {
-        if matches!(
-            setting,
-            Setting::Present(_, _) | Setting::AtParent(_) | Setting::Stale
-        ) {
-            self.count(before, Counting::OneLess);
-            self.count(after, Counting::OneMore);
-        }
-    }
+/// Whether a setter may change the counts. None of them asks whether a key signs.
+fn moves_counts(setting: &Setting) -> bool
+    ensures { result ≡ moves_counts (setting_of setting.now) }
+{
+    matches!(
+        setting,
+        Setting::Present(_, _) | Setting::AtParent(_) | Setting::Stale
+    )
 }
 
 /// What is derived of the keys. Others only read it.
@@ -133,8 +130,8 @@ pub(crate) struct Derived {
     pub(crate) tags: TagIndex,
     /// How many keys a start could go on with.
     pub(crate) counts: Counts,
-    /// The waits in progress. An add, a start and its early end drop them. A deletion never does:
-    /// no wait checks a stale key.
+    /// The waits in progress; one that is asked for is kept too. An add, a start and its early end
+    /// drop them. A deletion never does: no wait checks a stale key.
     pub(crate) waits: Waits,
 }
 
@@ -170,6 +167,7 @@ impl Derived {
     /// it refuses a reference that a key already has: a refused add takes no memory.
     // Inline, so that most adds make no call for it.
     #[inline(always)]
+    #[tactic(auto, using(crate::proofs::Counted::all_shown))]
     pub(crate) fn index_many(
         &mut self,
         alloc: Global,
@@ -181,6 +179,7 @@ impl Derived {
         ensures many { OnOk result
             (KEYS_WITHOUT_INDEX ≤ length keys.now.entries
             → (t : ℕ) → IsSome (has self.new.tags t)) }
+        ensures few { OnOk result (count_in (λ q k. true) (keys_in_map keys.now) < 2 ^ 63) }
         ensures err { OnErr result
             (Answers (reference_refusal (hash.get_by_text keys.now pubref.now)) result) }
         ensures counts { self.new.counts ≡ self.old.counts }
@@ -218,24 +217,28 @@ impl Derived {
     }
 
     /// Changes a key by hand. What is known of a wait stays if the wait sees no change.
-    pub(crate) fn set(&mut self, key: &mut Key, setting: Setting)
-        ensures key { key.new ≡ set_by (setting_of setting) key.old }
+    pub(crate) fn set(&mut self, key: &mut Key, setting: &Setting)
+        ensures key { key.new ≡ set_by (setting_of setting.now) key.old }
         ensures tags { self.new.tags ≡ self.old.tags }
-        ensures counts { self.new.counts ≡ (if moves_counts (setting_of setting)
-            then with_key (set_by (setting_of setting) key.old).keytype
+        ensures counts { self.new.counts ≡ (if moves_counts (setting_of setting.now)
+            then with_key (set_by (setting_of setting.now) key.old).keytype
             (without_key key.old.keytype self.old.counts) else self.old.counts) }
         ensures ksks { self.new.waits.of_ksks ≡ known_after key.old.key_tag
             (over_for self.old.waits.of_ksks key.old)
-            (over_for self.old.waits.of_ksks (set_by (setting_of setting) key.old))
+            (over_for self.old.waits.of_ksks (set_by (setting_of setting.now) key.old))
             self.old.waits.of_ksks }
         ensures zsks { self.new.waits.of_zsks ≡ known_after key.old.key_tag
             (over_for self.old.waits.of_zsks key.old)
-            (over_for self.old.waits.of_zsks (set_by (setting_of setting) key.old))
+            (over_for self.old.waits.of_zsks (set_by (setting_of setting.now) key.old))
             self.old.waits.of_zsks }
     {
-        let before = key.keytype();
+        if !moves_counts(setting) {
+            self.waits.set(key, setting);
+            return;
+        }
+        self.counts.count(&key.keytype(), Counting::OneLess);
         self.waits.set(key, setting);
-        self.counts.follow(&setting, &before, &key.keytype());
+        self.counts.count(&key.keytype(), Counting::OneMore);
     }
 
     /// Marks a key as a start does.
@@ -265,16 +268,6 @@ impl Derived {
     {
         self.waits.forget();
         self.counts = count_all(keys);
-    }
-
-    /// A wait is asked for: what walks find out about it is kept.
-    pub(crate) fn find_wait(&mut self, keys: &KeyMap, roll: RollType, half: Half, ttl: u32)
-        ensures tags { self.new.tags ≡ self.old.tags }
-        ensures counts { self.new.counts ≡ self.old.counts }
-        ensures waits { AreKnown self.old.waits (keys_in_map keys.now)
-            → AreKnown self.new.waits (keys_in_map keys.now) }
-    {
-        self.waits.find(keys, roll, half, ttl);
     }
 
     /// A phase has ended. Tools ask often for the wait that a report begins, so what a walk finds

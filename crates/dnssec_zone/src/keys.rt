@@ -163,8 +163,6 @@ impl Keys {
         self.derived.index_many(alloc, &self.map, pubref.as_str())?;
         put_new(&mut self.map, pubref, key)?;
         self.derived.add(key_tag, &keytype);
-        // For the proof: by `len`, no reference stands twice, and a `usize` holds their number.
-        self.map.len();
         Ok(())
     }
 
@@ -193,13 +191,13 @@ impl Keys {
 
     /// Changes the key at a reference by hand. Answers its tag.
     #[tactic(auto, using(crate::proofs::Walks::shown))]
-    pub fn set(&mut self, pubref: &str, setting: Setting) -> Result<u16, Error>
+    pub fn set(&mut self, pubref: &str, setting: &Setting) -> Result<u16, Error>
         ensures reply { AnswersExactly
-            (setting_refusal (setting_of setting) (map.get self.old pubref.now)) result }
+            (setting_refusal (setting_of setting.now) (map.get self.old pubref.now)) result }
         ensures tag { IfOk result (λ tag.
             option_map (λ k. k.key_tag) (map.get self.old pubref.now) ≡ Some tag) }
         ensures ok { OnOk result ((q : List ℕ) → map.get self.new q ≡ option_map
-            (λ k. if bytes_eq pubref.now q then set_by (setting_of setting) k else k)
+            (λ k. if bytes_eq pubref.now q then set_by (setting_of setting.now) k else k)
             (map.get self.old q)) }
         ensures err { OnErr result (self.new ≡ self.old) }
     {
@@ -211,8 +209,6 @@ impl Keys {
             return Err(Error::WrongKeyType);
         }
         self.derived.set(key, setting);
-        // For the proof, as in `add`.
-        self.map.len();
         Ok(key_tag)
     }
 
@@ -227,8 +223,6 @@ impl Keys {
                 continue;
             };
             self.derived.mark(key, mark);
-            // For the proof, as in `add`.
-            self.map.len();
         }
     }
 
@@ -270,10 +264,12 @@ impl Keys {
         }
     }
 
-    /// Keeps what walks over the keys find out about a wait, so that the next call needs no walk.
-    pub fn find_wait(&mut self, roll: RollType, half: Half, ttl: u32)
-        ensures { self.new ≡ self.old }
+    /// The same. What a walk over the keys finds is kept, so that the next call needs no walk.
+    pub fn find_wait(&mut self, roll: RollType, half: Half, ttl: u32) -> Option<u128>
+        ensures over { IfSome result (IsOverFrom roll half ttl self.old) }
+        ensures missing { IfNone result (LacksStamp roll half ttl self.old) }
+        ensures same { self.new ≡ self.old }
     {
-        self.derived.find_wait(&self.map, roll, half, ttl);
+        self.derived.waits.find(&self.map, roll, half, ttl)
     }
 }

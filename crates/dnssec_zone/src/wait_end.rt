@@ -226,14 +226,16 @@ impl Waits {
 
     /// Changes a key by hand. What is known of a wait stays if the wait sees no change.
     #[inline(always)]
-    pub(crate) fn set(&mut self, key: &mut Key, setting: Setting)
-        ensures key { key.new ≡ set_by (setting_of setting) key.old }
+    pub(crate) fn set(&mut self, key: &mut Key, setting: &Setting)
+        ensures key { key.new ≡ set_by (setting_of setting.now) key.old }
         ensures ksks { self.new.of_ksks ≡ known_after key.old.key_tag
             (over_for self.old.of_ksks key.old)
-            (over_for self.old.of_ksks (set_by (setting_of setting) key.old)) self.old.of_ksks }
+            (over_for self.old.of_ksks (set_by (setting_of setting.now) key.old))
+            self.old.of_ksks }
         ensures zsks { self.new.of_zsks ≡ known_after key.old.key_tag
             (over_for self.old.of_zsks key.old)
-            (over_for self.old.of_zsks (set_by (setting_of setting) key.old)) self.old.of_zsks }
+            (over_for self.old.of_zsks (set_by (setting_of setting.now) key.old))
+            self.old.of_zsks }
     {
         // As a rule there is no wait.
         if self.of_ksks.is_none() && self.of_zsks.is_none() {
@@ -251,11 +253,11 @@ impl Waits {
         ensures { AreKnown self.new (keys_in_map keys.now) }
     {
         if is_of_zsks(roll) {
-            self.of_ksks = renewed(&self.of_ksks, keys);
+            renew(&mut self.of_ksks, keys);
             self.of_zsks = Some(found(keys, roll, half, ttl, None));
         } else {
             self.of_ksks = Some(found(keys, roll, half, ttl, None));
-            self.of_zsks = renewed(&self.of_zsks, keys);
+            renew(&mut self.of_zsks, keys);
         }
     }
 
@@ -264,28 +266,37 @@ impl Waits {
         ensures { AreKnown self.new (keys_in_map keys.now) }
     {
         if is_of_zsks(roll) {
-            self.of_ksks = renewed(&self.of_ksks, keys);
+            renew(&mut self.of_ksks, keys);
             self.of_zsks = None;
         } else {
             self.of_ksks = None;
-            self.of_zsks = renewed(&self.of_zsks, keys);
+            renew(&mut self.of_zsks, keys);
         }
     }
 
-    /// Finds a wait, if it isn't the one that is kept on its side.
-    pub(crate) fn find(&mut self, keys: &KeyMap, roll: RollType, half: Half, ttl: u32)
-        ensures { AreKnown self.old (keys_in_map keys.now)
+    /// From when on a wait is over. A walk finds it, if it isn't the one that is kept on its side.
+    pub(crate) fn find(
+        &mut self,
+        keys: &KeyMap,
+        roll: RollType,
+        half: Half,
+        ttl: u32,
+    ) -> Option<u128>
+        ensures known { AreKnown self.old (keys_in_map keys.now)
             → AreKnown self.new (keys_in_map keys.now) }
+        ensures over { AreKnown self.old (keys_in_map keys.now)
+            → IsLatest (over_at roll half ttl) (keys_in_map keys.now) result }
     {
-        if self.over(roll, half, ttl).is_some() {
-            return;
+        if let Some(over) = self.over(roll, half, ttl) {
+            return over;
         }
-        let wait = Some(found(keys, roll, half, ttl, self.changed));
+        let wait = found(keys, roll, half, ttl, self.changed);
         if is_of_zsks(roll) {
-            self.of_zsks = wait;
+            self.of_zsks = Some(wait);
         } else {
-            self.of_ksks = wait;
+            self.of_ksks = Some(wait);
         }
+        wait.over
     }
 }
 
@@ -297,7 +308,8 @@ fn is_of_zsks(roll: RollType) -> bool {
 /// A wait, as a walk over the keys finds it: by all, and by all but the key in which a wait saw a
 /// change, if there is one.
 fn found(keys: &KeyMap, roll: RollType, half: Half, ttl: u32, changed: Option<u16>) -> ReportedWait
-    ensures { IsKnown (Some result) (keys_in_map keys.now) }
+    ensures known { IsKnown (Some result) (keys_in_map keys.now) }
+    ensures over { IsLatest (over_at roll half ttl) (keys_in_map keys.now) result.over }
 {
     match changed {
         None => ReportedWait {
@@ -320,13 +332,12 @@ fn found(keys: &KeyMap, roll: RollType, half: Half, ttl: u32, changed: Option<u1
     }
 }
 
-/// What is known of a wait after all keys may have changed: a walk finds it anew.
-fn renewed(known: &Option<ReportedWait>, keys: &KeyMap) -> Option<ReportedWait>
-    ensures { IsKnown result (keys_in_map keys.now) }
+/// All keys may have changed: a walk finds a wait anew, if there is one.
+fn renew(known: &mut Option<ReportedWait>, keys: &KeyMap)
+    ensures { IsKnown known.new (keys_in_map keys.now) }
 {
-    match known {
-        None => None,
-        Some(wait) => Some(found(keys, wait.roll, wait.half, wait.ttl, None)),
+    if let Some(wait) = known {
+        *wait = found(keys, wait.roll, wait.half, wait.ttl, None);
     }
 }
 

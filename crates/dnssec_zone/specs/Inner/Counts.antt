@@ -1,6 +1,6 @@
 -- How many keys pass a test.
 use Rattle.std.specs.Prelude.{◌≡◌, ℕ, ◌+◌, ◌-◌, min, Bool, true, false, not, ◌&&◌, Option, None}
-use Rattle.std.specs.Prelude.{Some, List, [], ◌∷◌}
+use Rattle.std.specs.Prelude.{Some, List, [], ◌∷◌, ◌≤◌}
 use Rattle.std.specs.FinMap.{entries}
 use Rattle.dnssec_key.specs.declared.kind.KeyType.{KeyType}
 use Rattle.dnssec_key.specs.declared.roll.PhaseEnd.{PhaseEnd}
@@ -104,3 +104,7 @@ end_moves_kept Wait roll half = wait_moves_kept roll half
 abbrev pub CountsAgree : Counts → Keys → Type 0
 CountsAgree counts keys =
     (w : Want) → count_of counts w ≡ count_in (passes (serves_as_kept w)) keys
+
+-- a usize holds the number of keys
+abbrev pub AreCountable : Keys → Type 0
+AreCountable keys = count_in (λ q k. true) keys ≤ 18446744073709551615

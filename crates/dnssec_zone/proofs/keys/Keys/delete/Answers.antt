@@ -1,11 +1,12 @@
 -- The key's tag leaves the index with it; a stale key was in no count, and in no wait.
-use Rattle.std.proofs.Common.{◌≡◌, true, None, Some, rules, ap, ◌∙◌}
+use Rattle.std.proofs.Common.{◌≡◌, true, None, Some, rules, ap, arith, ◌∙◌}
 use Rattle.std.proofs.lemmas.Map.Text.{hash_map_updates_text}
 use Rattle.std.specs.FinMap.{get}
 use Rattle.dnssec_key.specs.{Inner.TagIndex.has, State.is_stale, Key.all_states}
 use Rattle.dnssec_zone.specs.{Inner.Counts.bit, Inner.Counts.passes, Inner.Counts.share}
 use Rattle.dnssec_zone.specs.{Keys.keys_in_map, Start.serves_as_kept}
 use Rattle.dnssec_zone.proofs.{Latest.known-removed, Counted.counts-alike, Counted.stale-serves}
+use Rattle.dnssec_zone.proofs.{Counted.count-changed}
 use Rattle.dnssec_zone.proofs.{Walks.shown, Walks.get-updated, Tags.TagsAgree-removed}
 use Rattle.dnssec_zone.proofs.keys.Keys.delete.Goals as goal
 
@@ -32,4 +33,5 @@ invariant_of-self c =
         known-removed (keys_in_map i.map) n r x found is stale i.derived.waits.of_zsks
             c.self.invariant.2.1,
       ),
+      omega (arith, c.self.invariant.3, count-changed (λ q k. true) (keys_in_map i.map) n r None is),
     )

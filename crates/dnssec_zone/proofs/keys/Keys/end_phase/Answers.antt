@@ -1,7 +1,7 @@
 -- The walk changes each key as the end of a phase does. If a count may change, all are counted.
 use Rattle.std.proofs.Common.{rules}
 use Rattle.dnssec_key.specs.RollTable.{after_end}
-use Rattle.dnssec_zone.proofs.Counted.{counts-ended}
+use Rattle.dnssec_zone.proofs.Counted.{counts-ended, countable-kept}
 use Rattle.dnssec_zone.proofs.Walks.{IsWalked, get-walked, retained}
 use Rattle.dnssec_zone.proofs.Tags.{kept_ended, tags-walked}
 use Rattle.dnssec_zone.proofs.keys.Keys.end_phase.Goals as goal
@@ -20,4 +20,6 @@ invariant_of-self c = (
   counts-ended _ _ _ _ _ _ _ _ c.retain.ensures.was_unique c.retain.ensures.unique (walk c)
       c.self.invariant.1 c.end_phase.ensures.moved c.end_phase.ensures.kept,
   c.end_phase.ensures.waits,
+  countable-kept _ _ c.retain.ensures.was_unique c.retain.ensures.unique (walk c)
+      c.self.invariant.3,
 )

@@ -5,7 +5,7 @@ use Rattle.std.specs.{Prelude.if◌then◌else◌, Str.bytes_eq, Option.option_m
 use Rattle.std.specs.{Cmp.Lexicographic.bytes_decides}
 use Rattle.dnssec_key.specs.Inner.TagIndex.{has}
 use Rattle.dnssec_zone.specs.{Inner.KeyMark.marked, Keys.keys_in_map}
-use Rattle.dnssec_zone.proofs.{Counted.counts-exchanged, Counted.fits-shown, Walks.shown}
+use Rattle.dnssec_zone.proofs.{Counted.counts-exchanged, Counted.countable-exchanged, Walks.shown}
 use Rattle.dnssec_zone.proofs.{Walks.put-changed, Tags.tags-changed}
 use Rattle.dnssec_zone.proofs.{Marks.mark_more, Marks.marked-twice}
 use Rattle.std.specs.FinMap as map
@@ -27,17 +27,18 @@ loop-reference-preserved c =
     let found : map.get (keys_in_map i.map) r ≡ Some k = search (rules, shown) in
     let is : (q : List ℕ) → map.get (keys_in_map n) q
     ≡ option_map (λ k. if bytes_eq r q then f k else k) (map.get (keys_in_map i.map) q) =
-    λ q. search (rules, shown) in (
+    λ q. search (rules, shown) in
+    let put = put-changed f (keys_in_map i.map) (keys_in_map n) r k found is in
+    let few = countable-exchanged (keys_in_map i.map) (keys_in_map n) r k (f k) found put
+    l.invariant.0.3 in (
       (
         rw c.mark.ensures.tags (tags-changed (keys_in_map i.map) (keys_in_map n) r f
             (λ k. grind arith) is (has i.derived.tags) l.invariant.0.0),
         rw c.mark.ensures.counts
             (counts-exchanged i.derived.counts (keys_in_map i.map) (keys_in_map n) r (Some (f k))
-            (put-changed f (keys_in_map i.map) (keys_in_map n) r k found is) l.invariant.0.1 k
-            (f k) found refl
-            (fits-shown n c.len.ensures.unique
-            (omega (arith, c.len.ensures.len, c.len.ensures.small)))),
+            put l.invariant.0.1 k (f k) found refl few),
         c.mark.ensures.waits _,
+        few,
       ),
       mark_more f (marked-twice c.args.mark.now) rs l.reference-index _ _ _ _
           c.loop-reference-test.true l.invariant.1 is,

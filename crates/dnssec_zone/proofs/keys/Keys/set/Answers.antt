@@ -1,10 +1,10 @@
 -- A key that a setter doesn't suit is written back as it was; else one key is changed.
-use Rattle.std.proofs.Common.{◌≡◌, ℕ, List, Some, rules, sym, subst, ◌∙◌, arith}
+use Rattle.std.proofs.Common.{◌≡◌, ℕ, List, Some, rules, sym, subst, ◌∙◌}
 use Rattle.std.specs.{Prelude.if◌then◌else◌, Str.bytes_eq, Option.option_map}
 use Rattle.dnssec_key.specs.{Inner.TagIndex.has, Setters.setting_of, Setters.set_by}
 use Rattle.dnssec_zone.specs.{Inner.Derived.IsDerived, Keys.keys_in_map}
 use Rattle.dnssec_zone.proofs.{Walks.put-changed, Walks.same-written, Walks.shown}
-use Rattle.dnssec_zone.proofs.{Counted.counts-set, Counted.fits-shown, Latest.known-after}
+use Rattle.dnssec_zone.proofs.{Counted.counts-set, Counted.countable-exchanged, Latest.known-after}
 use Rattle.dnssec_zone.proofs.{Tags.tags-changed, Tags.kept_set}
 use Rattle.std.specs.FinMap as map
 use Rattle.dnssec_zone.proofs.keys.Keys.set.Goals as goal
@@ -32,7 +32,7 @@ pub invariant_of-self-2 : goal.invariant_of-self-2
 invariant_of-self-2 c =
     let i = c.self.inside in
     let r = c.args.pubref.now in
-    let setting = setting_of c.args.setting in
+    let setting = setting_of c.args.setting.now in
     let f = set_by setting in
     let n = c.get_mut.follows.lender c.set.new.key in
     let k = c.in-Some.key.now in
@@ -41,18 +41,19 @@ invariant_of-self-2 c =
     ≡ option_map (λ k. if bytes_eq r q then f k else k) (map.get (keys_in_map i.map) q) =
     λ q. search (rules, shown) in
     let put = put-changed f (keys_in_map i.map) (keys_in_map n) r k found is in
+    let few = countable-exchanged (keys_in_map i.map) (keys_in_map n) r k (f k) found put
+    c.self.invariant.3 in
     let tags = tags-changed (keys_in_map i.map) (keys_in_map n) r f (kept_set setting) is
     (has i.derived.tags) c.self.invariant.0 in (
       rw c.set.ensures.tags tags,
       rw c.set.ensures.counts
           (counts-set setting i.derived.counts (keys_in_map i.map) (keys_in_map n) r k found put
-          (fits-shown n c.len.ensures.unique
-          (omega (arith, c.len.ensures.len, c.len.ensures.small)))
-          c.self.invariant.1),
+          few c.self.invariant.1),
       (
         rw c.set.ensures.ksks (known-after (keys_in_map i.map) (keys_in_map n) r k (f k) found put
             (kept_set setting k) tags.apart i.derived.waits.of_ksks c.self.invariant.2.0),
         rw c.set.ensures.zsks (known-after (keys_in_map i.map) (keys_in_map n) r k (f k) found put
             (kept_set setting k) tags.apart i.derived.waits.of_zsks c.self.invariant.2.1),
       ),
+      few,
     )

@@ -23,4 +23,5 @@ invariant_of-result c =
       },
       c.self.invariant.1,
       c.self.invariant.2,
+      c.self.invariant.3,
     )

@@ -2,6 +2,7 @@
 use Rattle.std.proofs.Common.{rules}
 use Rattle.dnssec_key.specs.{RollTable.after_early_end, Inner.Bits.is_set}
 use Rattle.dnssec_zone.proofs.Walks.{IsWalked, get-walked, retained}
+use Rattle.dnssec_zone.proofs.Counted.{countable-kept}
 use Rattle.dnssec_zone.proofs.Tags.{tags-walked, kept_unmarked}
 use Rattle.dnssec_zone.proofs.keys.Keys.unmark.Goals as goal
 
@@ -19,4 +20,6 @@ invariant_of-self c = (
       c.self.invariant.0),
   c.recount.ensures.counts,
   c.recount.ensures.waits _,
+  countable-kept _ _ c.retain.ensures.was_unique c.retain.ensures.unique (walk c)
+      c.self.invariant.3,
 )
