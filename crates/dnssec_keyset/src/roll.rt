@@ -52,10 +52,10 @@ impl KeySet {
     {
         self.check_start(rolltype, old, new)?;
         let actions = Vec::from_slice(self.alloc, rolltype.actions_in(RollState::Propagation1))?;
-        let lists = self.lists.with_start(&self.keys, rolltype, old, new)?;
+        self.lists.make_room(old, new)?;
         // The last request for memory comes before the first write: nothing after it can fail.
         self.rolls.put_in(rolltype, RollState::Propagation1)?;
-        self.lists = lists;
+        self.lists.start(&self.keys, rolltype, old, new);
         self.keys.mark(old, &KeyMark::AsOld);
         self.keys.mark(new, &KeyMark::AsNew(rolltype, *now));
         Ok(actions)

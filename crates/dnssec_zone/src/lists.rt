@@ -1,5 +1,6 @@
 //! What the starts of rolls have listed. It is kept for each roll while that may be ended early.
-ghost use Rattle.std.specs.Prelude.{◌≡◌, IfOk, IsOkUnless, OnOk, ℕ, List, [], ◌++◌};
+ghost use Rattle.std.specs.Prelude.{◌≡◌, IfOk, IsOkUnless, OnOk, ℕ, List, [], ◌++◌, ◌≤◌, ◌+◌};
+ghost use Rattle.std.specs.Prelude.{length, vec_len, vec_capacity};
 ghost use Rattle.std.specs.Option.{option_map};
 ghost use Rattle.std.specs.FinMap as map;
 ghost use Rattle.dnssec_base.specs.declared.error.Error.TheVariants.{OutOfMemory};
@@ -92,56 +93,59 @@ impl Lists {
         Ok(Lists { entries })
     }
 
-    /// These lists, with what a start lists in place of what its roll listed before.
-    pub fn with_start(
-        &self,
-        keys: &Keys,
-        roll: RollType,
-        old: &[&str],
-        new: &[&str],
-    ) -> Result<Lists, Error>
-        ensures ok { IfOk result (λ lists. lists.entries.items ≡ entries_at_start keys.now roll
-            (texts old.now) (texts new.now) self.now.entries.items) }
+    /// Makes room for what a start lists.
+    pub fn make_room(&mut self, old: &[&str], new: &[&str]) -> Result<(), Error>
+        ensures same { self.new.entries.items ≡ self.old.entries.items }
+        ensures room { OnOk result (vec_len self.new.entries + (length old.now + length new.now)
+            ≤ vec_capacity self.new.entries) }
         ensures err { IsOkUnless result OutOfMemory }
     {
-        let mut lists = self.try_clone()?;
-        lists.take_out(roll);
-        lists.list(keys, roll, Part::Old, old)?;
-        lists.list(keys, roll, Part::New, new)?;
-        Ok(lists)
+        let listed = old.len().checked_add(new.len()).ok_or(Error::OutOfMemory)?;
+        self.entries.reserve(listed)?;
+        Ok(())
+    }
+
+    /// Lists what a start lists, in place of what its roll listed before. There has to be room.
+    pub fn start(&mut self, keys: &Keys, roll: RollType, old: &[&str], new: &[&str])
+        requires { vec_len self.old.entries + (length old.now + length new.now)
+            ≤ vec_capacity self.old.entries }
+        ensures { self.new.entries.items ≡ entries_at_start keys.now roll
+            (texts old.now) (texts new.now) self.old.entries.items }
+    {
+        self.take_out(roll);
+        self.list(keys, roll, Part::Old, old);
+        self.list(keys, roll, Part::New, new);
     }
 
     /// Lists the keys that are not old. No new key of a start is old.
-    fn list(
-        &mut self,
-        keys: &Keys,
-        roll: RollType,
-        part: Part,
-        references: &[&str],
-    ) -> Result<(), Error>
-        ensures ok { OnOk result (self.new.entries.items
-            ≡ self.old.entries.items ++ entries_of keys.now roll part (texts references.now)) }
-        ensures err { IsOkUnless result OutOfMemory }
+    fn list(&mut self, keys: &Keys, roll: RollType, part: Part, references: &[&str])
+        requires { vec_len self.old.entries + length references.now
+            ≤ vec_capacity self.old.entries }
+        ensures items { self.new.entries.items
+            ≡ self.old.entries.items ++ entries_of keys.now roll part (texts references.now) }
+        ensures len { vec_len self.new.entries ≤ vec_len self.old.entries + length references.now }
+        ensures capacity { vec_capacity self.new.entries ≡ vec_capacity self.old.entries }
     {
         for reference in references {
             match keys.get(reference) {
                 Some(key) if key.is_kept() => {
                     let key_tag = key.key_tag();
-                    self.entries.push(ListedKey {
+                    self.entries.push_reserved(ListedKey {
                         roll,
                         part,
                         key_tag,
-                    })?;
+                    });
                 }
                 _ => {}
             }
         }
-        Ok(())
     }
 
     /// Drops what is kept for a roll.
     pub fn take_out(&mut self, roll: RollType)
-        ensures { self.new.entries.items ≡ without_roll roll self.old.entries.items }
+        ensures items { self.new.entries.items ≡ without_roll roll self.old.entries.items }
+        ensures len { vec_len self.new.entries ≤ vec_len self.old.entries }
+        ensures capacity { vec_capacity self.new.entries ≡ vec_capacity self.old.entries }
     {
         self.entries.retain(|entry| !entry.is_of_roll(roll));
     }

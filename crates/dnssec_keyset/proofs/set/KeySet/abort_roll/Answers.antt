@@ -6,7 +6,7 @@ use Rattle.dnssec_keyset.specs.{Step.Actions, Step.AbortRoll, contracts.set.KeyS
 use Rattle.dnssec_keyset.proofs.set.KeySet.abort_roll.Goals as goal
 
 pub invariant_of-self : goal.invariant_of-self
-invariant_of-self c = rw (c.take_out.ensures) (undone c.self.invariant _
+invariant_of-self c = rw (c.take_out.ensures.items) (undone c.self.invariant _
     c.args.rolltype c.unmark.ensures).0
 
 pub returns : goal.returns
@@ -16,7 +16,7 @@ returns c = rw (← c.self.view_is) (accepted-step (the_view c.self.inside) _
     (record {
       name = refl;
       rolls = c.take_out-2.ensures;
-      lists = rw (c.take_out.ensures) (undone c.self.invariant _ c.args.rolltype
+      lists = rw (c.take_out.ensures.items) (undone c.self.invariant _ c.args.rolltype
           c.unmark.ensures).1;
       keys = undone-keys c.self.invariant _ c.args.rolltype c.unmark.ensures;
     }))

@@ -25,7 +25,7 @@ listing c = started (the_view c.self.inside) c.self.invariant _ _ c.args.rolltyp
     (texts c.args.new.now) ≡ None) (sym c.self.view_is) (clear c))
 
 pub invariant_of-self-2 : goal.invariant_of-self-2
-invariant_of-self-2 c = rw (c.in_ok-lists.ensures.ok) (listing c).0
+invariant_of-self-2 c = rw (c.start.ensures, c.in_ok-make_room.ensures.same) (listing c).0
 
 pub returns : goal.returns
 returns c = accepted-step c.args.self.now _
@@ -35,7 +35,7 @@ returns c = accepted-step c.args.self.now _
     (rw (← c.self.view_is) record {
       name = refl;
       rolls = c.in_ok-put_in.ensures.ok;
-      lists = rw (c.in_ok-lists.ensures.ok) (listing c).1;
+      lists = rw (c.start.ensures, c.in_ok-make_room.ensures.same) (listing c).1;
       keys = started-keys (the_view c.self.inside) c.self.invariant _ _ c.args.rolltype
           (texts c.args.old.now) (texts c.args.new.now) c.args.now.now c.mark.ensures
           c.mark-2.ensures;

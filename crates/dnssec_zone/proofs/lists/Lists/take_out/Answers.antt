@@ -4,6 +4,6 @@ use Rattle.dnssec_zone.specs.{declared.lists.ListedKey.ListedKey, Inner.Entries.
 use Rattle.dnssec_key.proofs.Retained.{filtered}
 use Rattle.dnssec_zone.proofs.lists.Lists.take_out.Goals as goal
 
-pub returns : goal.returns
-returns c = filtered _ (λ (e : ListedKey). not (is_of_roll c.args.roll e)) _
+pub returns-clause-items : goal.returns-clause-items
+returns-clause-items c = filtered _ (λ (e : ListedKey). not (is_of_roll c.args.roll e)) _
     (λ x b q k. search (rules, tests)) _ _ c.retain.ensures.filtered
