@@ -249,15 +249,13 @@ impl Derived {
             (without_key key.old.keytype self.old.counts) }
         ensures waits { (keys : AnyKeys) → AreKnown self.new.waits keys }
     {
-        let before = key.keytype();
+        self.waits.forget();
+        self.counts.count(&key.keytype(), Counting::OneLess);
         match *mark {
             KeyMark::AsOld => mark_old(key),
             KeyMark::AsNew(roll, now) => mark_new(key, roll, now),
         }
-        let after = key.keytype();
-        self.waits.forget();
-        self.counts.count(&before, Counting::OneLess);
-        self.counts.count(&after, Counting::OneMore);
+        self.counts.count(&key.keytype(), Counting::OneMore);
     }
 
     /// Flags of keys have changed: all are counted again.

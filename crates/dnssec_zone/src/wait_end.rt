@@ -167,8 +167,11 @@ impl Waits {
     pub(crate) fn forget(&mut self)
         ensures { (keys : AnyKeys) → AreKnown self.new keys }
     {
-        self.of_ksks = None;
-        self.of_zsks = None;
+        // As a rule there is no wait, and nothing is written.
+        if self.of_ksks.is_some() || self.of_zsks.is_some() {
+            self.of_ksks = None;
+            self.of_zsks = None;
+        }
     }
 
     /// What is known of the wait on a roll's side.
