@@ -33,5 +33,9 @@ invariant_of-self c =
         known-removed (keys_in_map i.map) n r x found is stale i.derived.waits.of_zsks
             c.self.invariant.2.1,
       ),
-      omega (arith, c.self.invariant.3, count-changed (λ q k. true) (keys_in_map i.map) n r None is),
+      omega (
+        arith,
+        c.self.invariant.3,
+        count-changed (λ q k. true) (keys_in_map i.map) n r None is,
+      ),
     )

@@ -22,9 +22,9 @@ loop-reference-preserved c =
     let rs = c.args.references.now in
     let r = (get_or rs l.reference-index past).now in
     let f = marked c.args.mark.now in
-    let n = c.get_mut.follows.lender c.mark.new.key in
     let k = c.in-Some.key.now in
     let found : map.get (keys_in_map i.map) r ≡ Some k = search (rules, shown) in
+    let n = c.get_mut.follows.lender c.mark.new.key in
     let is : (q : List ℕ) → map.get (keys_in_map n) q
     ≡ option_map (λ k. if bytes_eq r q then f k else k) (map.get (keys_in_map i.map) q) =
     λ q. search (rules, shown) in
