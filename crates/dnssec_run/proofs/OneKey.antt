@@ -19,8 +19,9 @@ use Rattle.dnssec_keyset.specs.KeySet.{KeySetParts}
 use Rattle.dnssec_zone.proofs.Quantified.{first, second}
 use Rattle.dnssec_run.specs.declared.record.{Published.Published, PublishedKey.PublishedKey}
 use Rattle.dnssec_run.specs.Published.{Id, World, id_of, keys_where}
-use Rattle.dnssec_run.specs.Recorder.{Agrees, ChangesAt, HasSameKeys, IsAscending, SetsPlace}
-use Rattle.dnssec_run.specs.Recorder.{position_after, position_in, position_shown}
+use Rattle.dnssec_run.specs.Recorder.{Agrees, ChangesAt, HasSameKeys, IsAscending, PlacesKey}
+use Rattle.dnssec_run.specs.Recorder.{SetsPlace, passing, position_after, position_in}
+use Rattle.dnssec_run.specs.Recorder.{position_shown}
 use Rattle.dnssec_run.proofs.Positions.{equal-keys, order, shown-ascending, shown-by, shown-found}
 
 abbrev reference : PublishedKey → List ℕ
@@ -270,17 +271,24 @@ published-at : (passes : KeyType → Bool) (r q : List ℕ) (here : List ℕ →
     → cond (bytes_eq r q) (position_after (here r) before) before ≡ position_shown passes o (Some n)
 published-at passes r q here before o was n was_so now others = grind (arith, bytes_decides)
 
+-- a key that is shown has its position
+shown-if : (passes : KeyType → Bool) (o : Option KeyParts) (at : Option ℕ)
+    → cond (passing passes o) at None ≡ position_shown passes o at
+shown-if passes o at = grind arith
+
+some-there : (passes : KeyType → Bool) (o : Option KeyParts) (at : Option ℕ) (n : ℕ)
+    → at ≡ option_map (λ (k : KeyParts). n) o → passing passes o ≡ true → is_some at ≡ true
+some-there passes o at n is shown = grind arith
+
 -- a set that is touched has the key at its place, and another stays
 pub renewed : (passes : KeyType → Bool) (touched : Bool) (v w : World) (r : List ℕ)
     (set : KeySetParts) (at : List ℕ → Option ℕ) (old new : List Id) (key : Option KeyParts)
-    (place result : Option ℕ) → key ≡ get set.keys r → place ≡ at r
-    → (touched ≡ true → result ≡ position_shown passes key place)
-    → (touched ≡ true → IsAscending old → SetsPlace r result old new)
+    → key ≡ get set.keys r → (touched ≡ true → PlacesKey at r (passing passes key) old new)
     → (touched ≡ false → new ≡ old) → old ≡ keys_where passes v → ChangesAt r v w
     → Agrees set at w → (touched ≡ false → keys_where passes w ≡ keys_where passes v)
     → new ≡ keys_where passes w
-renewed passes touched v w r set at old new key place result found placed is sets left was only
-    agrees leaves = by touched refl
+renewed passes touched v w r set at old new key found sets left was only agrees leaves =
+    by touched refl
   where
     before : (q : List ℕ) → position_in old q
         ≡ position_shown passes (get v.set.keys q) (Some (w.added q))
@@ -291,9 +299,16 @@ renewed passes touched v w r set at old new key place result found placed is set
         (option_map (λ (k : KeyParts). w.added q) (get w.set.keys q))
     here q = rw (agrees.positions q, agrees.same) refl
 
+    added : at r ≡ option_map (λ (k : KeyParts). w.added r) key
+    added = rw found (agrees.positions r ∙ ap (λ (s : KeySetParts).
+        option_map (λ (k : KeyParts). w.added r) (get s.keys r)) (sym agrees.same))
+
     by : (t : Bool) → touched ≡ t → new ≡ keys_where passes w
     by true t =
-        let then = rw (is t, found, placed) at (sets t (rw was (shown-ascending passes v))) in
+        let then : SetsPlace r (position_shown passes (get set.keys r) (at r)) old new =
+        subst (λ o. SetsPlace r o old new) (shown-if passes key (at r)
+        ∙ ap (λ o. position_shown passes o (at r)) found) (sets t
+        (rw was (shown-ascending passes v)) (some-there passes key (at r) (w.added r) added)) in
         shown-by passes w new then.ascending (λ q. then.found q ∙ published-at passes r q
         (λ q. position_shown passes (get set.keys q) (at q)) (position_in old q)
         (get w.set.keys q) (get v.set.keys q) (w.added q) (before q) (here q) (only.others q))

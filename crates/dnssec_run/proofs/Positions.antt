@@ -26,6 +26,7 @@ use Rattle.dnssec_run.specs.Published.{Id, World, keys_where, id_of}
 use Rattle.dnssec_run.specs.Record.{new_world}
 use Rattle.dnssec_run.specs.Recorder.{Agrees, IsAscending, ids_where, position_in, position_shown}
 use Rattle.dnssec_run.specs.Recorder.{shown_once, ids_read}
+pub use Rattle.dnssec_run.specs.Recorder.{passing}
 use Rattle.dnssec_run.specs.declared.{record.PublishedKey.PublishedKey, sets.Renewal.Renewal}
 use Rattle.std.specs.BTreeMap as tree
 
@@ -38,9 +39,6 @@ both false b p q = absurd p
 
 pub equal-keys : (x y : List ℕ) → order x y ≡ Equal → x ≡ y
 equal-keys = slice_cmp-IsAntisymmetric nat_cmp-IsAntisymmetric
-
-abbrev pub passing : (KeyType → Bool) → Option KeyParts → Bool
-passing p o = option_map_or (λ (k : KeyParts). p k.keytype) o false
 
 -- ---- a set by its look-ups
 

@@ -18,6 +18,8 @@ use Rattle.dnssec_run.specs.declared.record.Entry.{Entry}
 use Rattle.dnssec_run.specs.declared.record.Mark.TheVariants.{Report}
 use Rattle.dnssec_run.specs.declared.record.Reply.{Reply}
 use Rattle.dnssec_run.specs.declared.record.Reply.TheVariants.{Done, Actions, Refused}
+use Rattle.dnssec_run.specs.declared.sets.Shown.{Shown}
+use Rattle.dnssec_run.specs.declared.sets.Shown.TheVariants as lists
 use Rattle.dnssec_run.specs.Record.{call_of}
 use Rattle.dnssec_run.specs.Safe.{SetKind, Ds, Dnskey, ZoneSigners, Position, position_at}
 use Rattle.dnssec_run.specs.Safe.{base_below, retires}
@@ -68,19 +70,25 @@ abbrev pub sets_flag : keyset.Call → Bool
 sets_flag (keyset.Set reference setting) = is_flag_setting setting
 sets_flag _ = false
 
--- a setter of a flag that decides which keys are in the sets of this kind
-abbrev pub flag_shown : Setting → SetKind → Bool
-flag_shown (Present value now) Dnskey = true
-flag_shown (Signer value) Dnskey = true
-flag_shown (Signer value) ZoneSigners = true
-flag_shown (AtParent value) Ds = true
-flag_shown Stale kind = true
+-- the kind of the sets that a list is a part of
+abbrev pub kind_shown : Shown → SetKind
+kind_shown lists.Ds = Ds
+kind_shown lists.ZoneSigners = ZoneSigners
+kind_shown _ = Dnskey
+
+-- a setter of a flag that decides which keys the list shows
+abbrev pub flag_shown : Setting → Shown → Bool
+flag_shown (Present value now) lists.Dnskey = true
+flag_shown (Signer value) lists.DnskeySigners = true
+flag_shown (Signer value) lists.ZoneSigners = true
+flag_shown (AtParent value) lists.Ds = true
+flag_shown Stale list = true
 flag_shown _ _ = false
 
 -- a call that sets such a flag by hand
-abbrev pub sets_shown : SetKind → keyset.Call → Bool
-sets_shown kind (keyset.Set reference setting) = flag_shown setting kind
-sets_shown kind _ = false
+abbrev pub sets_shown : Shown → keyset.Call → Bool
+sets_shown list (keyset.Set reference setting) = flag_shown setting list
+sets_shown list _ = false
 
 -- what is published of this kind is the same at both positions
 abbrev pub SamePublished : SetKind → Position → Position → Type 0

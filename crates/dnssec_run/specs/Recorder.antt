@@ -1,7 +1,7 @@
 -- What the recorder of a run keeps besides the key set.
 use denote.Ref.{Bor}
 use Rattle.std.specs.Prelude.{◌≡◌, ℕ, Bool, false, T, List, [], ◌∷◌, length, map, filter, take}
-use Rattle.std.specs.Prelude.{Option, None, Some, if◌then◌else◌, string_bytes}
+use Rattle.std.specs.Prelude.{Option, None, Some, true, IsSome, if◌then◌else◌, string_bytes}
 use Rattle.std.specs.Option.{option_map, option_map_or}
 use Rattle.std.specs.List.{All}
 use Rattle.std.specs.Str.{bytes_eq}
@@ -15,7 +15,6 @@ use Rattle.dnssec_key.specs.declared.kind.KeyType.{KeyType}
 use Rattle.dnssec_key.specs.Key.{KeyParts}
 use Rattle.dnssec_keyset.specs.KeySet.{KeySetParts}
 use Rattle.dnssec_keyset.specs.Step as keyset
-use Rattle.dnssec_run.specs.declared.caches.ByKind.{ByKind}
 use Rattle.dnssec_run.specs.declared.call.Call.{Call}
 use Rattle.dnssec_run.specs.declared.call.KeyChange.{KeyChange}
 use Rattle.dnssec_run.specs.declared.call.KeyChange.TheVariants.{Adds, Deletes}
@@ -24,7 +23,7 @@ use Rattle.dnssec_run.specs.declared.record.Outcome.{Outcome}
 use Rattle.dnssec_run.specs.declared.record.Published.{Published}
 use Rattle.dnssec_run.specs.declared.sets.Renewal.{Renewal}
 use Rattle.dnssec_run.specs.declared.running.Recorder.{Recorder}
-use Rattle.dnssec_run.specs.declared.sets.Shown.{Shown}
+use Rattle.dnssec_run.specs.declared.sets.{ByList.ByList, Shown.Shown}
 use Rattle.dnssec_run.specs.declared.sets.Shown.TheVariants.{Ds, Dnskey, DnskeySigners, ZoneSigners}
 use Rattle.dnssec_run.specs.Published.{Id, IsPublished, World, id_of, in_ds, in_dnskey, keys_where}
 use Rattle.dnssec_run.specs.Published.{signs_dnskey, signs_zone}
@@ -36,6 +35,13 @@ shows Ds = in_ds
 shows Dnskey = in_dnskey
 shows DnskeySigners = signs_dnskey
 shows ZoneSigners = signs_zone
+
+-- that of a list
+abbrev pub at_list : ByList → Shown → Bool
+at_list lists Ds = lists.ds
+at_list lists Dnskey = lists.dnskey
+at_list lists DnskeySigners = lists.dnskey_signers
+at_list lists ZoneSigners = lists.zone_signers
 
 -- the reference of the key that a call deletes, if any
 abbrev pub reference_deleted : keyset.Call → Option (List ℕ)
@@ -78,13 +84,13 @@ abbrev pub ChangesOnly : Option (List ℕ) → World → World → Type 0
 ChangesOnly None v w = Unit {0}
 ChangesOnly (Some reference) v w = ChangesAt reference v w
 
--- the sets of the kinds that a call doesn't touch are the same after it
-pub record Leaves (touched : ByKind Bool) (v w : World) : Type 0 where
+-- the lists that a call doesn't touch are the same after it
+pub record Leaves (touched : ByList) (v w : World) : Type 0 where
   pub ds : touched.ds ≡ false → keys_where in_ds w ≡ keys_where in_ds v
   pub dnskey : touched.dnskey ≡ false → keys_where in_dnskey w ≡ keys_where in_dnskey v
-  pub dnskey_signers : touched.dnskey ≡ false →
+  pub dnskey_signers : touched.dnskey_signers ≡ false →
       keys_where signs_dnskey w ≡ keys_where signs_dnskey v
-  pub zone_signers : touched.zone ≡ false →
+  pub zone_signers : touched.zone_signers ≡ false →
       keys_where signs_zone w ≡ keys_where signs_zone v
 
 -- ---- the place of one key in a set
@@ -113,6 +119,16 @@ pub record SetsPlace (reference : List ℕ) (at : Option ℕ) (old new : List Id
   pub ascending : IsAscending new
   pub found : (q : List ℕ) → position_in new q
       ≡ (if bytes_eq reference q then position_after at (position_in old q) else position_in old q)
+
+-- the key is there and passes
+abbrev pub passing : (KeyType → Bool) → Option KeyParts → Bool
+passing passes key = option_map_or (λ (k : KeyParts). passes k.keytype) key false
+
+-- so is a key, if a set that is in order shows it and it was added
+abbrev pub PlacesKey : (List ℕ → Option ℕ) → List ℕ → Bool → List Id → List Id → Type 0
+PlacesKey added reference is_shown old new =
+    IsAscending old → (is_shown ≡ true → IsSome (added reference)) →
+    SetsPlace reference (if is_shown then added reference else None) old new
 
 -- ---- a walk over the keys
 

@@ -26,22 +26,6 @@ pub struct ByKind<T> {
     pub zone: T,
 }
 
-impl ByKind<bool> {
-    /// No kind.
-    pub(crate) const NONE: ByKind<bool> = ByKind {
-        ds: false,
-        dnskey: false,
-        zone: false,
-    };
-
-    /// All kinds.
-    pub(crate) const ALL: ByKind<bool> = ByKind {
-        ds: true,
-        dnskey: true,
-        zone: true,
-    };
-}
-
 impl<T: Copy> ByKind<T> {
     /// That of a kind.
     pub fn of(self, kind: SetKind) -> T

@@ -4,13 +4,13 @@ ghost use Rattle.std.specs.Option.{option_map};
 ghost use Rattle.dnssec_base.specs.declared.error.Error.TheVariants.{OutOfMemory};
 ghost use Rattle.dnssec_keyset.specs.Step.{Step, reply_done, reply_list};
 ghost use Rattle.dnssec_run.specs.Asked.{sets_shown};
-ghost use Rattle.dnssec_run.specs.ByKind.{at_kind};
-ghost use Rattle.dnssec_run.specs.Safe.{SetKind};
-ghost use Rattle.dnssec_run.specs.Recorder.{put_by, reference_deleted, reference_set, taken_by};
+ghost use Rattle.dnssec_run.specs.Recorder.{at_list, put_by, reference_deleted, reference_set};
+ghost use Rattle.dnssec_run.specs.Recorder.{taken_by};
 ghost use Rattle.dnssec_run.specs.Record.{call_of, mark_of, call_moment, reference_added, reply_of};
+ghost use Rattle.dnssec_run.specs.declared.sets.Shown.{Shown};
 
-use crate::caches::ByKind;
 use crate::record::{Mark, Reply};
+use crate::sets::ByList;
 use dnssec_base::SecurityAlgorithm;
 use dnssec_keyset::{Action, Available, Error, KeySet, RollType, UnixTime};
 
@@ -137,8 +137,8 @@ pub(crate) struct Meaning<'a> {
     pub(crate) mark: Mark,
     /// The reference of the key that it sets by hand, if any.
     pub(crate) reference_set: Option<&'a str>,
-    /// The kinds of sets that show what it sets by hand.
-    pub(crate) sets_shown: ByKind<bool>,
+    /// The lists that show what it sets by hand.
+    pub(crate) sets_shown: ByList,
     /// Which key it adds or deletes, if it is accepted.
     pub(crate) change: KeyChange<'a>,
 }
@@ -149,7 +149,7 @@ impl Meaning<'_> {
         moment: None,
         mark: Mark::Other,
         reference_set: None,
-        sets_shown: ByKind::<bool>::NONE,
+        sets_shown: ByList::NONE,
         change: KeyChange::Nothing,
     };
 }
@@ -165,8 +165,8 @@ impl<'a> Call<'a> {
         ensures mark { IfOk result (λ means. means.mark ≡ mark_of self.now) }
         ensures only { IfOk result (λ means. option_map (λ r. r.now) means.reference_set
             ≡ reference_set (call_of self.now)) }
-        ensures shown { IfOk result (λ means. (kind : SetKind) →
-            at_kind means.sets_shown kind ≡ sets_shown kind (call_of self.now)) }
+        ensures shown { IfOk result (λ means. (list : Shown) →
+            at_list means.sets_shown list ≡ sets_shown list (call_of self.now)) }
         ensures put { IfOk result (λ means. put_by means.change
             ≡ reference_added (call_of self.now)) }
         ensures taken { IfOk result (λ means. taken_by means.change
@@ -195,31 +195,32 @@ impl<'a> Call<'a> {
             Call::SetPresent { pubref, now, .. } => Ok(Meaning {
                 moment: Some(*now),
                 reference_set: Some(pubref),
-                sets_shown: ByKind {
+                sets_shown: ByList {
                     dnskey: true,
-                    ..ByKind::NONE
+                    ..ByList::NONE
                 },
                 ..Meaning::NONE
             }),
             Call::SetSigner { pubref, .. } => Ok(Meaning {
                 reference_set: Some(pubref),
-                sets_shown: ByKind {
-                    ds: false,
-                    ..ByKind::ALL
+                sets_shown: ByList {
+                    dnskey_signers: true,
+                    zone_signers: true,
+                    ..ByList::NONE
                 },
                 ..Meaning::NONE
             }),
             Call::SetAtParent { pubref, .. } => Ok(Meaning {
                 reference_set: Some(pubref),
-                sets_shown: ByKind {
+                sets_shown: ByList {
                     ds: true,
-                    ..ByKind::NONE
+                    ..ByList::NONE
                 },
                 ..Meaning::NONE
             }),
             Call::SetStale { pubref } => Ok(Meaning {
                 reference_set: Some(pubref),
-                sets_shown: ByKind::ALL,
+                sets_shown: ByList::ALL,
                 ..Meaning::NONE
             }),
             Call::StartRoll { rolltype, now, .. } | Call::CacheExpired1 { rolltype, now } => {

@@ -5,12 +5,11 @@ ghost use Rattle.std.specs.Option.{option_map};
 ghost use Rattle.dnssec_base.specs.declared.error.Error.TheVariants.{OutOfMemory};
 ghost use Rattle.dnssec_run.specs.Frames.{KeepsFrame, KeepsFrames};
 ghost use Rattle.dnssec_run.specs.Published.{IsPublished, World, id_of};
-ghost use Rattle.dnssec_run.specs.Recorder.{Agrees, ChangesAt, HasSameKeys, IsAscending, Leaves};
-ghost use Rattle.dnssec_run.specs.Recorder.{SetsPlace, position_shown, shows};
+ghost use Rattle.dnssec_run.specs.Recorder.{Agrees, ChangesAt, HasSameKeys, Leaves};
+ghost use Rattle.dnssec_run.specs.Recorder.{PlacesKey, passing, shows};
 
-use crate::caches::ByKind;
 use crate::record::{Frame, Frames, Published, PublishedKey};
-use crate::sets::Shown;
+use crate::sets::{ByList, Shown};
 use dnssec_keyset::{Error, Key, KeySet};
 use std::alloc::Global;
 use std::collections::BTreeMap;
@@ -22,7 +21,7 @@ pub(crate) fn renew_key(
     keyset: &KeySet,
     added: &BTreeMap<String, usize>,
     sets: &mut Published,
-    touched: ByKind<bool>,
+    touched: ByList,
     reference: &str,
     frames: &mut Frames,
 ) -> Result<bool, Error>
@@ -35,46 +34,48 @@ pub(crate) fn renew_key(
     ensures err { IfErr result (λ e. e ≡ OutOfMemory) }
 {
     let key = keyset.keys().get(reference);
-    let at = added.get(reference).copied();
-    let to = position(touched.ds, Shown::Ds, key, at);
+    let keys = &mut sets.ds;
     let frame = &mut frames.ds;
-    let ds = renew_place(alloc, touched.ds, &mut sets.ds, to, reference, frame)?;
-    let to = position(touched.dnskey, Shown::Dnskey, key, at);
+    let list = Shown::Ds;
+    let ds = renew_place(alloc, touched.ds, list, key, added, keys, reference, frame)?;
     let keys = &mut sets.dnskey;
     let frame = &mut frames.dnskey;
-    let dnskey = renew_place(alloc, touched.dnskey, keys, to, reference, frame)?;
-    let to = position(touched.dnskey, Shown::DnskeySigners, key, at);
+    let list = Shown::Dnskey;
+    let dnskey = renew_place(alloc, touched.dnskey, list, key, added, keys, reference, frame)?;
     let keys = &mut sets.dnskey_signers;
     let frame = &mut frames.dnskey_signers;
-    let signers = renew_place(alloc, touched.dnskey, keys, to, reference, frame)?;
-    let to = position(touched.zone, Shown::ZoneSigners, key, at);
+    let list = Shown::DnskeySigners;
+    let may = touched.dnskey_signers;
+    let signers = renew_place(alloc, may, list, key, added, keys, reference, frame)?;
     let keys = &mut sets.zone_signers;
     let frame = &mut frames.zone_signers;
-    let zone = renew_place(alloc, touched.zone, keys, to, reference, frame)?;
+    let list = Shown::ZoneSigners;
+    let may = touched.zone_signers;
+    let zone = renew_place(alloc, may, list, key, added, keys, reference, frame)?;
     Ok(ds | dnskey | signers | zone)
 }
 
-/// The position of a key, if the set may have changed and shows it.
-fn position(is_touched: bool, shown: Shown, key: Option<&Key>, at: Option<usize>) -> Option<usize>
-    ensures { is_touched ≡ true →
-        result ≡ position_shown (shows shown) (option_map (λ k. k.now) key.entry) at }
+/// Whether a list shows the key.
+fn is_shown(list: Shown, key: Option<&Key>) -> bool
+    ensures { result ≡ passing (shows list) (option_map (λ k. k.now) key.entry) }
 {
-    if !is_touched {
-        return None;
-    }
     match key {
-        Some(key) if shown.shows(key.keytype()) => at,
-        _ => None,
+        Some(key) => list.shows(key.keytype()),
+        None => false,
     }
 }
 
-/// Puts a key into a set at its position, or takes it out if it has none, if the set may have
+/// Puts a key into a list that shows it, or takes it out of one that doesn't, if the list may have
 /// changed. Says whether it has, and notes what stands around the place of the key.
+// It only tests, so that a list that stays costs no call.
+#[inline(always)]
 fn renew_place(
     alloc: Global,
     is_touched: bool,
+    list: Shown,
+    key: Option<&Key>,
+    added: &BTreeMap<String, usize>,
     keys: &mut Vec<PublishedKey>,
-    at: Option<usize>,
     reference: &str,
     frame: &mut Frame,
 ) -> Result<bool, Error>
@@ -83,8 +84,9 @@ fn renew_place(
         length keys.old.items ≢ length keys.new.items) }
     ensures frame { OnOk result (KeepsFrame frame.new (map id_of keys.old.items)
         (map id_of keys.new.items)) }
-    ensures ok { OnOk result (is_touched ≡ true → IsAscending (map id_of keys.old.items) →
-        SetsPlace reference.now at (map id_of keys.old.items) (map id_of keys.new.items)) }
+    ensures ok { OnOk result (is_touched ≡ true → PlacesKey (tree.get_by_text added.now)
+        reference.now (passing (shows list) (option_map (λ k. k.now) key.entry))
+        (map id_of keys.old.items) (map id_of keys.new.items)) }
     ensures left { OnOk result (is_touched ≡ false →
         map id_of keys.new.items ≡ map id_of keys.old.items) }
     ensures err { IfErr result (λ e. e ≡ OutOfMemory) }
@@ -93,13 +95,36 @@ fn renew_place(
         *frame = Frame::of(false, keys.len());
         return Ok(false);
     }
+    place_key(alloc, is_shown(list, key), added, keys, reference, frame)
+}
+
+/// Puts a key into a list at the position of its add, or takes it out. Says whether the list has
+/// changed, and notes what stands around the place of the key.
+#[inline(never)]
+fn place_key(
+    alloc: Global,
+    is_shown: bool,
+    added: &BTreeMap<String, usize>,
+    keys: &mut Vec<PublishedKey>,
+    reference: &str,
+    frame: &mut Frame,
+) -> Result<bool, Error>
+    ensures kept { IfOk result (λ changed. changed ≡ false → keys.new ≡ keys.old) }
+    ensures changed { IfOk result (λ changed. changed ≡ true →
+        length keys.old.items ≢ length keys.new.items) }
+    ensures frame { OnOk result (KeepsFrame frame.new (map id_of keys.old.items)
+        (map id_of keys.new.items)) }
+    ensures ok { OnOk result (PlacesKey (tree.get_by_text added.now) reference.now is_shown
+        (map id_of keys.old.items) (map id_of keys.new.items)) }
+    ensures err { IfErr result (λ e. e ≡ OutOfMemory) }
+{
     match keys.binary_search_by(|key| key.reference.as_str().cmp(reference)) {
         Ok(place) => {
             *frame = Frame {
                 front: place,
                 back: keys.len() - place - 1,
             };
-            if at.is_some() {
+            if is_shown {
                 return Ok(false);
             }
             keys.remove(place);
@@ -110,10 +135,13 @@ fn renew_place(
                 front: place,
                 back: keys.len() - place,
             };
-            let Some(added) = at else {
+            if !is_shown {
+                return Ok(false);
+            }
+            let Some(added) = added.get(reference) else {
                 return Ok(false);
             };
-            let key = published_key(alloc, reference, added)?;
+            let key = published_key(alloc, reference, *added)?;
             keys.insert(place, key)?;
             Ok(true)
         }
@@ -121,7 +149,7 @@ fn renew_place(
 }
 
 /// A key of a record, with a copy of its reference.
-fn published_key(alloc: Global, reference: &str, added: usize) -> Result<PublishedKey, Error>
+pub(crate) fn published_key(alloc: Global, reference: &str, added: usize) -> Result<PublishedKey, Error>
     ensures ok { IfOk result (λ k. id_of k ≡ (reference.now, added)) }
     ensures err { IfErr result (λ e. e ≡ OutOfMemory) }
 {

@@ -2,14 +2,16 @@
 //! may have changed, and where.
 ghost use Rattle.std.specs.Prelude.{◌≡◌, ◌||◌, [], map, true, false};
 ghost use Rattle.std.specs.List.{list_any};
-ghost use Rattle.dnssec_run.specs.Asked.{asked_by, updates};
-ghost use Rattle.dnssec_run.specs.ByKind.{at_kind};
+ghost use Rattle.dnssec_run.specs.Asked.{asked_by, kind_shown, updates};
 ghost use Rattle.dnssec_run.specs.Frames.{frames_in, no_frame, whole};
 ghost use Rattle.dnssec_run.specs.Origins.{set_in};
 ghost use Rattle.dnssec_run.specs.Published.{id_of};
-ghost use Rattle.dnssec_run.specs.Safe.{SetKind as AnyKind, kind_of};
+ghost use Rattle.dnssec_run.specs.Recorder.{at_list};
+ghost use Rattle.dnssec_run.specs.Safe.{kind_of};
+ghost use Rattle.dnssec_run.specs.declared.sets.Shown.{Shown};
 
-use crate::caches::{ByKind, SetKind};
+use crate::caches::SetKind;
+use crate::sets::ByList;
 use dnssec_keyset::{Action, Error, KeySet, RollType, UnixTime};
 use std::alloc::Global;
 
@@ -25,18 +27,22 @@ pub enum Reply {
 }
 
 impl Reply {
-    /// The kinds of sets that the call may have changed: those that show what it set by hand, and
-    /// those that its reply asks to publish.
-    pub(crate) fn touched(&self, by_hand: ByKind<bool>) -> ByKind<bool>
-        ensures { (kind : AnyKind) → at_kind result kind
-            ≡ (at_kind by_hand kind || list_any (updates kind) (asked_by self.now)) }
+    /// The lists that the call may have changed: those that show what it set by hand, and those
+    /// that its reply asks to publish.
+    pub(crate) fn touched(&self, by_hand: ByList) -> ByList
+        ensures { (list : Shown) → at_list result list
+            ≡ (at_list by_hand list || list_any (updates (kind_shown list)) (asked_by self.now)) }
     {
         match self {
-            Reply::Actions(actions) => ByKind {
-                ds: by_hand.ds || actions.contains(&Action::UpdateDsRrset),
-                dnskey: by_hand.dnskey || actions.contains(&Action::UpdateDnskeyRrset),
-                zone: by_hand.zone || actions.contains(&Action::UpdateRrsig),
-            },
+            Reply::Actions(actions) => {
+                let asks_dnskey = actions.contains(&Action::UpdateDnskeyRrset);
+                ByList {
+                    ds: by_hand.ds | actions.contains(&Action::UpdateDsRrset),
+                    dnskey: by_hand.dnskey | asks_dnskey,
+                    dnskey_signers: by_hand.dnskey_signers | asks_dnskey,
+                    zone_signers: by_hand.zone_signers | actions.contains(&Action::UpdateRrsig),
+                }
+            }
             _ => by_hand,
         }
     }

@@ -10,8 +10,7 @@ ghost use Rattle.dnssec_run.specs.Published.{IsPublished, World, id_of};
 ghost use Rattle.dnssec_run.specs.Recorder.{Agrees, AreFound, ChangesOnly, HasSameKeys, Leaves};
 ghost use Rattle.dnssec_run.specs.Recorder.{ids_read, shown_once, shows};
 
-use crate::caches::ByKind;
-use crate::places::renew_key;
+use crate::places::{published_key, renew_key};
 use crate::record::{Frame, Frames, Published, PublishedKey};
 use dnssec_keyset::{Error, Key, KeySet, KeyType};
 use std::alloc::Global;
@@ -48,13 +47,38 @@ impl Shown {
     }
 }
 
-/// A key of a record, with a copy of its reference.
-fn published_key(reference: &String, added: usize) -> Result<PublishedKey, Error>
-    ensures ok { IfOk result (λ k. id_of k ≡ (string_bytes reference.now, added)) }
-    ensures err { IfErr result (λ e. e ≡ OutOfMemory) }
-{
-    let reference = reference.clone()?;
-    Ok(PublishedKey { reference, added })
+/// One answer for each list.
+#[derive(Clone, Copy, Drop)]
+pub(crate) struct ByList {
+    pub(crate) ds: bool,
+    pub(crate) dnskey: bool,
+    pub(crate) dnskey_signers: bool,
+    pub(crate) zone_signers: bool,
+}
+
+impl ByList {
+    /// No list.
+    pub(crate) const NONE: ByList = ByList {
+        ds: false,
+        dnskey: false,
+        dnskey_signers: false,
+        zone_signers: false,
+    };
+
+    /// All lists.
+    pub(crate) const ALL: ByList = ByList {
+        ds: true,
+        dnskey: true,
+        dnskey_signers: true,
+        zone_signers: true,
+    };
+
+    /// Whether it is any list.
+    fn is_any(self) -> bool
+        ensures { result ≡ (self.ds || self.dnskey || self.dnskey_signers || self.zone_signers) }
+    {
+        self.ds || self.dnskey || self.dnskey_signers || self.zone_signers
+    }
 }
 
 /// Copies of keys of a record.
@@ -64,7 +88,7 @@ fn copy_keys(alloc: Global, keys: &[PublishedKey]) -> Result<Vec<PublishedKey>, 
 {
     let mut copies = Vec::with_capacity(alloc, keys.len())?;
     for key in keys {
-        copies.push(published_key(&key.reference, key.added)?)?;
+        copies.push(published_key(alloc, &key.reference, key.added)?)?;
     }
     Ok(copies)
 }
@@ -106,6 +130,7 @@ impl Renewal {
     #[inline(always)]
     fn show(
         &mut self,
+        alloc: Global,
         shown: Shown,
         keytype: &KeyType,
         reference: &String,
@@ -133,21 +158,21 @@ impl Renewal {
                 }
                 Ok(())
             }
-            _ if is_shown => self.put(reference, added),
+            _ if is_shown => self.put(alloc, reference, added),
             _ => Ok(()),
         }
     }
 
     /// Puts a key in.
-    fn put(&mut self, reference: &String, added: usize) -> Result<(), Error>
+    fn put(&mut self, alloc: Global, reference: &str, added: usize) -> Result<(), Error>
         requires { self.old.read ≤ vec_len self.old.keys }
         ensures ok { OnOk result (ids_read self.new
-            ≡ ids_read self.old ++ (string_bytes reference.now, added) ∷ []) }
+            ≡ ids_read self.old ++ (reference.now, added) ∷ []) }
         ensures fits { OnOk result (self.new.read ≤ vec_len self.new.keys) }
         ensures touched { OnOk result (self.new.is_touched ≡ self.old.is_touched) }
         ensures err { IfErr result (λ e. e ≡ OutOfMemory) }
     {
-        let key = published_key(reference, added)?;
+        let key = published_key(alloc, reference, added)?;
         self.count_change();
         self.keys.insert(self.read, key)?;
         self.read += 1;
@@ -277,7 +302,7 @@ pub(crate) fn renew(
     added: &BTreeMap<String, usize>,
     order: &mut WalkOrder,
     sets: &mut Published,
-    touched: ByKind<bool>,
+    touched: ByList,
     only: Option<&str>,
     frames: &mut Frames,
 ) -> Result<bool, Error>
@@ -285,7 +310,8 @@ pub(crate) fn renew(
         KeepsFrames frames.new sets.old sets.new) }
     ensures kept { IfOk result (λ changed. changed ≡ false → sets.new ≡ sets.old) }
     ensures walked { IfOk result (λ changed. only.entry ≡ None →
-        changed ≡ (touched.ds || touched.dnskey || touched.zone)) }
+        changed
+        ≡ (touched.ds || touched.dnskey || touched.dnskey_signers || touched.zone_signers)) }
     ensures by_hand { IfOk result (λ changed. IsSome only.entry → changed ≡ true →
         ¬ HasSameKeys sets.old sets.new) }
     ensures read { OnOk result ((v w : World) → IsPublished sets.old v → Leaves touched v w →
@@ -293,7 +319,7 @@ pub(crate) fn renew(
         Agrees keyset.now (tree.get_by_text added.now) w → IsPublished sets.new w) }
     ensures err { IfErr result (λ e. e ≡ OutOfMemory) }
 {
-    if !(touched.ds || touched.dnskey || touched.zone) {
+    if !touched.is_any() {
         return Ok(false);
     }
     if let Some(reference) = only {
@@ -314,7 +340,7 @@ fn renew_all(
     added: &BTreeMap<String, usize>,
     order: &mut WalkOrder,
     sets: &mut Published,
-    touched: ByKind<bool>,
+    touched: ByList,
     frames: &mut Frames,
 ) -> Result<(), Error>
     ensures frames { OnOk result (KeepsFrames frames.new sets.old sets.new) }
@@ -326,13 +352,15 @@ fn renew_all(
     *frames = Frames {
         ds: Frame::of(touched.ds, sets.ds.len()),
         dnskey: Frame::of(touched.dnskey, sets.dnskey.len()),
-        dnskey_signers: Frame::of(touched.dnskey, sets.dnskey_signers.len()),
-        zone_signers: Frame::of(touched.zone, sets.zone_signers.len()),
+        dnskey_signers: Frame::of(touched.dnskey_signers, sets.dnskey_signers.len()),
+        zone_signers: Frame::of(touched.zone_signers, sets.zone_signers.len()),
     };
     let mut ds = Renewal::new(alloc, &mut sets.ds, touched.ds);
     let mut dnskey = Renewal::new(alloc, &mut sets.dnskey, touched.dnskey);
-    let mut dnskey_signers = Renewal::new(alloc, &mut sets.dnskey_signers, touched.dnskey);
-    let mut zone_signers = Renewal::new(alloc, &mut sets.zone_signers, touched.zone);
+    let signers = &mut sets.dnskey_signers;
+    let mut dnskey_signers = Renewal::new(alloc, signers, touched.dnskey_signers);
+    let signers = &mut sets.zone_signers;
+    let mut zone_signers = Renewal::new(alloc, signers, touched.zone_signers);
     let entries = order.walk(alloc, keys)?;
     let mut rank = 0usize;
     for (reference, position) in added.iter() {
@@ -342,10 +370,10 @@ fn renew_all(
             continue;
         };
         let keytype = key.keytype();
-        ds.show(Shown::Ds, &keytype, reference, *position)?;
-        dnskey.show(Shown::Dnskey, &keytype, reference, *position)?;
-        dnskey_signers.show(Shown::DnskeySigners, &keytype, reference, *position)?;
-        zone_signers.show(Shown::ZoneSigners, &keytype, reference, *position)?;
+        ds.show(alloc, Shown::Ds, &keytype, reference, *position)?;
+        dnskey.show(alloc, Shown::Dnskey, &keytype, reference, *position)?;
+        dnskey_signers.show(alloc, Shown::DnskeySigners, &keytype, reference, *position)?;
+        zone_signers.show(alloc, Shown::ZoneSigners, &keytype, reference, *position)?;
     }
     sets.ds = ds.into_keys();
     sets.dnskey = dnskey.into_keys();

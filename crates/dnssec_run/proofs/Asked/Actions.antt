@@ -9,7 +9,8 @@ use Rattle.dnssec_key.specs.contracts.roll.ActionPartialEq.TheImpl.{eq-value}
 use Rattle.dnssec_key.specs.declared.roll.{Action.Action, RollType.RollType}
 use Rattle.dnssec_key.specs.{declared.kind.KeyType.KeyType, State.is_stale, State.is_future}
 use Rattle.dnssec_key.specs.{Key.all_states, Key.KeyParts, Setters.Setting, Setters.set_by}
-use Rattle.dnssec_run.specs.Asked.{update_of, report_of, updates, flag_shown, sets_flag, sets_shown}
+use Rattle.dnssec_run.specs.Asked.{kind_shown, update_of, report_of, updates, flag_shown}
+use Rattle.dnssec_run.specs.Asked.{sets_flag, sets_shown}
 use Rattle.dnssec_run.specs.Safe.{SetKind, Ds, Dnskey, ZoneSigners, retires}
 use Rattle.dnssec_run.specs.WholeRolls.{propagation}
 use Rattle.dnssec_run.specs.{declared.sets.Shown.Shown, Recorder.reference_set, Recorder.shows}
@@ -51,17 +52,11 @@ retires-asked r half kind = grind arith
 
 -- ---- each list
 
--- the kind of its sets: DNSKEY sets and their signers are one
-abbrev pub kind_of : Shown → SetKind
-kind_of lists.Ds = Ds
-kind_of lists.ZoneSigners = ZoneSigners
-kind_of _ = Dnskey
-
 -- what a roll's call changes is what it asks to publish
 
 -- j is in the list if k is, unless this asks to publish sets of its kind
 abbrev pub Stays : Shown → List Action → KeyType → KeyType → Type 0
-Stays s asked j k = list_any (updates (kind_of s)) asked ≡ false → shows s j ≡ shows s k
+Stays s asked j k = list_any (updates (kind_shown s)) asked ≡ false → shows s j ≡ shows s k
 
 pub roll-asks : (s : Shown) (r : RollType) (o i : Bool) (k : KeyType)
     → Stays s (column r).asks (started r o i k) k × Stays s (column r).asks_early (ended r o i k) k
@@ -81,14 +76,14 @@ idle-unseen s k e = grind arith
 -- ---- setters
 
 -- one of a flag that the list doesn't show
-pub set-stays : (s : Shown) (x : Setting) → flag_shown x (kind_of s) ≡ false → (b : Bool)
+pub set-stays : (s : Shown) (x : Setting) → flag_shown x s ≡ false → (b : Bool)
     (k : KeyParts) → shows s (if b then set_by x k else k).keytype ≡ shows s k.keytype
 set-stays s x e b k = grind arith
 
 -- a call that sets no flag sets none that is shown
-pub no-flag : (kind : SetKind) (c : keyset.Call) → sets_flag c ≡ false → sets_shown kind c ≡ false
-no-flag kind c calm = grind arith
+pub no-flag : (s : Shown) (c : keyset.Call) → sets_flag c ≡ false → sets_shown s c ≡ false
+no-flag s c calm = grind arith
 
 -- nor does one that sets nothing by hand
-pub unset : (kind : SetKind) (c : keyset.Call) → reference_set c ≡ None → sets_shown kind c ≡ false
-unset kind c none = grind arith
+pub unset : (s : Shown) (c : keyset.Call) → reference_set c ≡ None → sets_shown s c ≡ false
+unset s c none = grind arith

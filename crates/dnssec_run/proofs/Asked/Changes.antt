@@ -9,21 +9,20 @@ use Rattle.std.specs.{Str.bytes_eq, Cmp.Lexicographic.bytes_decides}
 use Rattle.dnssec_key.specs.{declared.roll.Action.Action, Key.KeyParts}
 use Rattle.dnssec_zone.specs.{Lists.listed_by, Start.is_listed}
 use Rattle.dnssec_keyset.{specs.KeySet.KeySetParts, proofs.Accepted.gone_key, proofs.Laws.no_cause}
-use Rattle.dnssec_run.specs.Asked.{asked_by, asks_to_publish, updates, sets_shown}
+use Rattle.dnssec_run.specs.Asked.{asked_by, asks_to_publish, kind_shown, updates, sets_shown}
 use Rattle.dnssec_run.specs.Asked.{SamePublished, ChangesAsAsked}
-use Rattle.dnssec_run.specs.ByKind.{at_kind}
 use Rattle.dnssec_run.specs.Published.{Id, IsPublished, World, keys_where}
 use Rattle.dnssec_run.specs.Record.{IsRun, added_by, call_of, reply_of, is_accepted, world_at}
 use Rattle.dnssec_run.specs.Safe.{Position, SetKind, Ds, Dnskey, ZoneSigners, position_at}
 use Rattle.dnssec_run.specs.Safe.{position_of, blank}
-use Rattle.dnssec_run.proofs.Asked.Actions.{asks_update, idle-unseen, kind_of, no-flag, roll-asks}
+use Rattle.dnssec_run.proofs.Asked.Actions.{asks_update, idle-unseen, no-flag, roll-asks}
 use Rattle.dnssec_run.proofs.Asked.Actions.{set-stays, unset, wait-asks}
 use Rattle.dnssec_run.proofs.Effects.{accepted_step, added-free, added-same, end-kind, looked-up}
 use Rattle.dnssec_run.proofs.Effects.{moved_key, passing-moved, put_at, refused_step, start-kind}
 use Rattle.dnssec_run.proofs.Positions.{passing, same-shown, shown-none}
-use Rattle.dnssec_run.specs.declared.{caches.ByKind.ByKind, call.Call.Call, record.Entry.Entry}
-use Rattle.dnssec_run.specs.declared.{record.Reply.Reply, sets.Shown.Shown}
-use Rattle.dnssec_run.specs.Recorder.{Leaves, reference_set, shows}
+use Rattle.dnssec_run.specs.declared.{call.Call.Call, record.Entry.Entry, record.Reply.Reply}
+use Rattle.dnssec_run.specs.declared.sets.{ByList.ByList, Shown.Shown}
+use Rattle.dnssec_run.specs.Recorder.{Leaves, at_list, reference_set, shows}
 use Rattle.dnssec_run.proofs.Chain.Trust.{adds_blank}
 use Rattle.dnssec_run.proofs.{Chain.Trust.plainly, Laws.made-at, WholeRolls.Replies.added-next}
 use Rattle.dnssec_zone.specs.Wait as waits
@@ -40,24 +39,28 @@ pub due_by : (r : Reply) → asked_by r ≡ due (reply_of r)
 due_by r = grind arith
 
 -- after a call that sets nothing by hand only what its reply asks to publish is touched
-pub touches-asked : (c : keyset.Call) (r : Reply) (hand t : ByKind Bool) → reference_set c ≡ None
-    → ((kind : SetKind) → at_kind hand kind ≡ sets_shown kind c)
-    → ((kind : SetKind)
-    → at_kind t kind ≡ (at_kind hand kind || list_any (updates kind) (asked_by r)))
-    → (t.ds || t.dnskey || t.zone) ≡ asks_to_publish r
-touches-asked c r hand t none shown asked =
-    λ i. is Ds i || is Dnskey i || is ZoneSigners i
+pub touches-asked : (c : keyset.Call) (r : Reply) (hand t : ByList) → reference_set c ≡ None
+    → ((s : Shown) → at_list hand s ≡ sets_shown s c) → ((s : Shown)
+    → at_list t s ≡ (at_list hand s || list_any (updates (kind_shown s)) (asked_by r)))
+    → (t.ds || t.dnskey || t.dnskey_signers || t.zone_signers) ≡ asks_to_publish r
+touches-asked c r hand t none shown asked = by t (is lists.Ds) (is lists.Dnskey)
+    (is lists.DnskeySigners) (is lists.ZoneSigners)
   where
-    is : (kind : SetKind) → at_kind t kind ≡ list_any (updates kind) (asked_by r)
-    is kind = asked kind ∙ ap (λ b. b || list_any (updates kind) (asked_by r))
-        (shown kind ∙ unset kind c none)
+    is : (s : Shown) → at_list t s ≡ list_any (updates (kind_shown s)) (asked_by r)
+    is s = asked s ∙ ap (λ b. b || list_any (updates (kind_shown s)) (asked_by r))
+        (shown s ∙ unset s c none)
+
+    by : {a b d : Bool} (t : ByList) → t.ds ≡ a → t.dnskey ≡ b → t.dnskey_signers ≡ b
+        → t.zone_signers ≡ d → (t.ds || t.dnskey || t.dnskey_signers || t.zone_signers)
+        ≡ (a || b || d)
+    by t ds dnskey signers zone = grind arith
 
 -- ---- one call
 
 module _ (s : Shown) (old : KeySetParts) where
   -- a key that stays is in the same sets, unless its call sets a flag or asks to publish them
-  same-moved : (c : keyset.Call) → sets_shown (kind_of s) c ≡ false
-      → list_any (updates (kind_of s)) (due (keyset.accepted_reply c)) ≡ false → (q : List ℕ)
+  same-moved : (c : keyset.Call) → sets_shown s c ≡ false
+      → list_any (updates (kind_shown s)) (due (keyset.accepted_reply c)) ≡ false → (q : List ℕ)
       (k : KeyParts) → shows s (moved_key old c q k).keytype ≡ shows s k.keytype
   same-moved (keyset.Set r x) calm none q k = set-stays s x calm (bytes_eq r q) k
   same-moved (keyset.StartRoll r olds news now) calm none q k =
@@ -93,13 +96,13 @@ module _ (s : Shown) (old : KeySetParts) where
 module _ (n : ℕ) (w v : World) (c : Call) (r : Reply)
     (step : keyset.Step w.set (call_of c) (reply_of r) v.set)
     (added : v.added ≡ added_by n c r w.added) where
-  -- the call was refused, or it set no flag that the kind shows and didn't ask to publish it
-  abbrev Passes : SetKind → Type 0
-  Passes kind = is_accepted r ≡ true → (sets_shown kind (call_of c) ≡ false)
-      × (list_any (updates kind) (asked_by r) ≡ false)
+  -- the call was refused, or it set no flag that the list shows and didn't ask to publish it
+  abbrev Passes : Shown → Type 0
+  Passes s = is_accepted r ≡ true → (sets_shown s (call_of c) ≡ false)
+      × (list_any (updates (kind_shown s)) (asked_by r) ≡ false)
 
   -- then each look-up passes if it did before
-  keys : (s : Shown) → Passes (kind_of s) → (q : List ℕ)
+  keys : (s : Shown) → Passes s → (q : List ℕ)
       → passing (shows s) (get v.set.keys q) ≡ passing (shows s) (get w.set.keys q)
   keys s calm q = elim (cases_Bool (is_accepted r)) [
     | inl t ↦ let ok = accepted_step w.set v.set (call_of c) r t step in
@@ -115,17 +118,17 @@ module _ (n : ℕ) (w v : World) (c : Call) (r : Reply)
   places q k there = ap (λ f. f q) added ∙ added-same n c r w.added w.set
       (λ t. (accepted_step w.set v.set (call_of c) r t step).0) q k there
 
-  same-list : (s : Shown) → Passes (kind_of s) → keys_where (shows s) v ≡ keys_where (shows s) w
+  same-list : (s : Shown) → Passes s → keys_where (shows s) v ≡ keys_where (shows s) w
   same-list s calm = same-shown (shows s) w v (keys s calm) places
 
-  -- so the sets of a kind that isn't touched are the same
-  pub leaves : (touched : ByKind Bool)
-      → ((kind : SetKind) → at_kind touched kind ≡ false → Passes kind) → Leaves touched w v
+  -- so a list that isn't touched is the same
+  pub leaves : (touched : ByList) → ((s : Shown) → at_list touched s ≡ false → Passes s)
+      → Leaves touched w v
   leaves touched calm = record {
-    ds = λ no. same-list lists.Ds (calm Ds no);
-    dnskey = λ no. same-list lists.Dnskey (calm Dnskey no);
-    dnskey_signers = λ no. same-list lists.DnskeySigners (calm Dnskey no);
-    zone_signers = λ no. same-list lists.ZoneSigners (calm ZoneSigners no);
+    ds = λ no. same-list lists.Ds (calm lists.Ds no);
+    dnskey = λ no. same-list lists.Dnskey (calm lists.Dnskey no);
+    dnskey_signers = λ no. same-list lists.DnskeySigners (calm lists.DnskeySigners no);
+    zone_signers = λ no. same-list lists.ZoneSigners (calm lists.ZoneSigners no);
   }
 
 -- ---- the lists of a position
@@ -173,11 +176,11 @@ module _ {name : List ℕ} {calls : List Call} {entries : List Entry}
       x : (c : Call) × (e : Entry) × (slice_get calls n ≡ Some c) × (slice_get entries n ≡ Some e)
       x = made-at run n le
 
-      same : (s : Shown) → list_any (updates (kind_of s)) (asked_by x.1.reply) ≡ false
+      same : (s : Shown) → list_any (updates (kind_shown s)) (asked_by x.1.reply) ≡ false
           → list_at s (position_at entries (suc n)) ≡ list_at s (position_at entries n)
       same s none = list-is s (suc n) le
           ∙ same-list (suc n) (at n) (at (suc n)) c x.1.reply (run.each n c x.1 ci x.3).step
-          (added-next run n c x.1 ci x.3) s (λ t. (no-flag (kind_of s) (call_of c) calm, none))
+          (added-next run n c x.1 ci x.3) s (λ t. (no-flag s (call_of c) calm, none))
           ∙ sym (list-is s n (omega (arith, le)))
 
       by : (kind : SetKind) → list_any (updates kind) (asked_by x.1.reply) ≡ false

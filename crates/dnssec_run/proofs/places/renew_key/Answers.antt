@@ -11,20 +11,18 @@ returns-clause-read c v w was leaves only agrees =
     let set = c.args.keyset.now in
     let at = tree.get_by_text c.args.added.now in
     let found = c.get-key.ensures.value ∙ c.keys.ensures.at q in
-    let placed = c.copied-at.ensures ∙ c.get.ensures.value in
     record {
       ds = let done = c.in_ok-ds.ensures in
-          renewed in_ds _ v w q set at _ _ _ _ _ found placed c.position-to.ensures done.ok
-          done.left was.ds only agrees leaves.ds;
+          renewed in_ds _ v w q set at _ _ _ found done.ok done.left was.ds only agrees leaves.ds;
       dnskey = let done = c.in_ok-dnskey.ensures in
-          renewed in_dnskey _ v w q set at _ _ _ _ _ found placed c.position-to-2.ensures done.ok
-          done.left was.dnskey only agrees leaves.dnskey;
+          renewed in_dnskey _ v w q set at _ _ _ found done.ok done.left was.dnskey only agrees
+          leaves.dnskey;
       dnskey_signers = let done = c.in_ok-signers.ensures in
-          renewed signs_dnskey _ v w q set at _ _ _ _ _ found placed c.position-to-3.ensures
-          done.ok done.left was.dnskey_signers only agrees leaves.dnskey_signers;
+          renewed signs_dnskey _ v w q set at _ _ _ found done.ok done.left was.dnskey_signers
+          only agrees leaves.dnskey_signers;
       zone_signers = let done = c.in_ok-zone.ensures in
-          renewed signs_zone _ v w q set at _ _ _ _ _ found placed c.position-to-4.ensures
-          done.ok done.left was.zone_signers only agrees leaves.zone_signers;
+          renewed signs_zone _ v w q set at _ _ _ found done.ok done.left was.zone_signers
+          only agrees leaves.zone_signers;
     }
 
 pub returns-clause-changed : goal.returns-clause-changed

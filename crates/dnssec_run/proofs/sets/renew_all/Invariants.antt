@@ -10,8 +10,8 @@ invariant-loop-reference l = record {
       l.added.entries l.reference-iterator l.ds;
   dnskey : Reads in_dnskey (hash.get_by_text l.keys) l.fn.touched.dnskey l.fn.sets.dnskey.items
       l.added.entries l.reference-iterator l.dnskey;
-  dnskey_signers : Reads signs_dnskey (hash.get_by_text l.keys) l.fn.touched.dnskey
+  dnskey_signers : Reads signs_dnskey (hash.get_by_text l.keys) l.fn.touched.dnskey_signers
       l.fn.sets.dnskey_signers.items l.added.entries l.reference-iterator l.dnskey_signers;
-  zone_signers : Reads signs_zone (hash.get_by_text l.keys) l.fn.touched.zone
+  zone_signers : Reads signs_zone (hash.get_by_text l.keys) l.fn.touched.zone_signers
       l.fn.sets.zone_signers.items l.added.entries l.reference-iterator l.zone_signers;
 }

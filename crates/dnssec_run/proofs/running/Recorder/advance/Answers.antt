@@ -45,8 +45,8 @@ returns c = record {
       let left = leaves n before after x r (subst (λ (t : KeySetParts × KeySetParts).
       keyset.Step t.0 (call_of x) (reply_of r) t.1) (λ i. (so.agrees.same i, agrees.same i))
       c.make-reply.ensures) refl c.touched-touched.result
-      (λ kind no t. let p = or_parts _ _ (sym (c.touched-touched.ensures kind) ∙ no) in
-      (sym (c.in_ok-meaning.ensures.shown kind) ∙ p.0, p.1)) in
+      (λ list no t. let p = or_parts _ _ (sym (c.touched-touched.ensures list) ∙ no) in
+      (sym (c.in_ok-meaning.ensures.shown list) ∙ p.0, p.1)) in
       let shown = c.in_ok-may_publish.ensures.read before after so.published left
       (subst (λ o. ChangesOnly o before after) (sym c.in_ok-meaning.ensures.only)
       (changes-only n before x r)) agrees in

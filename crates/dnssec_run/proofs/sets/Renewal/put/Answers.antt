@@ -1,13 +1,13 @@
 -- The key stands at the end of those that were read.
 use Rattle.std.proofs.Common.{◌≡◌, ◌+◌, ◌++◌, ◌∷◌, ◌∙◌, [], List, ap, arith, length, map, rules}
-use Rattle.std.proofs.Common.{string_bytes, take, vec_len}
+use Rattle.std.proofs.Common.{take, vec_len}
 use Rattle.dnssec_run.specs.{declared.record.PublishedKey.PublishedKey, Published.Id}
 use Rattle.dnssec_run.{specs.Published.id_of, proofs.Positions.puts-next}
 use Rattle.dnssec_run.proofs.sets.Renewal.put.Goals as goal
 
 pub returns-clause-ok : goal.returns-clause-ok
 returns-clause-ok c =
-    let id : Id = (string_bytes c.args.reference.now, c.args.added) in
+    let id : Id = (c.args.reference.now, c.args.added) in
     let keys = c.count_change.new.self.keys in
     let at = c.count_change.new.self.read in
     let long : vec_len keys ≡ length keys.items = search rules in
