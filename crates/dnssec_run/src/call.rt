@@ -257,6 +257,8 @@ impl<'a> Call<'a> {
     }
 
     /// Makes the call.
+    // Inline, so that no call is copied for it.
+    #[inline(always)]
     pub(crate) fn make(self, set: &mut KeySet) -> Reply
         ensures { Step set.old (call_of self.entry) (reply_of result) set.new }
     {

@@ -41,7 +41,16 @@ pub(crate) fn renew_key(
     let keys = &mut sets.dnskey;
     let frame = &mut frames.dnskey;
     let list = Shown::Dnskey;
-    let dnskey = renew_place(alloc, touched.dnskey, list, key, added, keys, reference, frame)?;
+    let dnskey = renew_place(
+        alloc,
+        touched.dnskey,
+        list,
+        key,
+        added,
+        keys,
+        reference,
+        frame,
+    )?;
     let keys = &mut sets.dnskey_signers;
     let frame = &mut frames.dnskey_signers;
     let list = Shown::DnskeySigners;
@@ -149,7 +158,11 @@ fn place_key(
 }
 
 /// A key of a record, with a copy of its reference.
-pub(crate) fn published_key(alloc: Global, reference: &str, added: usize) -> Result<PublishedKey, Error>
+pub(crate) fn published_key(
+    alloc: Global,
+    reference: &str,
+    added: usize,
+) -> Result<PublishedKey, Error>
     ensures ok { IfOk result (λ k. id_of k ≡ (reference.now, added)) }
     ensures err { IfErr result (λ e. e ≡ OutOfMemory) }
 {
