@@ -1,17 +1,17 @@
 -- Which keys stand around a change: for `renew`, for the place of one key, and for a judge.
 use Rattle.std.proofs.Common.{◌≡◌, ◌≤◌, ◌<◌, ◌-◌, ◌∙◌, ℕ, zero, suc, List, [], ◌∷◌, ◌++◌, map}
-use Rattle.std.proofs.Common.{length, take, drop, Bool, true, false, refl, sym, ap, subst, arith}
-use Rattle.std.proofs.Common.{insert, remove, append-nil}
+use Rattle.std.proofs.Common.{length, take, drop, refl, sym, ap, subst, arith}
+use Rattle.std.proofs.Common.{insert, remove, append-nil, append_assoc, get_or, ◌+◌, vec_len, None}
+use Rattle.std.proofs.Common.{Global, Some, Vec, length-append}
 use Rattle.std.proofs.lemmas.List.{length-drop, length-map, length-take-le, map-append}
 use Rattle.std.proofs.lemmas.List.{take-append-drop}
 use Rattle.std.specs.Prelude.{Option}
-use Rattle.std.specs.declared.string.String.{String}
-use Rattle.dnssec_key.specs.{Key.KeyParts, declared.kind.KeyType.KeyType}
 use Rattle.dnssec_run.specs.declared.record.{Frame.Frame, Frames.Frames, Published.Published}
 use Rattle.dnssec_run.specs.declared.record.PublishedKey.{PublishedKey}
-use Rattle.dnssec_run.specs.declared.sets.Renewal.{Renewal}
-use Rattle.dnssec_run.proofs.Positions.{Reads}
-use Rattle.dnssec_run.specs.Frames.{KeepsFrame, KeepsFrames, KeepsSet, frames_in, no_frame, whole}
+use Rattle.dnssec_run.specs.declared.renewal.Renewal.{Renewal}
+use Rattle.dnssec_run.specs.Frames.{KeepsFrame, KeepsFrames, KeepsSet, frame_with, frames_in}
+use Rattle.dnssec_run.specs.Frames.{no_frame, whole}
+use Rattle.dnssec_run.specs.Recorder.{HasKept, KeptBy}
 use Rattle.dnssec_run.specs.Origins.{set_in}
 use Rattle.dnssec_run.specs.Published.{Id, id_of}
 use Rattle.dnssec_run.specs.Safe.{SetKind, Ds, Dnskey, ZoneSigners}
@@ -132,28 +132,107 @@ keeps-with old new i n k fits is put = record {
   back_len = back-of old i n is;
 }
 
--- ---- a list that is read anew, or untouched
+-- or what comes after a place goes
+pub keeps-cut : (old new : List PublishedKey) (i : ℕ) → i ≤ length old → new ≡ take i old
+    → KeepsFrame (record { front = i; back = 0 }) (ids old) (ids new)
+keeps-cut old new i fits is = record {
+  front = ids (take i old);
+  was = ids (drop i old);
+  is = [];
+  back = [];
+  splits_old = in-two old i ∙ ap (λ l. ids (take i old) ++ l) (sym (append-nil (ids (drop i old))));
+  splits_new = ap ids is ∙ sym (append-nil (ids (take i old)));
+  front_len = front-of old i fits;
+  back_len = refl;
+}
 
-keeps-read : (touched : Bool) (frame : Frame) (old new : List PublishedKey)
-    → (touched ≡ false → frame ≡ whole (length old)) → (touched ≡ true → frame ≡ no_frame)
-    → (touched ≡ false → ids new ≡ ids old) → KeepsFrame frame (ids old) (ids new)
-keeps-read true frame old new left read same =
-    subst (λ (f : Frame). KeepsFrame f (ids old) (ids new)) (sym (read refl))
-    (keeps-none (ids old) (ids new))
-keeps-read false frame old new left read same =
-    subst (λ (f : Frame). KeepsFrame f (ids old) (ids new)) (sym (left refl))
-    (keeps-whole (ids old) (ids new) (length old) (same refl) (sym (length-map old id_of)))
+-- ---- one change after the other
 
--- the same of a set that a walk over the keys has read
-pub read-frame : {Y : Type 0} (passes : KeyType → Bool) (key : List ℕ → Option KeyParts)
-    (touched : Bool) (frame : Frame) (old new : List PublishedKey) (n : ℕ)
-    (all left : List (String Y × ℕ)) (set : Renewal) → n ≡ length old
-    → (touched ≡ false → frame ≡ whole n) → (touched ≡ true → frame ≡ no_frame)
-    → Reads passes key touched old all left set
-    → (set.is_touched ≡ false → new ≡ set.keys.items) → KeepsFrame frame (ids old) (ids new)
-read-frame passes key touched frame old new n all left set long whole_if none_if reads stays =
-    keeps-read touched frame old new (λ t. whole_if t ∙ ap whole long) none_if
-    (λ t. ap ids (stays (reads.mark ∙ t) ∙ reads.stays t))
+-- of two fronts of a list the longer begins with the shorter
+longer-front : (f r g s : List Id) → f ++ r ≡ g ++ s → length f ≤ length g
+    → g ≡ f ++ drop (length f) g
+longer-front [] r g s same le = refl
+longer-front (x ∷ f) r [] s same le = absurd (omega arith)
+longer-front (x ∷ f) r (y ∷ g) s same le =
+    ap (λ (z : Id). z ∷ g) (sym (ap (λ (l : List Id). get_or l 0 x) same))
+    ∙ ap (λ (l : List Id). x ∷ l) (longer-front f r g s (ap (λ (l : List Id). drop 1 l) same)
+    (omega arith))
+
+-- and of two backs the longer ends with the shorter
+longer-back : (f r g s : List Id) → f ++ r ≡ g ++ s → length s ≤ length r
+    → r ≡ drop (length f) g ++ s
+longer-back [] r g s same le = same
+longer-back (x ∷ f) r [] s same le = absurd (omega (arith, ap length same, length-append f r))
+longer-back (x ∷ f) r (y ∷ g) s same le =
+    longer-back f r g s (ap (λ (l : List Id). drop 1 l) same) le
+
+keeps-both : (x y z : List Id) (f g : Frame) → KeepsFrame f x y → KeepsFrame g y z
+    → f.front ≤ g.front → g.back ≤ f.back
+    → KeepsFrame (record { front = f.front; back = g.back }) x z
+keeps-both x y z f g one other fronts backs =
+    let same = sym one.splits_new ∙ other.splits_old in
+    let f1 = one.front ++ one.is in
+    let f2 = other.front ++ other.was in
+    let more = drop (length one.front) other.front in
+    let less = drop (length f1) f2 in
+    let front : other.front ≡ one.front ++ more =
+    longer-front one.front (one.is ++ one.back) other.front (other.was ++ other.back) same
+    (omega (arith, one.front_len, other.front_len, fronts)) in
+    let back : one.back ≡ less ++ other.back =
+    longer-back f1 one.back f2 other.back (append_assoc one.front one.is one.back ∙ same
+    ∙ sym (append_assoc other.front other.was other.back))
+    (omega (arith, one.back_len, other.back_len, backs)) in
+    record {
+      front = one.front;
+      was = one.was ++ less;
+      is = more ++ other.is;
+      back = other.back;
+      splits_old = one.splits_old ∙ ap (λ (l : List Id). one.front ++ (one.was ++ l)) back
+          ∙ ap (λ (l : List Id). one.front ++ l) (sym (append_assoc one.was less other.back));
+      splits_new = other.splits_new
+          ∙ ap (λ (l : List Id). l ++ (other.is ++ other.back)) front
+          ∙ append_assoc one.front more (other.is ++ other.back)
+          ∙ ap (λ (l : List Id). one.front ++ l) (sym (append_assoc more other.is other.back));
+      front_len = one.front_len;
+      back_len = other.back_len;
+    }
+
+-- a set has kept what stands around its changes, after one more change at the next key
+abbrev Kept : List PublishedKey → Vec PublishedKey Global → ℕ → Frame → Type 0
+Kept before keys read frame = KeepsFrame frame (ids before) (ids keys.items)
+    × (frame.front ≤ read) × (vec_len keys ≤ read + frame.back)
+
+pub kept-more : (before : List PublishedKey) (old : Renewal) (keys : Vec PublishedKey Global)
+    (read n : ℕ) (frame : Frame) → HasKept before old
+    → KeepsFrame (record { front = old.read; back = n }) (ids old.keys.items) (ids keys.items)
+    → old.read + n ≤ vec_len old.keys → frame ≡ frame_with old.around old.read n
+    → old.read ≤ read → vec_len keys ≤ read + n → Kept before keys read frame
+kept-more before old keys read n frame kept step fits is further long =
+    subst (Kept before keys read) (sym is) (by old.around kept)
+  where
+    by : (o : Option Frame) → KeptBy o before old → Kept before keys read (frame_with o old.read n)
+    by None same = (
+      subst (λ (l : List PublishedKey). KeepsFrame (record { front = old.read; back = n }) (ids l)
+          (ids keys.items)) same step,
+      further,
+      long,
+    )
+    by (Some f) k = (
+      keeps-both (ids before) (ids old.keys.items) (ids keys.items) f
+          (record { front = old.read; back = n }) k.0 step k.1 (omega (arith, k.2, fits)),
+      omega (arith, k.1, further),
+      long,
+    )
+
+-- a set without a change is whole
+pub kept-whole : (before : List PublishedKey) (set : Renewal) (frame : Frame) → set.around ≡ None
+    → frame ≡ whole (length set.keys.items) → HasKept before set
+    → KeepsFrame frame (ids before) (ids set.keys.items)
+kept-whole before set frame none is kept =
+    let same : set.keys.items ≡ before = subst (λ o. KeptBy o before set) none kept in
+    subst (λ (f : Frame). KeepsFrame f (ids before) (ids set.keys.items)) (sym is)
+    (keeps-whole (ids before) (ids set.keys.items) (length set.keys.items) (ap ids same)
+    (ap length same ∙ sym (length-map before id_of)))
 
 -- ---- by kind
 

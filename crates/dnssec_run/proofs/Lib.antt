@@ -12,7 +12,7 @@
 -- | `renew`, `read`           | `reads-all`                   | Positions                    |
 -- | `Recorder::advance`, `ok` | `leaves`                      | Asked                        |
 -- | `renew_key`, `read`       | `renewed`                     | OneKey                       |
--- | `KeepsFrames`             | `keeps-with` and the like     | Around                       |
+-- | `KeepsFrames`             | `keeps-with`, `kept-more`     | Around                       |
 -- | `starts_suffice`          | `starts-suffice`              | Starts                       |
 -- | `whole_runs_stay_safe`    | `chain-holds`, `each-holds`   | Chain                        |
 -- | the premise of plain lists| `plain-by-sets`               | Premise                      |

@@ -16,7 +16,7 @@ use Rattle.std.specs.FinMap.Entries.{is_sorted-where_key, where_key}
 use Rattle.std.specs.declared.cmp.Ordering.{Ordering, TheVariants.Equal, TheVariants.Less}
 use Rattle.std.specs.{declared.string.String.String, Cmp.Lexicographic.slice_cmp}
 use Rattle.std.specs.{Cmp.Lexicographic.nat_list_cmp_total, List.AllByRecursion, List.insert}
-use Rattle.std.specs.{List.Sorted.IsStrictlySortedBy, Option.option_map, Option.option_map_or}
+use Rattle.std.specs.{List.Sorted.IsStrictlySortedBy, Option.option_map}
 use Rattle.std.specs.{String.string_cmp, Map.lookup, Map.keys_of, BTreeMap.BTreeMap}
 use Rattle.std.specs.BTreeMap.{IsOrdered}
 use Rattle.dnssec_key.specs.{declared.kind.KeyType.KeyType, Key.KeyParts}
@@ -25,9 +25,9 @@ use Rattle.dnssec_zone.proofs.Quantified.{apart, below_found, first, same_key, s
 use Rattle.dnssec_run.specs.Published.{Id, World, keys_where, id_of}
 use Rattle.dnssec_run.specs.Record.{new_world}
 use Rattle.dnssec_run.specs.Recorder.{Agrees, IsAscending, ids_where, position_in, position_shown}
-use Rattle.dnssec_run.specs.Recorder.{shown_once, ids_read}
+use Rattle.dnssec_run.specs.Recorder.{HasKept, KeptBy, shown_once, ids_read}
 pub use Rattle.dnssec_run.specs.Recorder.{passing}
-use Rattle.dnssec_run.specs.declared.{record.PublishedKey.PublishedKey, sets.Renewal.Renewal}
+use Rattle.dnssec_run.specs.declared.{record.PublishedKey.PublishedKey, renewal.Renewal.Renewal}
 use Rattle.std.specs.BTreeMap as tree
 
 abbrev pub order : List ℕ → List ℕ → Ordering
@@ -238,15 +238,17 @@ module _ {Y : Type 0} (passes : KeyType → Bool) (key : List ℕ → Option Key
     pub read : touched ≡ true → ids_read set ++ ids_where passes key left ≡ ids_where passes key all
     pub stays : touched ≡ false → set.keys.items ≡ before
     pub fits : set.read ≤ vec_len set.keys
+    pub kept : HasKept before set
 
   pub reads-begin : (set : Renewal) (left : List (String Y × ℕ)) → left ≡ all
       → set.is_touched ≡ touched → ids_read set ≡ [] → set.keys.items ≡ before
-      → set.read ≤ vec_len set.keys → Reads left set
-  reads-begin set left begun mark none same fits = record {
+      → set.read ≤ vec_len set.keys → set.around ≡ None → Reads left set
+  reads-begin set left begun mark none same fits alone = record {
     mark = mark;
     read = λ t i. none i ++ ids (begun i);
     stays = λ t. same;
     fits = fits;
+    kept = subst (λ o. KeptBy o before set) (sym alone) same;
   }
 
   pub reads-next : (old new : Renewal) (left : List (String Y × ℕ)) (e : String Y × ℕ)
@@ -255,14 +257,16 @@ module _ {Y : Type 0} (passes : KeyType → Bool) (key : List ℕ → Option Key
       → (old.is_touched ≡ true
       → ids_read new ≡ ids_read old ++ shown_once passes o (string_bytes e.0, e.1))
       → (old.is_touched ≡ false → new ≡ old) → new.is_touched ≡ old.is_touched
-      → new.read ≤ vec_len new.keys → Reads left old → Reads es new
-  reads-next old new left e es o steps found read stays mark fits so = record {
+      → new.read ≤ vec_len new.keys → (HasKept before old → HasKept before new)
+      → Reads left old → Reads es new
+  reads-next old new left e es o steps found read stays mark fits kept so = record {
     mark = mark ∙ so.mark;
     read = λ t. rw (read (so.mark ∙ t), found, append_assoc)
         (ap (λ l. ids_read old ++ l) (sym (passing-first passes key e es))
         ∙ ap (λ l. ids_read old ++ ids l) (sym steps) ∙ so.read t);
     stays = λ t. ap (λ (set : Renewal). set.keys.items) (stays (so.mark ∙ t)) ∙ so.stays t;
     fits = fits;
+    kept = kept so.kept;
   }
 
   -- a key that isn't there is in no set
@@ -271,7 +275,7 @@ module _ {Y : Type 0} (passes : KeyType → Bool) (key : List ℕ → Option Key
       → Reads left set → Reads es set
   reads-past set left e es steps none so =
       reads-next set set left e es None steps none (λ t. sym (append-nil (ids_read set)))
-      (λ t. refl) refl so.fits so
+      (λ t. refl) refl so.fits (λ k. k) so
 
   pub reads-all : (set : Renewal) (left : List (String Y × ℕ)) (items : List PublishedKey)
       (v w : World) → left ≡ [] → Reads left set

@@ -1,5 +1,5 @@
 -- What stands around the changes of the sets, so that who reads them need not read all keys.
-use Rattle.std.specs.Prelude.{◌≡◌, ℕ, List, ◌++◌, length, map}
+use Rattle.std.specs.Prelude.{◌≡◌, ℕ, List, ◌++◌, length, map, Option, None, Some}
 use Rattle.dnssec_run.specs.declared.record.{Frame.Frame, Frames.Frames, Published.Published}
 use Rattle.dnssec_run.specs.Origins.{CachedSet}
 use Rattle.dnssec_run.specs.Published.{Id, id_of}
@@ -23,6 +23,11 @@ pub record KeepsFrame (frame : Frame) (old new : List Id) : Type 0 where
   pub splits_new : new ≡ front ++ (is ++ back)
   pub front_len : length front ≡ frame.front
   pub back_len : length back ≡ frame.back
+
+-- the frame of the changes so far and of one after them
+abbrev pub frame_with : Option Frame → ℕ → ℕ → Frame
+frame_with None at back = record { front = at; back = back }
+frame_with (Some frame) at back = record { front = frame.front; back = back }
 
 -- the frames of what caches hold as one
 abbrev pub frames_in : SetKind → Frames → Frame × Frame

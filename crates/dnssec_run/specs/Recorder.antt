@@ -2,6 +2,7 @@
 use denote.Ref.{Bor}
 use Rattle.std.specs.Prelude.{◌≡◌, ℕ, Bool, false, T, List, [], ◌∷◌, length, map, filter, take}
 use Rattle.std.specs.Prelude.{Option, None, Some, true, IsSome, if◌then◌else◌, string_bytes}
+use Rattle.std.specs.Prelude.{◌≤◌, ◌+◌, vec_len}
 use Rattle.std.specs.Option.{option_map, option_map_or}
 use Rattle.std.specs.List.{All}
 use Rattle.std.specs.Str.{bytes_eq}
@@ -20,8 +21,10 @@ use Rattle.dnssec_run.specs.declared.call.KeyChange.{KeyChange}
 use Rattle.dnssec_run.specs.declared.call.KeyChange.TheVariants.{Adds, Deletes}
 use Rattle.dnssec_run.specs.declared.record.Entry.{Entry}
 use Rattle.dnssec_run.specs.declared.record.Outcome.{Outcome}
-use Rattle.dnssec_run.specs.declared.record.Published.{Published}
-use Rattle.dnssec_run.specs.declared.sets.Renewal.{Renewal}
+use Rattle.dnssec_run.specs.declared.record.{Frame.Frame, Published.Published}
+use Rattle.dnssec_run.specs.declared.record.PublishedKey.{PublishedKey}
+use Rattle.dnssec_run.specs.Frames.{KeepsFrame}
+use Rattle.dnssec_run.specs.declared.renewal.Renewal.{Renewal}
 use Rattle.dnssec_run.specs.declared.running.Recorder.{Recorder}
 use Rattle.dnssec_run.specs.declared.sets.{ByList.ByList, Shown.Shown}
 use Rattle.dnssec_run.specs.declared.sets.Shown.TheVariants.{Ds, Dnskey, DnskeySigners, ZoneSigners}
@@ -157,6 +160,16 @@ shown_once passes (Some keytype) id = if passes keytype then id ∷ [] else []
 -- the keys of a set that were read anew
 abbrev pub ids_read : Renewal → List Id
 ids_read set = map id_of (take set.read set.keys.items)
+
+-- what the keys of a set have kept of those of before, if these are the changes so far
+abbrev pub KeptBy : Option Frame → List PublishedKey → Renewal → Type 0
+KeptBy None before set = set.keys.items ≡ before
+KeptBy (Some frame) before set =
+    KeepsFrame frame (map id_of before) (map id_of set.keys.items)
+    × (frame.front ≤ set.read) × (vec_len set.keys ≤ set.read + frame.back)
+
+abbrev pub HasKept : List PublishedKey → Renewal → Type 0
+HasKept before set = KeptBy set.around before set
 
 -- two sets of lists have the same keys
 pub record HasSameKeys (one other : Published) : Type 0 where

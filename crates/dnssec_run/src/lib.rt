@@ -11,6 +11,7 @@ mod moments;
 mod places;
 mod plain;
 mod record;
+mod renewal;
 mod running;
 mod sets;
 mod steps;

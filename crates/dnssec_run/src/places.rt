@@ -101,7 +101,7 @@ fn renew_place(
     ensures err { IfErr result (λ e. e ≡ OutOfMemory) }
 {
     if !is_touched {
-        *frame = Frame::of(false, keys.len());
+        *frame = Frame::whole(keys.len());
         return Ok(false);
     }
     place_key(alloc, is_shown(list, key), added, keys, reference, frame)

@@ -3,7 +3,7 @@
 ghost use Rattle.std.specs.Prelude.{◌≡◌, ◌||◌, [], map, true, false};
 ghost use Rattle.std.specs.List.{list_any};
 ghost use Rattle.dnssec_run.specs.Asked.{asked_by, kind_shown, updates};
-ghost use Rattle.dnssec_run.specs.Frames.{frames_in, no_frame, whole};
+ghost use Rattle.dnssec_run.specs.Frames.{frames_in, whole};
 ghost use Rattle.dnssec_run.specs.Origins.{set_in};
 ghost use Rattle.dnssec_run.specs.Published.{id_of};
 ghost use Rattle.dnssec_run.specs.Recorder.{at_list};
@@ -113,18 +113,13 @@ impl Frame {
     /// Any key may have changed.
     pub const NONE: Frame = Frame { front: 0, back: 0 };
 
-    /// A list of this length, which is untouched or may have changed anywhere.
-    pub(crate) fn of(is_touched: bool, len: usize) -> Self
-        ensures left { is_touched ≡ false → result ≡ whole len }
-        ensures touched { is_touched ≡ true → result ≡ no_frame }
+    /// A list of this length, in which nothing has changed.
+    pub(crate) fn whole(len: usize) -> Self
+        ensures { result ≡ whole len }
     {
-        if is_touched {
-            Frame::NONE
-        } else {
-            Frame {
-                front: len,
-                back: 0,
-            }
+        Frame {
+            front: len,
+            back: 0,
         }
     }
 }

@@ -11,11 +11,11 @@ ghost use Rattle.dnssec_run.specs.Recorder.{Agrees, AreFound, ChangesOnly, HasSa
 ghost use Rattle.dnssec_run.specs.Recorder.{ids_read, shown_once, shows};
 
 use crate::places::{published_key, renew_key};
-use crate::record::{Frame, Frames, Published, PublishedKey};
+use crate::record::{Frames, Published, PublishedKey};
+use crate::renewal::Renewal;
 use dnssec_keyset::{Error, Key, KeySet, KeyType};
 use std::alloc::Global;
 use std::collections::{BTreeMap, HashMap};
-use std::mem;
 
 /// The sets of an entry.
 #[derive(Clone, Copy, Debug, PartialEq, Eq)]
@@ -91,132 +91,6 @@ fn copy_keys(alloc: Global, keys: &[PublishedKey]) -> Result<Vec<PublishedKey>, 
         copies.push(published_key(alloc, &key.reference, key.added)?)?;
     }
     Ok(copies)
-}
-
-/// Up to this many keys are put in or taken out in place. Each of them moves all keys after it.
-const MANY: usize = 16;
-
-/// A set while it is read anew in place: most keys of before stay where they stand.
-#[derive(Drop)]
-struct Renewal {
-    /// The keys that were read, and after them those of before that weren't met yet.
-    keys: Vec<PublishedKey>,
-    /// How many were read.
-    read: usize,
-    /// How many more changes are made in place.
-    changes_left: usize,
-    /// Whether the set may have changed. If not, nothing is read.
-    is_touched: bool,
-}
-
-impl Renewal {
-    /// Takes the keys of before out of their place. None of them is read yet.
-    fn new(alloc: Global, before: &mut Vec<PublishedKey>, is_touched: bool) -> Self
-        ensures none { ids_read result ≡ [] }
-        ensures fits { result.read ≤ vec_len result.keys }
-        ensures before { result.keys.items ≡ before.old.items }
-        ensures touched { result.is_touched ≡ is_touched }
-    {
-        Renewal {
-            keys: mem::replace(before, Vec::new(alloc)),
-            read: 0,
-            changes_left: MANY,
-            is_touched,
-        }
-    }
-
-    /// Reads the next key of all by its kind, and has it in the set if the set shows it. It is
-    /// called four times for each key, and mostly nothing changes.
-    #[inline(always)]
-    fn show(
-        &mut self,
-        alloc: Global,
-        shown: Shown,
-        keytype: &KeyType,
-        reference: &String,
-        added: usize,
-    ) -> Result<(), Error>
-        requires { self.old.read ≤ vec_len self.old.keys }
-        ensures ok { OnOk result (self.old.is_touched ≡ true →
-            ids_read self.new ≡ ids_read self.old
-            ++ shown_once (shows shown) (Some keytype.now) (string_bytes reference.now, added)) }
-        ensures left { OnOk result (self.old.is_touched ≡ false → self.new ≡ self.old) }
-        ensures touched { OnOk result (self.new.is_touched ≡ self.old.is_touched) }
-        ensures fits { OnOk result (self.new.read ≤ vec_len self.new.keys) }
-        ensures err { IfErr result (λ e. e ≡ OutOfMemory) }
-    {
-        if !self.is_touched {
-            return Ok(());
-        }
-        let is_shown = shown.shows(*keytype);
-        match self.keys.get(self.read) {
-            Some(next) if next.added == added && next.reference == *reference => {
-                if is_shown {
-                    self.read += 1;
-                } else {
-                    self.take_next();
-                }
-                Ok(())
-            }
-            _ if is_shown => self.put(alloc, reference, added),
-            _ => Ok(()),
-        }
-    }
-
-    /// Puts a key in.
-    fn put(&mut self, alloc: Global, reference: &str, added: usize) -> Result<(), Error>
-        requires { self.old.read ≤ vec_len self.old.keys }
-        ensures ok { OnOk result (ids_read self.new
-            ≡ ids_read self.old ++ (reference.now, added) ∷ []) }
-        ensures fits { OnOk result (self.new.read ≤ vec_len self.new.keys) }
-        ensures touched { OnOk result (self.new.is_touched ≡ self.old.is_touched) }
-        ensures err { IfErr result (λ e. e ≡ OutOfMemory) }
-    {
-        let key = published_key(alloc, reference, added)?;
-        self.count_change();
-        self.keys.insert(self.read, key)?;
-        self.read += 1;
-        Ok(())
-    }
-
-    /// Takes the next key of before out.
-    fn take_next(&mut self)
-        requires { self.old.read ≤ vec_len self.old.keys }
-        ensures same { ids_read self.new ≡ ids_read self.old }
-        ensures touched { self.new.is_touched ≡ self.old.is_touched }
-        ensures fits { self.new.read ≤ vec_len self.new.keys }
-    {
-        self.count_change();
-        if self.read < self.keys.len() {
-            self.keys.remove(self.read);
-        }
-    }
-
-    /// After many changes in place drops what is left of before. So a set takes time for its keys,
-    /// and not for their square.
-    fn count_change(&mut self)
-        requires { self.old.read ≤ vec_len self.old.keys }
-        ensures same { ids_read self.new ≡ ids_read self.old }
-        ensures touched { self.new.is_touched ≡ self.old.is_touched }
-        ensures fits { self.new.read ≤ vec_len self.new.keys }
-    {
-        match self.changes_left.checked_sub(1) {
-            Some(left) => self.changes_left = left,
-            None => self.keys.truncate(self.read),
-        }
-    }
-
-    /// The set, after all keys were read.
-    fn into_keys(self) -> Vec<PublishedKey>
-        ensures touched { self.is_touched ≡ true → map id_of result.items ≡ ids_read self }
-        ensures left { self.is_touched ≡ false → result.items ≡ self.keys.items }
-    {
-        let mut keys = self.keys;
-        if self.is_touched {
-            keys.truncate(self.read);
-        }
-        keys
-    }
 }
 
 /// Up to this many keys are looked up, and not walked over.
@@ -349,12 +223,6 @@ fn renew_all(
     ensures err { IfErr result (λ e. e ≡ OutOfMemory) }
 {
     let keys = keyset.keys();
-    *frames = Frames {
-        ds: Frame::of(touched.ds, sets.ds.len()),
-        dnskey: Frame::of(touched.dnskey, sets.dnskey.len()),
-        dnskey_signers: Frame::of(touched.dnskey_signers, sets.dnskey_signers.len()),
-        zone_signers: Frame::of(touched.zone_signers, sets.zone_signers.len()),
-    };
     let mut ds = Renewal::new(alloc, &mut sets.ds, touched.ds);
     let mut dnskey = Renewal::new(alloc, &mut sets.dnskey, touched.dnskey);
     let signers = &mut sets.dnskey_signers;
@@ -375,10 +243,10 @@ fn renew_all(
         dnskey_signers.show(alloc, Shown::DnskeySigners, &keytype, reference, *position)?;
         zone_signers.show(alloc, Shown::ZoneSigners, &keytype, reference, *position)?;
     }
-    sets.ds = ds.into_keys();
-    sets.dnskey = dnskey.into_keys();
-    sets.dnskey_signers = dnskey_signers.into_keys();
-    sets.zone_signers = zone_signers.into_keys();
+    sets.ds = ds.into_keys(&mut frames.ds);
+    sets.dnskey = dnskey.into_keys(&mut frames.dnskey);
+    sets.dnskey_signers = dnskey_signers.into_keys(&mut frames.dnskey_signers);
+    sets.zone_signers = zone_signers.into_keys(&mut frames.zone_signers);
     Ok(())
 }
 

@@ -11,11 +11,10 @@ use Rattle.dnssec_key.specs.{declared.kind.KeyType.KeyType, State.is_stale, Stat
 use Rattle.dnssec_key.specs.{Key.all_states, Key.KeyParts, Setters.Setting, Setters.set_by}
 use Rattle.dnssec_run.specs.Asked.{kind_shown, update_of, report_of, updates, flag_shown}
 use Rattle.dnssec_run.specs.Asked.{sets_flag, sets_shown}
-use Rattle.dnssec_run.specs.Safe.{SetKind, Ds, Dnskey, ZoneSigners, retires}
+use Rattle.dnssec_run.specs.Safe.{SetKind, retires}
 use Rattle.dnssec_run.specs.WholeRolls.{propagation}
 use Rattle.dnssec_run.specs.{declared.sets.Shown.Shown, Recorder.reference_set, Recorder.shows}
 use Rattle.dnssec_zone.proofs.Flags.{started, ended}
-use Rattle.dnssec_run.specs.declared.sets.Shown.TheVariants as lists
 use Rattle.dnssec_keyset.specs.Step as keyset
 
 -- ---- an action in a list

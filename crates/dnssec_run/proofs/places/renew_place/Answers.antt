@@ -9,5 +9,5 @@ pub returns-then-not-is_touched-clause-frame : goal.returns-then-not-is_touched-
 returns-then-not-is_touched-clause-frame c =
     let ids = map id_of c.args.keys.now.items in
     let long : c.len.result ≡ length c.args.keys.now.items = search rules in
-    subst (λ frame. KeepsFrame frame ids ids) (sym (c.of.ensures.left refl))
+    subst (λ frame. KeepsFrame frame ids ids) (sym c.whole.ensures)
     (keeps-whole ids ids c.len.result refl (long ∙ sym (length-map c.args.keys.now.items id_of)))

@@ -1,9 +1,8 @@
 -- Each of the four lists is the keys that its set shows.
-use Rattle.std.proofs.Common.{◌≡◌, ◌∙◌, ap, Bool, length, rules, None, Some, string_bytes}
+use Rattle.std.proofs.Common.{◌≡◌, ◌∙◌, ap, Bool, rules, None, Some, string_bytes}
 use Rattle.std.specs.HashMap as hash
 use Rattle.dnssec_key.specs.declared.kind.KeyType.{KeyType}
 use Rattle.dnssec_run.specs.Published.{in_ds, in_dnskey, signs_dnskey, signs_zone}
-use Rattle.dnssec_run.proofs.Around.{read-frame}
 use Rattle.dnssec_run.proofs.Positions.{kind_at, kind_of_key, passing-shown, reads-all, reads-begin}
 use Rattle.dnssec_run.proofs.Positions.{reads-next, reads-past}
 use Rattle.dnssec_run.proofs.sets.renew_all.Goals as goal
@@ -14,13 +13,13 @@ loop-reference-init c =
     let begun : c.into_iter-reference-iterator.result ≡ c.args.added.now.entries = search rules in
     record {
       ds = let new = c.new-ds.ensures in
-          reads-begin in_ds key _ _ _ _ _ begun new.touched new.none new.before new.fits;
+          reads-begin in_ds key _ _ _ _ _ begun new.touched new.none new.before new.fits new.around;
       dnskey = let new = c.new-dnskey.ensures in
-          reads-begin in_dnskey key _ _ _ _ _ begun new.touched new.none new.before new.fits;
+          reads-begin in_dnskey key _ _ _ _ _ begun new.touched new.none new.before new.fits new.around;
       dnskey_signers = let new = c.new-dnskey_signers.ensures in
-          reads-begin signs_dnskey key _ _ _ _ _ begun new.touched new.none new.before new.fits;
+          reads-begin signs_dnskey key _ _ _ _ _ begun new.touched new.none new.before new.fits new.around;
       zone_signers = let new = c.new-zone_signers.ensures in
-          reads-begin signs_zone key _ _ _ _ _ begun new.touched new.none new.before new.fits;
+          reads-begin signs_zone key _ _ _ _ _ begun new.touched new.none new.before new.fits new.around;
     }
 
 pub loop-reference-preserved : goal.loop-reference-preserved
@@ -34,16 +33,16 @@ loop-reference-preserved c =
     record {
       ds = let shown = c.in_ok-show.ensures in
           reads-next in_ds key _ _ _ _ _ _ _ _ _ steps found shown.ok
-          shown.left shown.touched shown.fits inv.ds;
+          shown.left shown.touched shown.fits (shown.kept _) inv.ds;
       dnskey = let shown = c.in_ok-show-2.ensures in
           reads-next in_dnskey key _ _ _ _ _ _ _ _ _ steps found shown.ok
-          shown.left shown.touched shown.fits inv.dnskey;
+          shown.left shown.touched shown.fits (shown.kept _) inv.dnskey;
       dnskey_signers = let shown = c.in_ok-show-3.ensures in
           reads-next signs_dnskey key _ _ _ _ _ _ _ _ _ steps found shown.ok
-          shown.left shown.touched shown.fits inv.dnskey_signers;
+          shown.left shown.touched shown.fits (shown.kept _) inv.dnskey_signers;
       zone_signers = let shown = c.in_ok-show-4.ensures in
           reads-next signs_zone key _ _ _ _ _ _ _ _ _ steps found shown.ok
-          shown.left shown.touched shown.fits inv.zone_signers;
+          shown.left shown.touched shown.fits (shown.kept _) inv.zone_signers;
     }
 
 pub loop-reference-preserved-in_default : goal.loop-reference-preserved-in_default
@@ -88,23 +87,9 @@ returns-clause-read c v w was leaves agrees =
 pub returns-clause-frames : goal.returns-clause-frames
 returns-clause-frames c =
     let inv = c.loop-reference.invariant in
-    let key = hash.get_by_text c.keys-keys.result.now in
-    let sets = c.args.sets.now in
-    let ds : c.len.result ≡ length sets.ds.items = search rules in
-    let dnskey : c.len-2.result ≡ length sets.dnskey.items = search rules in
-    let signers : c.len-3.result ≡ length sets.dnskey_signers.items = search rules in
-    let zone : c.len-4.result ≡ length sets.zone_signers.items = search rules in
     record {
-      ds = let of = c.of.ensures in
-          read-frame in_ds key _ _ _ _ _ _ _ _ ds of.left of.touched inv.ds
-          c.into_keys.ensures.left;
-      dnskey = let of = c.of-2.ensures in
-          read-frame in_dnskey key _ _ _ _ _ _ _ _ dnskey of.left of.touched inv.dnskey
-          c.into_keys-2.ensures.left;
-      dnskey_signers = let of = c.of-3.ensures in
-          read-frame signs_dnskey key _ _ _ _ _ _ _ _ signers of.left of.touched
-          inv.dnskey_signers c.into_keys-3.ensures.left;
-      zone_signers = let of = c.of-4.ensures in
-          read-frame signs_zone key _ _ _ _ _ _ _ _ zone of.left of.touched inv.zone_signers
-          c.into_keys-4.ensures.left;
+      ds = c.into_keys.ensures.frame _ inv.ds.kept;
+      dnskey = c.into_keys-2.ensures.frame _ inv.dnskey.kept;
+      dnskey_signers = c.into_keys-3.ensures.frame _ inv.dnskey_signers.kept;
+      zone_signers = c.into_keys-4.ensures.frame _ inv.zone_signers.kept;
     }
