@@ -93,7 +93,7 @@ fn copy_keys(alloc: Global, keys: &[PublishedKey]) -> Result<Vec<PublishedKey>, 
     Ok(copies)
 }
 
-/// Up to this many keys are looked up, and not walked over.
+/// Up to this many keys are brought into no order.
 const FEW: usize = 8;
 
 /// The order of the keys of a set: the places of their references in a walk over the map.
@@ -149,6 +149,19 @@ impl WalkOrder {
     }
 }
 
+/// The key at a reference, of few keys. They are walked over, which costs less than a look-up.
+fn key_of_few<'a>(keys: &'a HashMap<String, Key>, reference: &String) -> Option<&'a Key>
+    ensures { option_map (λ k. k.now) result
+        ≡ hash.get_by_text keys.now (string_bytes reference.now) }
+{
+    for (found, key) in keys.iter() {
+        if *found == *reference {
+            return Some(key);
+        }
+    }
+    keys.get(reference.as_str())
+}
+
 /// The key at a reference: that of the entry at this place, if it is there. Else it is looked up.
 fn key_at<'a>(
     keys: &'a HashMap<String, Key>,
@@ -162,6 +175,7 @@ fn key_at<'a>(
 {
     match entries.get(place) {
         Some((found, key)) if **found == *reference => Some(*key),
+        None if entries.is_empty() => key_of_few(keys, reference),
         _ => keys.get(reference.as_str()),
     }
 }
