@@ -127,7 +127,8 @@ pub record SetsPlace (reference : List ℕ) (at : Option ℕ) (old new : List Id
 abbrev pub passing : (KeyType → Bool) → Option KeyParts → Bool
 passing passes key = option_map_or (λ (k : KeyParts). passes k.keytype) key false
 
--- so is a key, if a set that is in order shows it and it was added
+-- a set that is in order has the key at the position of its add if it shows it, and else not; a key
+-- that is shown was added
 abbrev pub PlacesKey : (List ℕ → Option ℕ) → List ℕ → Bool → List Id → List Id → Type 0
 PlacesKey added reference is_shown old new =
     IsAscending old → (is_shown ≡ true → IsSome (added reference)) →

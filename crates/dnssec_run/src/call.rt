@@ -230,20 +230,12 @@ impl<'a> Call<'a> {
                     ..Meaning::NONE
                 })
             }
-            Call::Propagation1Complete { rolltype, ttl, now } => Ok(Meaning {
+            Call::Propagation1Complete { rolltype, ttl, now }
+            | Call::Propagation2Complete { rolltype, ttl, now } => Ok(Meaning {
                 moment: Some(*now),
                 mark: Mark::Report {
                     roll: *rolltype,
-                    second: false,
-                    ttl: *ttl,
-                },
-                ..Meaning::NONE
-            }),
-            Call::Propagation2Complete { rolltype, ttl, now } => Ok(Meaning {
-                moment: Some(*now),
-                mark: Mark::Report {
-                    roll: *rolltype,
-                    second: true,
+                    second: matches!(self, Call::Propagation2Complete { .. }),
                     ttl: *ttl,
                 },
                 ..Meaning::NONE
