@@ -1,16 +1,20 @@
--- A list that keeps a frame, and the numbers of the list of before.
+-- A list that keeps a frame, or a set of two, and the numbers of what was there before.
 use Rattle.std.proofs.Common.{◌≡◌, ◌∙◌, ◌++◌, ◌∷◌, [], ap, arith, map, refl, sym, subst, suc, ℕ}
-use Rattle.std.proofs.Common.{false, List, Option, Some, append-nil, drop, length, take}
+use Rattle.std.proofs.Common.{Bool, false, true, List, Option, Some, append-nil, drop, length, take}
+use Rattle.std.specs.Prelude.{◌&&◌, ◌||◌, not}
 use Rattle.std.proofs.lemmas.List.{append_cancel_left, append_cancel_right, length-append}
 use Rattle.std.proofs.lemmas.List.{length-map, take-map, drop-map, take_at, drop_at, map-append}
 use Rattle.std.proofs.Math.Seq.{drop-append_seam, take-append_seam}
 use Rattle.std.proofs.{lemmas.Bool.false_from_ne_true, Common.take-append-drop}
 use Rattle.std.specs.List.{insert, remove}
 use Rattle.dnssec_run.specs.declared.{record.PublishedKey.PublishedKey, record.Frame.Frame}
+use Rattle.dnssec_run.specs.Origins.{CachedSet}
 use Rattle.dnssec_run.specs.{Published.Id, Published.id_of, Frames.KeepsFrame, Origins.same_ids}
 use Rattle.dnssec_run.proofs.Since.{same-ids}
 use Rattle.dnssec_judge.proofs.Table.{stand-both, stand-on, stand-once}
 use Rattle.dnssec_judge.specs.declared.sets.numbers.Numbers.{Numbers}
+use Rattle.dnssec_judge.specs.declared.window.last.Last.{Last}
+use Rattle.dnssec_judge.specs.{Inner.Window.IsNext, Numbers.IsRead}
 use Rattle.dnssec_judge.specs.Numbers.{Grows, StandFor, key_at}
 
 -- lists that stand in one frame differ only within
@@ -150,3 +154,31 @@ pub removed : (all front back : List ℕ) (place n : ℕ) → all ≡ front ++ n
 removed all front back place n is at =
     (λ i. take (at i) (is i) ++ drop (suc (at i)) (is i))
     ∙ (λ i. take-append_seam front (n ∷ back) i ++ past-one front back n i)
+
+-- ---- a set, by its keys and its signers
+
+both : (a b : Bool) → (not a && not b) ≡ not (a || b)
+both true b = refl
+both false b = refl
+
+-- the keys are read over those of before, and then the signers
+pub set-read : (t u v : Numbers) (old new : Last) (f g : Frame) (keys signers : List Id) (a b : Bool)
+    → IsRead t u old.keys.numbers.items new.keys.numbers.items f keys a
+    → IsRead u v old.signers.numbers.items new.signers.numbers.items g signers b
+    → (frames : Frame × Frame) (set : CachedSet) → (f, g) ≡ frames → (keys, signers) ≡ set
+    → IsNext t v old new frames (Some set) (a || b)
+set-read t u v old new f g keys signers a b k s frames set same is =
+    subst (λ (fs : Frame × Frame). IsNext t v old new fs (Some set) (a || b)) same
+    (subst (λ (x : CachedSet). IsNext t v old new (f, g) (Some x) (a || b)) is (record {
+      extends = λ table.
+          (let one = k.extends table in let two = s.extends one.0 in
+          (two.0, λ n id e. two.1 n id (one.1 n id e)));
+      read = λ before table stand keep.
+          (let one = k.extends table in let two = s.extends one.0 in
+          let ks = k.read before.0 table stand.0 keep.0 in
+          let ss = s.read before.1 one.0
+          (stand-on t u old.signers.numbers.items before.1 one.1 stand.1) keep.1 in (
+            (stand-on u v new.keys.numbers.items keys two.1 ks.0, ss.0),
+            (λ i. ks.1 i && ss.1 i) ∙ both a b,
+          ));
+    }))

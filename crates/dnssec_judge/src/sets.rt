@@ -7,6 +7,6 @@ mod number_list;
 mod numbers;
 
 pub(crate) use bits::Bits;
-pub(crate) use held::OpenSet;
+pub(crate) use held::{OpenSet, digest_of};
 pub(crate) use number_list::NumberList;
-pub(crate) use numbers::Numbers;
+pub(crate) use numbers::{Numbers, is_left};

@@ -19,8 +19,6 @@ pub(crate) struct OpenSet {
     keys: Bits,
     /// The keys that sign it, if it is a DNSKEY set.
     signers: Bits,
-    /// Sets with other digests are other sets.
-    pub(crate) digest: u64,
 }
 
 impl OpenSet {
@@ -38,13 +36,11 @@ impl OpenSet {
     pub(crate) fn new(at: usize, keys: Bits, signers: Bits) -> Self
         ensures { parts_of result ≡ ((words_of keys, words_of signers), at, at) }
     {
-        let digest = signers.digest(keys.digest(0));
         OpenSet {
             since: at,
             last: at,
             keys,
             signers,
-            digest,
         }
     }
 
@@ -58,15 +54,19 @@ impl OpenSet {
             last: self.last,
             keys: self.keys.try_clone()?,
             signers: self.signers.try_clone()?,
-            digest: self.digest,
         })
     }
 
-    /// Whether it has the same keys, and the same keys sign it.
-    pub(crate) fn is(&self, other: &OpenSet) -> bool
-        ensures { result ≡ true → set_of self.now ≡ set_of other.now }
+    /// Whether it has these keys, and these keys sign it.
+    pub(crate) fn is(&self, keys: &Bits, signers: &Bits) -> bool
+        ensures { result ≡ true → set_of self.now ≡ (words_of keys.now, words_of signers.now) }
     {
-        self.digest == other.digest && self.keys.is(&other.keys) && self.signers.is(&other.signers)
+        self.keys.is(keys) && self.signers.is(signers)
+    }
+
+    /// Sets with other digests are other sets.
+    pub(crate) fn digest(&self) -> u64 {
+        digest_of(&self.keys, &self.signers)
     }
 
     /// Whether it has no keys.
@@ -126,4 +126,9 @@ impl OpenSet {
     {
         self.is_empty() || (self.names_key_of(dnskey) && dnskey.holds_with_signers(zone))
     }
+}
+
+/// The digest of the set with these keys and signers.
+pub(crate) fn digest_of(keys: &Bits, signers: &Bits) -> u64 {
+    signers.digest(keys.digest(0))
 }

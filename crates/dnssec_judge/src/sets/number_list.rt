@@ -56,12 +56,11 @@ impl NumberList {
     }
 
     /// The set of the numbers.
-    pub(crate) fn bits(&self) -> Result<Bits, Error>
-        ensures ok { IfOk result (λ bits. (n : ℕ) →
-            has bits n ≡ list_any (λ number. nat_eq number n) self.now.numbers.items) }
-        ensures err { IfErr result (λ e. e ≡ OutOfMemory) }
+    #[inline(always)]
+    pub(crate) fn bits(&self) -> &Bits
+        ensures { result.now ≡ self.now.bits }
     {
-        self.bits.try_clone()
+        &self.bits
     }
 
     /// Puts a number in at a place.

@@ -71,8 +71,6 @@ impl Numbers {
 
     /// Reads a list over the one of before, and answers whether it is another. It reads only what
     /// may have changed.
-    // Inline, so that a list that stays makes no call.
-    #[inline(always)]
     pub(crate) fn read(
         &mut self,
         alloc: Global,
@@ -84,24 +82,9 @@ impl Numbers {
             known.new.numbers.items frame (map id_of list.now)) }
         ensures err { IfErr result (λ e. e ≡ OutOfMemory) }
     {
-        if frame.front == list.len() && known.as_slice().len() == list.len() {
+        if is_left(list, frame, known) {
             return Ok(false);
         }
-        self.read_changes(alloc, list, known, frame)
-    }
-
-    /// The same, also if the list may have changed.
-    fn read_changes(
-        &mut self,
-        alloc: Global,
-        list: &[PublishedKey],
-        known: &mut NumberList,
-        frame: Frame,
-    ) -> Result<bool, Error>
-        ensures ok { IfOk result (IsRead self.old self.new known.old.numbers.items
-            known.new.numbers.items frame (map id_of list.now)) }
-        ensures err { IfErr result (λ e. e ≡ OutOfMemory) }
-    {
         let (front, middle, back) = parts(known.as_slice(), frame);
         let (_, changed, _) = parts(list, frame);
         if self.are(middle, changed) {
@@ -193,16 +176,18 @@ impl Numbers {
         Ok(number)
     }
 
-    /// The number of a key that has one. In a run no two keys are added at one position; in another
-    /// record all are looked at.
+    /// The number of a key that has one. Few keys are all looked at. In a run no two keys are added
+    /// at one position; in another record many are all looked at too.
     fn find(&self, key: &PublishedKey) -> Option<usize>
         ensures some { IfSome result (λ n. key_at self.now n ≡ Some (id_of key.now)) }
         ensures none { result ≡ None → IsTable self.now → (n : ℕ) →
             key_at self.now n ≡ Some (id_of key.now) → ⊥ }
     {
-        let number = *self.by_added.get(&key.added)?;
-        if self.is(number, key) {
-            return Some(number);
+        if FEW < self.keys.len() {
+            let number = *self.by_added.get(&key.added)?;
+            if self.is(number, key) {
+                return Some(number);
+            }
         }
         for number in 0..self.keys.len() {
             if self.is(number, key) {
@@ -307,6 +292,15 @@ impl Numbers {
             self.keys.pop();
         }
     }
+}
+
+/// Whether a list that keeps its frame is the one of before: it keeps all of that, and is as long.
+#[inline(always)]
+pub(crate) fn is_left(list: &[PublishedKey], frame: Frame, known: &NumberList) -> bool
+    ensures { result ≡ true → (t : Numbers) → IsRead t t known.now.numbers.items
+        known.now.numbers.items frame (map id_of list.now) false }
+{
+    frame.front == list.len() && known.as_slice().len() == list.len()
 }
 
 /// A list in three parts: what stands in front of a change, what may have changed, and what stands

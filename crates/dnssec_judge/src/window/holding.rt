@@ -1,11 +1,11 @@
 //! Which sets a window holds, each once, and what helps with many.
-ghost use Rattle.std.specs.Prelude.{◌≡◌, ◌≤◌, ℕ, suc, false, true, length, nat_lt};
+ghost use Rattle.std.specs.Prelude.{◌≡◌, ◌≤◌, ℕ, false, true, length, nat_lt};
 ghost use Rattle.std.specs.List.Sorted.{IsPartitionPoint};
 ghost use Rattle.std.specs.Prelude.{Option, None, Some, slice_get, IfOk, IfErr, IfSome, OnOk};
 ghost use Rattle.dnssec_base.specs.declared.error.Error.TheVariants.{OutOfMemory};
 ghost use Rattle.dnssec_judge.specs.{Sets.set_of, declared.sets.held.OpenSet.OpenSet};
 ghost use Rattle.dnssec_judge.specs.Inner.Window.{AreByAge, HasCommon, IsHelped, IsIn, IsOpen};
-ghost use Rattle.dnssec_judge.specs.Inner.Window.{IsPut, Keeps, StillRests, came_since};
+ghost use Rattle.dnssec_judge.specs.Inner.Window.{IsPut, Keeps, StillRests, came_since, last_of};
 ghost use Rattle.dnssec_judge.specs.Inner.Window.{stretches_of};
 
 use super::Window;
@@ -67,31 +67,30 @@ impl Many {
         ensures err { IfErr result (λ e. e ≡ OutOfMemory) }
     {
         self.common.keep(set);
-        self.by_digest.insert(set.digest, set.since)?;
+        self.by_digest.insert(set.digest(), set.since)?;
         Ok(())
     }
 }
 
 impl Window {
-    /// Holds a set that is published, and answers since when it is there: the same set if it is
-    /// found, else a new one.
-    pub(super) fn put(&mut self, alloc: Global, set: OpenSet) -> Result<usize, Error>
+    /// Holds the set that is published last, and answers since when it is there: the same set if it
+    /// is found, else a new one.
+    pub(super) fn put(&mut self, alloc: Global, at: usize) -> Result<usize, Error>
         ensures kept { OnOk result (self.new
             ≡ record (self.old) { sets = self.new.sets; many = self.new.many }) }
-        ensures put { IfOk result (λ since. (n : ℕ) → set.since ≡ suc n → set.last ≡ suc n →
-            Keeps n self.old →
-            IsPut set.since (set_of set) self.old.sets.items since self.new.sets.items) }
-        ensures common { OnOk result ((n : ℕ) → Keeps n self.old → HasCommon self.new) }
+        ensures put { IfOk result (λ since.
+            IsPut at (last_of self.old.last) self.old.sets.items since self.new.sets.items) }
+        ensures common { OnOk result (HasCommon self.old → HasCommon self.new) }
         ensures err { IfErr result (λ e. e ≡ OutOfMemory) }
     {
-        let Some(place) = self.place_of(&set) else {
-            let since = set.since;
+        let Some(place) = self.place_of_last() else {
+            let set = self.last.set(at)?;
             self.make_room(alloc)?;
             self.help_with(&set)?;
             self.sets.push(set)?;
-            return Ok(since);
+            return Ok(at);
         };
-        self.sets[place].last = set.since;
+        self.sets[place].last = at;
         Ok(self.sets[place].since)
     }
 
@@ -138,17 +137,18 @@ impl Window {
         }
     }
 
-    /// The place of the same set, if it is found.
-    fn place_of(&self, set: &OpenSet) -> Option<usize>
+    /// The place of the set that is published last, if it is found.
+    fn place_of_last(&self) -> Option<usize>
         ensures { IfSome result (λ place. (h : OpenSet) ×
-            (slice_get self.now.sets.items place ≡ Some h) × (set_of h ≡ set_of set.now)) }
+            (slice_get self.now.sets.items place ≡ Some h) × (set_of h ≡ last_of self.now.last)) }
     {
+        let last = &self.last;
         let Some(many) = &self.many else {
-            return self.sets.iter().position(|other| other.is(set));
+            return self.sets.iter().position(|set| last.is(set));
         };
-        let place = self.place_since(*many.by_digest.get(&set.digest)?)?;
+        let place = self.place_since(*many.by_digest.get(&last.digest())?)?;
         match self.sets.get(place) {
-            Some(other) if other.is(set) => Some(place),
+            Some(set) if last.is(set) => Some(place),
             _ => None,
         }
     }

@@ -1,15 +1,15 @@
 //! What is published last of a kind, by the numbers of the keys.
-ghost use Rattle.std.specs.Prelude.{◌≡◌, [], map, IfOk, IfErr, OnOk};
+ghost use Rattle.std.specs.Prelude.{◌≡◌, [], false, true, IfOk, IfErr};
+ghost use Rattle.std.specs.Option.{option_copied, option_map};
 ghost use Rattle.dnssec_base.specs.declared.error.Error.TheVariants.{OutOfMemory};
-ghost use Rattle.dnssec_run.specs.Frames.{KeepsSet};
-ghost use Rattle.dnssec_run.specs.Origins.{CachedSet};
-ghost use Rattle.dnssec_run.specs.Published.{id_of};
-ghost use Rattle.dnssec_judge.specs.Numbers.{Extends, IsTable};
-ghost use Rattle.dnssec_judge.specs.Inner.Window.{IsOther, IsSameLast, StandForSet};
+ghost use Rattle.dnssec_run.specs.{Frames.frames_in, Origins.set_in, Safe.kind_of};
+ghost use Rattle.dnssec_judge.specs.declared.sets.numbers.Numbers.{Numbers};
+ghost use Rattle.dnssec_judge.specs.Inner.Window.{IsNext, IsSameLast, StandForSet, last_of};
+ghost use Rattle.dnssec_judge.specs.Sets.{parts_of, set_of};
 
-use crate::sets::{NumberList, Numbers, OpenSet};
+use crate::sets::{NumberList, Numbers, OpenSet, digest_of, is_left};
 use dnssec_keyset::Error;
-use dnssec_run::{Frame, PublishedKey};
+use dnssec_run::{Frames, Published, SetKind};
 use std::alloc::Global;
 
 /// A set by the numbers of its keys and of its signers, each in their order.
@@ -41,35 +41,70 @@ impl Last {
         })
     }
 
-    /// Reads what a position publishes, and answers the set if it is another than before.
+    /// Whether a position is known to publish this: nothing is handed in of it, or no key changes.
     #[inline(always)]
+    pub(super) fn stays(
+        &self,
+        kind: SetKind,
+        published: Option<&Published>,
+        frames: &Frames,
+    ) -> bool
+        ensures { result ≡ true → (t : Numbers) → IsNext t t self.now self.now
+            (frames_in (kind_of kind) frames.now)
+            (option_map (set_in (kind_of kind)) (option_copied published.entry)) false }
+    {
+        let Some(sets) = published else {
+            return true;
+        };
+        let (keys, signers) = sets.of(kind);
+        let frames = frames.of(kind);
+        is_left(keys, frames.0, &self.keys) && is_left(signers, frames.1, &self.signers)
+    }
+
+    /// Reads what a position publishes, and answers whether it is another set than before.
     pub(super) fn read(
         &mut self,
         alloc: Global,
-        at: usize,
         numbers: &mut Numbers,
-        keys: &[PublishedKey],
-        signers: &[PublishedKey],
-        frames: (Frame, Frame),
-    ) -> Result<Option<OpenSet>, Error>
-        ensures extends { OnOk result (Extends numbers.old numbers.new) }
-        ensures set { OnOk result ((before : CachedSet) → IsTable numbers.old →
-            StandForSet numbers.old self.old before →
-            KeepsSet frames before (map id_of keys.now, map id_of signers.now) →
-            StandForSet numbers.new self.new (map id_of keys.now, map id_of signers.now)) }
-        ensures news { IfOk result (λ news. (before : CachedSet) → IsTable numbers.old →
-            StandForSet numbers.old self.old before →
-            KeepsSet frames before (map id_of keys.now, map id_of signers.now) →
-            IsOther numbers.new at before (map id_of keys.now, map id_of signers.now) news) }
+        kind: SetKind,
+        published: Option<&Published>,
+        frames: &Frames,
+    ) -> Result<bool, Error>
+        ensures ok { IfOk result (IsNext numbers.old numbers.new self.old self.new
+            (frames_in (kind_of kind) frames.now)
+            (option_map (set_in (kind_of kind)) (option_copied published.entry))) }
         ensures err { IfErr result (λ e. e ≡ OutOfMemory) }
     {
+        let Some(sets) = published else {
+            return Ok(false);
+        };
+        let (keys, signers) = sets.of(kind);
+        let frames = frames.of(kind);
         let has_others = numbers.read(alloc, keys, &mut self.keys, frames.0)?;
         let is_signed_otherwise = numbers.read(alloc, signers, &mut self.signers, frames.1)?;
-        if !(has_others | is_signed_otherwise) {
-            return Ok(None);
-        }
-        let keys = self.keys.bits()?;
-        let signers = self.signers.bits()?;
-        Ok(Some(OpenSet::new(at, keys, signers)))
+        Ok(has_others | is_signed_otherwise)
+    }
+
+    /// The set, as it comes at a position.
+    pub(super) fn set(&self, at: usize) -> Result<OpenSet, Error>
+        ensures ok { IfOk result (λ h. parts_of h ≡ (last_of self.now, at, at)) }
+        ensures err { IfErr result (λ e. e ≡ OutOfMemory) }
+    {
+        let keys = self.keys.bits().try_clone()?;
+        let signers = self.signers.bits().try_clone()?;
+        Ok(OpenSet::new(at, keys, signers))
+    }
+
+    /// Whether it is this set.
+    #[inline(always)]
+    pub(super) fn is(&self, set: &OpenSet) -> bool
+        ensures { result ≡ true → set_of set.now ≡ last_of self.now }
+    {
+        set.is(self.keys.bits(), self.signers.bits())
+    }
+
+    /// The digest of the set.
+    pub(super) fn digest(&self) -> u64 {
+        digest_of(self.keys.bits(), self.signers.bits())
     }
 }
