@@ -165,11 +165,9 @@ both false b = refl
 pub set-read : (t u v : Numbers) (old new : Last) (f g : Frame) (keys signers : List Id) (a b : Bool)
     → IsRead t u old.keys.numbers.items new.keys.numbers.items f keys a
     → IsRead u v old.signers.numbers.items new.signers.numbers.items g signers b
-    → (frames : Frame × Frame) (set : CachedSet) → (f, g) ≡ frames → (keys, signers) ≡ set
-    → IsNext t v old new frames (Some set) (a || b)
-set-read t u v old new f g keys signers a b k s frames set same is =
-    subst (λ (fs : Frame × Frame). IsNext t v old new fs (Some set) (a || b)) same
-    (subst (λ (x : CachedSet). IsNext t v old new (f, g) (Some x) (a || b)) is (record {
+    → (set : CachedSet) → (keys, signers) ≡ set → IsNext t v old new (f, g) (Some set) (a || b)
+set-read t u v old new f g keys signers a b k s set is =
+    subst (λ (x : CachedSet). IsNext t v old new (f, g) (Some x) (a || b)) is (record {
       extends = λ table.
           (let one = k.extends table in let two = s.extends one.0 in
           (two.0, λ n id e. two.1 n id (one.1 n id e)));
@@ -181,4 +179,4 @@ set-read t u v old new f g keys signers a b k s frames set same is =
             (stand-on u v new.keys.numbers.items keys two.1 ks.0, ss.0),
             (λ i. ks.1 i && ss.1 i) ∙ both a b,
           ));
-    }))
+    })

@@ -1,6 +1,6 @@
 -- A set that caches may hold, by the numbers of its keys, and whether two or three of them hold in
 -- a chain.
-use Rattle.std.specs.Prelude.{◌&&◌, ◌||◌, ℕ, Bool, List}
+use Rattle.std.specs.Prelude.{◌&&◌, ◌||◌, ℕ, Bool, false, true, List}
 use Rattle.dnssec_judge.specs.declared.window.pairs.Link.TheVariants.{Named, Signed}
 use Rattle.dnssec_judge.specs.Bits.{has_none, meet, meet_three, words_of}
 use Rattle.dnssec_judge.specs.declared.{sets.held.OpenSet.OpenSet, window.pairs.Link.Link}
@@ -26,15 +26,19 @@ keys_hold p q = has_none p.0 || meet_three p.0 q.0 q.1
 abbrev pub zone_holds : Numbered → Numbered → Bool
 zone_holds q z = meet q.0 z.0
 
--- a key links the one set to the other
-abbrev pub linked : Link → Numbered → Numbered → Bool
-linked Named p q = meet_three p.0 q.0 q.1
-linked Signed q z = meet q.0 z.0
+-- a key links the one set to the other; the first is of the kind above, or else the second
+abbrev pub linked : Link → Bool → Numbered → Numbered → Bool
+linked Named true p q = meet_three p.0 q.0 q.1
+linked Named false q p = meet_three p.0 q.0 q.1
+linked Signed true q z = meet q.0 z.0
+linked Signed false z q = meet q.0 z.0
 
 -- the two hold in a chain
-abbrev pub holds : Link → Numbered → Numbered → Bool
-holds Named p q = keys_hold p q
-holds Signed q z = zone_holds q z
+abbrev pub holds : Link → Bool → Numbered → Numbered → Bool
+holds Named true p q = keys_hold p q
+holds Named false q p = keys_hold p q
+holds Signed true q z = zone_holds q z
+holds Signed false z q = zone_holds q z
 
 -- there is no DS, or both hold
 abbrev pub sets_have_chain : Numbered → Numbered → Numbered → Bool

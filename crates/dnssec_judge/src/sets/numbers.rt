@@ -149,6 +149,7 @@ impl Numbers {
     }
 
     /// Whether the number is the key's.
+    #[inline(always)]
     fn is(&self, number: usize, key: &PublishedKey) -> bool
         ensures yes { result ≡ true → key_at self.now number ≡ Some (id_of key.now) }
         ensures no { result ≡ false → key_at self.now number ≡ Some (id_of key.now) → ⊥ }

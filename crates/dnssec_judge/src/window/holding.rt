@@ -175,12 +175,6 @@ impl Window {
             IsPartitionPoint (λ h. nat_lt h.since since ≡ true)
             (λ h. nat_lt h.since since ≡ false) self.now.sets.items result }
     {
-        // As a rule no set came so late.
-        if let Some(last) = self.sets.last() {
-            if last.since < since {
-                return self.sets.len();
-            }
-        }
         self.sets.partition_point(|set| set.since < since)
     }
 

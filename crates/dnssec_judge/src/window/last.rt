@@ -2,14 +2,14 @@
 ghost use Rattle.std.specs.Prelude.{◌≡◌, [], false, true, IfOk, IfErr};
 ghost use Rattle.std.specs.Option.{option_copied, option_map};
 ghost use Rattle.dnssec_base.specs.declared.error.Error.TheVariants.{OutOfMemory};
-ghost use Rattle.dnssec_run.specs.{Frames.frames_in, Origins.set_in, Safe.kind_of};
+ghost use Rattle.dnssec_run.specs.{Origins.set_in, Safe.kind_of};
 ghost use Rattle.dnssec_judge.specs.declared.sets.numbers.Numbers.{Numbers};
 ghost use Rattle.dnssec_judge.specs.Inner.Window.{IsNext, IsSameLast, StandForSet, last_of};
 ghost use Rattle.dnssec_judge.specs.Sets.{parts_of, set_of};
 
 use crate::sets::{NumberList, Numbers, OpenSet, digest_of, is_left};
 use dnssec_keyset::Error;
-use dnssec_run::{Frames, Published, SetKind};
+use dnssec_run::{Frame, Published, SetKind};
 use std::alloc::Global;
 
 /// A set by the numbers of its keys and of its signers, each in their order.
@@ -47,17 +47,15 @@ impl Last {
         &self,
         kind: SetKind,
         published: Option<&Published>,
-        frames: &Frames,
+        frames: (Frame, Frame),
     ) -> bool
         ensures { result ≡ true → (t : Numbers) → IsNext t t self.now self.now
-            (frames_in (kind_of kind) frames.now)
-            (option_map (set_in (kind_of kind)) (option_copied published.entry)) false }
+            frames (option_map (set_in (kind_of kind)) (option_copied published.entry)) false }
     {
         let Some(sets) = published else {
             return true;
         };
         let (keys, signers) = sets.of(kind);
-        let frames = frames.of(kind);
         is_left(keys, frames.0, &self.keys) && is_left(signers, frames.1, &self.signers)
     }
 
@@ -68,18 +66,16 @@ impl Last {
         numbers: &mut Numbers,
         kind: SetKind,
         published: Option<&Published>,
-        frames: &Frames,
+        frames: (Frame, Frame),
     ) -> Result<bool, Error>
         ensures ok { IfOk result (IsNext numbers.old numbers.new self.old self.new
-            (frames_in (kind_of kind) frames.now)
-            (option_map (set_in (kind_of kind)) (option_copied published.entry))) }
+            frames (option_map (set_in (kind_of kind)) (option_copied published.entry))) }
         ensures err { IfErr result (λ e. e ≡ OutOfMemory) }
     {
         let Some(sets) = published else {
             return Ok(false);
         };
         let (keys, signers) = sets.of(kind);
-        let frames = frames.of(kind);
         let has_others = numbers.read(alloc, keys, &mut self.keys, frames.0)?;
         let is_signed_otherwise = numbers.read(alloc, signers, &mut self.signers, frames.1)?;
         Ok(has_others | is_signed_otherwise)

@@ -1,5 +1,5 @@
 //! Any two sets of the windows are tested once: each new set with all sets of the other kind.
-ghost use Rattle.std.specs.Prelude.{◌≡◌, ◌≤◌, ℕ, true};
+ghost use Rattle.std.specs.Prelude.{◌≡◌, ◌<◌, ◌≤◌, ℕ, false, true};
 ghost use Rattle.std.specs.List.{Contains};
 ghost use Rattle.dnssec_judge.specs.Sets.{holds, linked, set_of};
 ghost use Rattle.dnssec_judge.specs.declared.sets.held.OpenSet.{OpenSet};
@@ -23,41 +23,36 @@ impl Link {
     /// window, if the older ones do.
     pub(crate) fn new_sets_hold(self, above: &Window, below: &Window, tested: usize) -> bool
         ensures { (n : ℕ) → result ≡ true → Keeps n above.now → Keeps n below.now →
-            PairsTested tested (holds self) above.now below.now →
-            PairsHold (holds self) above.now below.now }
+            PairsTested tested (holds self true) above.now below.now →
+            PairsHold (holds self true) above.now below.now }
     {
-        for one in above.new_sets(tested) {
-            if !below.hold_below(self, one) {
-                return false;
-            }
-        }
-        for other in below.new_sets(tested) {
-            if !above.hold_above(self, other) {
-                return false;
-            }
-        }
-        true
+        below.hold_with_new(self, true, above, tested)
+            && above.hold_with_new(self, false, below, tested)
     }
 
-    /// Whether two sets hold in a chain.
+    /// Whether two sets hold in a chain. The first is of the kind above, or else the second.
     #[inline(always)]
-    fn holds(self, above: &OpenSet, below: &OpenSet) -> bool
-        ensures { result ≡ holds self (set_of above.now) (set_of below.now) }
+    fn holds(self, is_above: bool, one: &OpenSet, other: &OpenSet) -> bool
+        ensures { result ≡ holds self is_above (set_of one.now) (set_of other.now) }
     {
-        match self {
-            Link::Named => above.holds_with_keys(below),
-            Link::Signed => above.holds_with_signers(below),
+        match (self, is_above) {
+            (Link::Named, true) => one.holds_with_keys(other),
+            (Link::Named, false) => other.holds_with_keys(one),
+            (Link::Signed, true) => one.holds_with_signers(other),
+            (Link::Signed, false) => other.holds_with_signers(one),
         }
     }
 
     /// Whether a key links two sets. Then they hold, and so do sets with more keys.
     #[inline(always)]
-    fn has_key(self, above: &OpenSet, below: &OpenSet) -> bool
-        ensures { result ≡ linked self (set_of above.now) (set_of below.now) }
+    fn has_key(self, is_above: bool, one: &OpenSet, other: &OpenSet) -> bool
+        ensures { result ≡ linked self is_above (set_of one.now) (set_of other.now) }
     {
-        match self {
-            Link::Named => above.names_key_of(below),
-            Link::Signed => above.holds_with_signers(below),
+        match (self, is_above) {
+            (Link::Named, true) => one.names_key_of(other),
+            (Link::Named, false) => other.names_key_of(one),
+            (Link::Signed, true) => one.holds_with_signers(other),
+            (Link::Signed, false) => other.holds_with_signers(one),
         }
     }
 }
@@ -75,29 +70,43 @@ impl Window {
         new
     }
 
-    /// Whether a set holds with each set of the window, which is of the kind below.
-    pub(super) fn hold_below(&self, link: Link, above: &OpenSet) -> bool
-        ensures { (n : ℕ) → Keeps n self.now →
-            result ≡ all_in self.now (λ q. holds link (set_of above.now) q) }
+    /// Whether a set came at position `tested` or later.
+    #[inline(always)]
+    pub(crate) fn has_new(&self, tested: usize) -> bool
+        ensures { result ≡ false → AreByAge self.now.sets.items → (h : OpenSet) →
+            IsOpen self.now h → h.since < tested }
     {
-        if let Some(common) = self.common() {
-            if link.has_key(above, common) {
-                return true;
-            }
+        match self.sets.last() {
+            Some(last) => tested <= last.since,
+            None => false,
         }
-        self.sets.iter().all(|set| link.holds(above, set))
     }
 
-    /// Whether each set of the window holds with a set, which is of the kind below.
-    fn hold_above(&self, link: Link, below: &OpenSet) -> bool
+    /// Whether the new sets of another window hold with each set of this one. That one is of the
+    /// kind above, or else this one.
+    fn hold_with_new(&self, link: Link, is_above: bool, other: &Window, tested: usize) -> bool
+        ensures { (n : ℕ) → result ≡ true → Keeps n self.now → Keeps n other.now →
+            (h : OpenSet) → IsOpen other.now h → tested ≤ h.since →
+            all_in self.now (λ p. holds link is_above (set_of h) p) ≡ true }
+    {
+        for set in other.new_sets(tested) {
+            if !self.all_hold(link, is_above, set) {
+                return false;
+            }
+        }
+        true
+    }
+
+    /// Whether a set holds with each set of the window. It is of the kind above, or else these are.
+    pub(super) fn all_hold(&self, link: Link, is_above: bool, set: &OpenSet) -> bool
         ensures { (n : ℕ) → Keeps n self.now →
-            result ≡ all_in self.now (λ p. holds link p (set_of below.now)) }
+            result ≡ all_in self.now (λ p. holds link is_above (set_of set.now) p) }
     {
         if let Some(common) = self.common() {
-            if link.has_key(common, below) {
+            if link.has_key(is_above, set, common) {
                 return true;
             }
         }
-        self.sets.iter().all(|set| link.holds(set, below))
+        self.sets.iter().all(|other| link.holds(is_above, set, other))
     }
 }

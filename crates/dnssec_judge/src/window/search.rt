@@ -39,7 +39,7 @@ pub(crate) fn find_broken(
         if first.set.is_empty() {
             continue;
         }
-        if are_signed && dnskey.hold_below(Link::Named, first.set) {
+        if are_signed && dnskey.all_hold(Link::Named, true, first.set) {
             continue;
         }
         if let Some(broken) = find_keys(&first, dnskey, zone, at) {
@@ -59,7 +59,7 @@ fn find_keys(ds: &First<'_>, dnskey: &Window, zone: &Window, at: usize) -> Optio
         let Some(keys) = dnskey.span_at(place) else {
             return None;
         };
-        if ds.set.holds_with_keys(keys.set) && zone.hold_below(Link::Signed, keys.set) {
+        if ds.set.holds_with_keys(keys.set) && zone.all_hold(Link::Signed, true, keys.set) {
             continue;
         }
         if let Some(zone) = find_zone(ds.set, keys.set, zone) {

@@ -62,6 +62,14 @@ module _ (es : List Entry) (e : Entry) (j w : Judge) (h : Knows es j) (found-is 
       };
     }
 
+    -- or any two sets hold
+    held : (tested : ℕ) → tested ≤ suc (length (es ++ e ∷ [])) → AllHold w.ds w.dnskey w.zone
+        → Knows (es ++ e ∷ []) (record w { tested = tested })
+    held tested within all = searched tested w.found within
+        (tested-held tested w.ds w.dnskey w.zone all)
+        (none ∙ sym (none-where-held _ w.at w.ds w.dnskey w.zone f.ds.keeps f.dnskey.keeps
+        f.zone.keeps all))
+
 pub returns-then-is_some-clause-ok : goal.returns-then-is_some-clause-ok
 returns-then-is_some-clause-ok c es e next keep h =
     let f = c.in_ok-follow.ensures in
@@ -90,16 +98,22 @@ returns-then-are_signed-clause-ok c es e next keep h =
     let w = c.follow.new.self in let f = c.in_ok-follow.ensures in
     let g = f.follows es e next keep h.follows in
     let none = is-none w.found (sym c.is_some.ensures ∙ c.if-is_some.false) in
-    let all : AllHold w.ds w.dnskey w.zone = record {
+    held es e c.args.self.now w h f.found g none _ (omega (arith, g.at, c.saturating_add-self.ensures))
+    (record {
       keys = c.new_sets_hold-are_named.ensures _ c.if-are_named.true g.ds.keeps
           g.dnskey.keeps g.tested.keys;
       zones = c.new_sets_hold-are_signed.ensures _ c.if-are_signed.true g.dnskey.keeps
           g.zone.keeps g.tested.zones;
-    } in
-    searched es e c.args.self.now w h f.found g none _ w.found
-    (omega (arith, g.at, c.saturating_add-self.ensures)) (tested-held _ w.ds w.dnskey w.zone all)
-    (none ∙ sym (none-where-held _ w.at w.ds w.dnskey w.zone g.ds.keeps g.dnskey.keeps
-    g.zone.keeps all))
+    })
+
+pub returns-then-not-has_new_sets-clause-ok : goal.returns-then-not-has_new_sets-clause-ok
+returns-then-not-has_new_sets-clause-ok c es e next keep h =
+    let w = c.follow.new.self in let f = c.in_ok-follow.ensures in
+    let g = f.follows es e next keep h.follows in
+    held es e c.args.self.now w h f.found g
+    (is-none w.found (sym c.is_some.ensures ∙ c.if-is_some.false)) w.tested g.within
+    (c.has_new_sets.ensures _ c.if-not-has_new_sets.true g.ds.keeps g.dnskey.keeps g.zone.keeps
+    g.tested)
 
 pub returns-clause-ok : goal.returns-clause-ok
 returns-clause-ok c es e next keep h =

@@ -25,13 +25,13 @@ loop-place-preserved-then-is_empty c n k l m s =
     (set_of c.in-Some.first.set.now) c.in-Some.first.at
     (sym c.is_empty.ensures ∙ c.if-is_empty.true))
 
-pub loop-place-preserved-then-hold_below : goal.loop-place-preserved-then-hold_below
-loop-place-preserved-then-hold_below c n k l m s =
+pub loop-place-preserved-then-all_hold : goal.loop-place-preserved-then-all_hold
+loop-place-preserved-then-all_hold c n k l m s =
     let f = c.in-Some.first in
     miss (seek c.args.at c.args.dnskey.now c.args.zone.now)
     c.args.ds.now c.loop-place.place (c.loop-place.invariant n k l m s) f
     (c.in-Some.ensures n k) (keys-held n c.args.at c.args.dnskey.now c.args.zone.now l m
-    (set_of f.set.now) f.at (sym (c.hold_below.ensures n l) ∙ c.if-hold_below.true)
+    (set_of f.set.now) f.at (sym (c.all_hold.ensures n l) ∙ c.if-all_hold.true)
     (s c.if-are_signed.true))
 
 pub returns-in-Some-find_keys : goal.returns-in-Some-find_keys

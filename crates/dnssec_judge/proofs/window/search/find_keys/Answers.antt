@@ -17,15 +17,15 @@ returns-in_default c n k m =
     c.args.dnskey.now c.loop-place.place (c.loop-place.invariant n k m)
     (c.in_default.ensures n k)
 
-pub loop-place-preserved-then-hold_below : goal.loop-place-preserved-then-hold_below
-loop-place-preserved-then-hold_below c n k m =
+pub loop-place-preserved-then-all_hold : goal.loop-place-preserved-then-all_hold
+loop-place-preserved-then-all_hold c n k m =
     let d = c.args.ds.now in let f = c.in-Some.keys in
     miss (seek c.args.at c.args.ds.now c.args.zone.now)
     c.args.dnskey.now c.loop-place.place (c.loop-place.invariant n k m) f
     (c.in-Some.ensures n k) (signers-held n c.args.at c.args.dnskey.now c.args.zone.now k m
     (set_of d.set.now) d.at f.at (set_of f.set.now)
     (sym c.holds_with_keys.ensures ∙ c.if-holds_with_keys.true)
-    (sym (c.hold_below.ensures n m) ∙ c.if-hold_below.true))
+    (sym (c.all_hold.ensures n m) ∙ c.if-all_hold.true))
 
 pub returns-in-Some-find_zone : goal.returns-in-Some-find_zone
 returns-in-Some-find_zone c n k m =

@@ -12,7 +12,6 @@ returns-in_default c is t = rw c.in_default.is (record {
 
 pub returns-then-is_left : goal.returns-then-is_left
 returns-then-is_left c is t = 
-    rw c.in-Some.is (set-read t t t c.args.self.now c.args.self.now _ _
+    rw c.in-Some.is (set-read t t t c.args.self.now c.args.self.now c.args.frames.0 c.args.frames.1
     (map id_of c.of.result.0.now) (map id_of c.of.result.1.now) false false
-    (c.is_left.ensures c.if-is_left.true t) (c.is_left-then-is_left.ensures is t) _ _ c.of-frames.ensures
-    c.of.ensures)
+    (c.is_left.ensures c.if-is_left.true t) (c.is_left-then-is_left.ensures is t) _ c.of.ensures)
