@@ -149,7 +149,6 @@ impl Numbers {
     }
 
     /// Whether the number is the key's.
-    #[inline(always)]
     fn is(&self, number: usize, key: &PublishedKey) -> bool
         ensures yes { result ≡ true → key_at self.now number ≡ Some (id_of key.now) }
         ensures no { result ≡ false → key_at self.now number ≡ Some (id_of key.now) → ⊥ }
@@ -177,18 +176,16 @@ impl Numbers {
         Ok(number)
     }
 
-    /// The number of a key that has one. Few keys are all looked at. In a run no two keys are added
-    /// at one position; in another record many are all looked at too.
+    /// The number of a key that has one. In a run no two keys are added at one position; in another
+    /// record all are looked at.
     fn find(&self, key: &PublishedKey) -> Option<usize>
         ensures some { IfSome result (λ n. key_at self.now n ≡ Some (id_of key.now)) }
         ensures none { result ≡ None → IsTable self.now → (n : ℕ) →
             key_at self.now n ≡ Some (id_of key.now) → ⊥ }
     {
-        if FEW < self.keys.len() {
-            let number = *self.by_added.get(&key.added)?;
-            if self.is(number, key) {
-                return Some(number);
-            }
+        let number = *self.by_added.get(&key.added)?;
+        if self.is(number, key) {
+            return Some(number);
         }
         for number in 0..self.keys.len() {
             if self.is(number, key) {

@@ -14,8 +14,8 @@ use dnssec_keyset::Error;
 use std::alloc::Global;
 use std::collections::HashMap;
 
-/// Up to this many sets a window grows by one, since few rolls need more; then twofold. More than
-/// these are many.
+/// Up to this many sets a window grows by one, since few rolls need more, and keeps their room; then
+/// twofold. More than these are many.
 const FEW: usize = 4;
 
 /// What helps with many sets, so that a new one isn't compared, nor tested, with each of them.
@@ -195,7 +195,7 @@ impl Window {
         self.sets.retain(|set| begin <= set.last);
         if self.sets.len() <= FEW {
             self.many = None;
-            self.sets.shrink_to_fit();
+            self.sets.shrink_to(FEW);
             return Ok(());
         }
         self.help(alloc)?;

@@ -98,6 +98,7 @@ impl Window {
     }
 
     /// Whether a set holds with each set of the window. It is of the kind above, or else these are.
+    #[inline(always)]
     pub(super) fn all_hold(&self, link: Link, is_above: bool, set: &OpenSet) -> bool
         ensures { (n : ℕ) → Keeps n self.now →
             result ≡ all_in self.now (λ p. holds link is_above (set_of set.now) p) }

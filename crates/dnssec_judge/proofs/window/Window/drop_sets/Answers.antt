@@ -12,9 +12,9 @@ returns-then-all-clause-keeps c n k = (k, λ tested h le r. (h, r, refl))
 pub returns-then-len-le-FEW : goal.returns-then-len-le-FEW
 returns-then-len-le-FEW c =
     let w = c.args.self.now in
-    let new : Window = record w { sets = c.shrink_to_fit.new.self; many = None } in
+    let new : Window = record w { sets = c.shrink_to.new.self; many = None } in
     let sets : new.sets.items ≡ filter (isnt-older (begin_of w.spans.items)) w.sets.items =
-    c.shrink_to_fit.ensures.items ∙ filtered _ (λ h. leb c.begin-begin.result h.last) _
+    c.shrink_to.ensures.items ∙ filtered _ (λ h. leb c.begin-begin.result h.last) _
     (λ x b q k. search (rules, tests)) _ _ c.retain.ensures.filtered
     ∙ ap (λ b. filter (isnt-older b) w.sets.items) c.begin-begin.ensures in
     record {

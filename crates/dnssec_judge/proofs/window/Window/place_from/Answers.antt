@@ -1,9 +1,8 @@
 -- The sets stand in the order in which they came.
-use Rattle.std.proofs.Common.{◌≡◌, ◌∙◌, ◌-◌, ◌<◌, ap, arith, false, length, List, ltb, rules, Some}
+use Rattle.std.proofs.Common.{◌≡◌, false, List, ltb, rules}
 use Rattle.std.proofs.lemmas.List.Sorted.{IsPartitionPoint-from_clause, IsPartitionedBy-ltb}
-use Rattle.std.{proofs.lemmas.Option.get_or_from_slice_get, specs.List.Sorted.IsPartitionPoint}
-use Rattle.std.proofs.{Common.subst, Common.sym, Common.true, lemmas.Bool.lt-ltb}
-use Rattle.std.specs.{Option.option_copied, Prelude.slice_get}
+use Rattle.std.{specs.List.Sorted.IsPartitionPoint}
+use Rattle.std.proofs.{Common.subst, Common.sym, Common.true}
 use Rattle.dnssec_judge.specs.declared.sets.held.OpenSet.{OpenSet}
 use Rattle.dnssec_judge.{proofs.OneByOne.Ages.non-decreasing, specs.Inner.Window.AreByAge}
 use Rattle.dnssec_judge.proofs.window.Window.place_from.Goals as goal
