@@ -71,6 +71,8 @@ impl Numbers {
 
     /// Reads a list over the one of before, and answers whether it is another. It reads only what
     /// may have changed.
+    // Inline, so that a list that stays makes no call.
+    #[inline(always)]
     pub(crate) fn read(
         &mut self,
         alloc: Global,
@@ -85,6 +87,21 @@ impl Numbers {
         if is_left(list, frame, known) {
             return Ok(false);
         }
+        self.read_changes(alloc, list, known, frame)
+    }
+
+    /// The same, also if the list may have changed.
+    fn read_changes(
+        &mut self,
+        alloc: Global,
+        list: &[PublishedKey],
+        known: &mut NumberList,
+        frame: Frame,
+    ) -> Result<bool, Error>
+        ensures ok { IfOk result (IsRead self.old self.new known.old.numbers.items
+            known.new.numbers.items frame (map id_of list.now)) }
+        ensures err { IfErr result (λ e. e ≡ OutOfMemory) }
+    {
         let (front, middle, back) = parts(known.as_slice(), frame);
         let (_, changed, _) = parts(list, frame);
         if self.are(middle, changed) {

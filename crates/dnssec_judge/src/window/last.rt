@@ -47,16 +47,17 @@ impl Last {
         &self,
         kind: SetKind,
         published: Option<&Published>,
-        frames: (Frame, Frame),
+        keys: Frame,
+        signers: Frame,
     ) -> bool
         ensures { result ≡ true → (t : Numbers) → IsNext t t self.now self.now
-            frames (option_map (set_in (kind_of kind)) (option_copied published.entry)) false }
+            (keys, signers) (option_map (set_in (kind_of kind)) (option_copied published.entry)) false }
     {
         let Some(sets) = published else {
             return true;
         };
-        let (keys, signers) = sets.of(kind);
-        is_left(keys, frames.0, &self.keys) && is_left(signers, frames.1, &self.signers)
+        let lists = sets.of(kind);
+        is_left(lists.0, keys, &self.keys) && is_left(lists.1, signers, &self.signers)
     }
 
     /// Reads what a position publishes, and answers whether it is another set than before.
@@ -66,18 +67,19 @@ impl Last {
         numbers: &mut Numbers,
         kind: SetKind,
         published: Option<&Published>,
-        frames: (Frame, Frame),
+        keys: Frame,
+        signers: Frame,
     ) -> Result<bool, Error>
         ensures ok { IfOk result (IsNext numbers.old numbers.new self.old self.new
-            frames (option_map (set_in (kind_of kind)) (option_copied published.entry))) }
+            (keys, signers) (option_map (set_in (kind_of kind)) (option_copied published.entry))) }
         ensures err { IfErr result (λ e. e ≡ OutOfMemory) }
     {
         let Some(sets) = published else {
             return Ok(false);
         };
-        let (keys, signers) = sets.of(kind);
-        let has_others = numbers.read(alloc, keys, &mut self.keys, frames.0)?;
-        let is_signed_otherwise = numbers.read(alloc, signers, &mut self.signers, frames.1)?;
+        let lists = sets.of(kind);
+        let has_others = numbers.read(alloc, lists.0, &mut self.keys, keys)?;
+        let is_signed_otherwise = numbers.read(alloc, lists.1, &mut self.signers, signers)?;
         Ok(has_others | is_signed_otherwise)
     }
 
