@@ -162,7 +162,8 @@ both true b = refl
 both false b = refl
 
 -- the keys are read over those of before, and then the signers
-pub set-read : (t u v : Numbers) (old new : Last) (f g : Frame) (keys signers : List Id) (a b : Bool)
+pub set-read : (t u v : Numbers) (old new : Last) (f g : Frame) (keys signers : List Id)
+    (a b : Bool)
     → IsRead t u old.keys.numbers.items new.keys.numbers.items f keys a
     → IsRead u v old.signers.numbers.items new.signers.numbers.items g signers b
     → (set : CachedSet) → (keys, signers) ≡ set → IsNext t v old new (f, g) (Some set) (a || b)

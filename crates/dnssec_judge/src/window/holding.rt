@@ -14,7 +14,7 @@ use dnssec_keyset::Error;
 use std::alloc::Global;
 use std::collections::HashMap;
 
-/// Up to this many sets a window grows by one, since few rolls need more, and keeps their room; then
+/// Up to this many sets a window grows by one, since few rolls need more, and keeps the room; then
 /// twofold. More than these are many.
 const FEW: usize = 4;
 

@@ -50,8 +50,8 @@ impl Last {
         keys: Frame,
         signers: Frame,
     ) -> bool
-        ensures { result ≡ true → (t : Numbers) → IsNext t t self.now self.now
-            (keys, signers) (option_map (set_in (kind_of kind)) (option_copied published.entry)) false }
+        ensures { result ≡ true → (t : Numbers) → IsNext t t self.now self.now (keys, signers)
+            (option_map (set_in (kind_of kind)) (option_copied published.entry)) false }
     {
         let Some(sets) = published else {
             return true;

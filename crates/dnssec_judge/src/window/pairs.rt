@@ -108,6 +108,8 @@ impl Window {
                 return true;
             }
         }
-        self.sets.iter().all(|other| link.holds(is_above, set, other))
+        self.sets
+            .iter()
+            .all(|other| link.holds(is_above, set, other))
     }
 }

@@ -98,8 +98,8 @@ returns-then-are_signed-clause-ok c es e next keep h =
     let w = c.follow.new.self in let f = c.in_ok-follow.ensures in
     let g = f.follows es e next keep h.follows in
     let none = is-none w.found (sym c.is_some.ensures ∙ c.if-is_some.false) in
-    held es e c.args.self.now w h f.found g none _ (omega (arith, g.at, c.saturating_add-self.ensures))
-    (record {
+    held es e c.args.self.now w h f.found g none _
+    (omega (arith, g.at, c.saturating_add-self.ensures)) (record {
       keys = c.new_sets_hold-are_named.ensures _ c.if-are_named.true g.ds.keeps
           g.dnskey.keeps g.tested.keys;
       zones = c.new_sets_hold-are_signed.ensures _ c.if-are_signed.true g.dnskey.keeps

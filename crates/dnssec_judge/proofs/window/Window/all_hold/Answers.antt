@@ -8,12 +8,13 @@ use Rattle.dnssec_judge.proofs.window.Window.all_hold.Goals as goal
 
 pub returns-then-has_key : goal.returns-then-has_key
 returns-then-has_key c n k =
-    all-linked c.args.link c.args.is_above (set_of c.args.set.now) c.in-Some.common.now c.args.self.now
-    (c.in-Some.ensures n k) (sym c.has_key.ensures ∙ c.if-has_key.true)
+    all-linked c.args.link c.args.is_above (set_of c.args.set.now) c.in-Some.common.now
+    c.args.self.now (c.in-Some.ensures n k) (sym c.has_key.ensures ∙ c.if-has_key.true)
 
 pub returns : goal.returns
 returns c n k =
-    let test = λ (x : OpenSet). holds c.args.link c.args.is_above (set_of c.args.set.now) (set_of x) in
+    let test = λ (x : OpenSet).
+    holds c.args.link c.args.is_above (set_of c.args.set.now) (set_of x) in
     all_from_yields_List test _ _ _ c.all.ensures.ran (YieldsList-from_slice c.deref.result.now cc)
     (λ x b q called. search (rules, tests))
     ∙ ap (λ (hs : List OpenSet). list_all test hs) c.deref.ensures.value

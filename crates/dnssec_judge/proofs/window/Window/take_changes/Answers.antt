@@ -36,50 +36,51 @@ returns-clause-ok c =
     let g = c.in_ok-go_on.ensures.ok in
     let at-last : four.last ≡ mid.last = ap (λ (x : Window). x.last) trimmed
     ∙ ap (λ (x : Window). x.last) gone in
-    let news = news_of c.in_ok-is_other.is_other mid.last in record {
+    let news = news_of c.in_ok-is_other.is_other mid.last in
+    let takes : Takes w four c.args.at c.args.time c.args.due news = record {
+      floor = λ order. floor ∙ c.retire.ensures.floor (c.in_ok-note.ensures.in_order order)
+          ∙ noted c.args.time;
+      in_order = λ order. subst (λ (ds : List Due). AreInOrder ds) (sym (λ i. (dues i).items))
+          (c.retire.ensures.in_order (c.in_ok-note.ensures.in_order order));
+      dues = λ t le. (λ i. floor_with (floor i) (dues i).items t) ∙ c.retire.ensures.dues t le
+          ∙ noted t;
+      spans = λ before after n at tiles begins above keeps kept is.
+          (let new = stretches_of three in
+          let same : stretches_of mid ≡ stretches_of w = (λ i. stretches (sets i) (spans i)) in
+          let a = moved-as n n w keeps (omega arith) mid moved in
+          let noted : IsNoted news (suc n) (stretches_of w) new =
+          rw (same, at) at (g.spans n at a.0) in
+          let up : w.floor ≤ three.floor =
+          omega (
+            arith,
+            c.retire.ensures.rises,
+            ap (λ (x : Window). x.floor) added,
+            ap (λ (x : Window). x.floor) gone,
+          ) in
+          let k = (g.keeps n at a.0).0 in
+          let t = c.in_ok-trim.ensures.trims.spans after (suc n)
+          (tiles-noted before after n news (stretches_of w) new tiles kept is noted)
+          (begins-noted news (suc n) w.floor three.floor (stretches_of w) new begins up noted) k
+          in
+          (t.0, t.1, c.in_ok-trim.ensures.goes_on (suc n) k));
+      keeps = λ n at k.
+          (let a = moved-as n n w k (omega arith) mid moved in
+          let b = g.keeps n at a.0 in
+          let d = c.in_ok-trim.ensures.trims.keeps (suc n) b.0 in (
+            d.0,
+            rests-on n w three four (rests-on n w mid three a.1 b.1)
+                (λ tested h le r. d.1 tested h (omega arith) r),
+          ));
+      starts = λ n at k.
+          (let a = moved-as n n w k (omega arith) mid moved in
+          let b = g.keeps n at a.0 in
+          let d = c.in_ok-trim.ensures.trims.starts (suc n) b.0 in
+          omega (arith, ap begin_of spans, g.starts, d));
+      origin = c.in_ok-trim.ensures.trims.origin ∙ g.origin
+          ∙ ap (λ (ss : List Span). came_after news c.args.at (came ss)) spans;
+    } in record {
       is_other = c.in_ok-is_other.is_other;
       next = rw (sym last, at-last) c.in_ok-is_other.ensures.ok;
       takes = subst (λ (l : Last). Takes w four c.args.at c.args.time c.args.due
-          (news_of c.in_ok-is_other.is_other l)) (sym at-last) (record {
-        floor = λ order. floor ∙ c.retire.ensures.floor (c.in_ok-note.ensures.in_order order)
-            ∙ noted c.args.time;
-        in_order = λ order. subst (λ (ds : List Due). AreInOrder ds) (sym (λ i. (dues i).items))
-            (c.retire.ensures.in_order (c.in_ok-note.ensures.in_order order));
-        dues = λ t le. (λ i. floor_with (floor i) (dues i).items t) ∙ c.retire.ensures.dues t le
-            ∙ noted t;
-        spans = λ before after n at tiles begins above keeps kept is.
-            (let new = stretches_of three in
-            let same : stretches_of mid ≡ stretches_of w = (λ i. stretches (sets i) (spans i)) in
-            let a = moved-as n n w keeps (omega arith) mid moved in
-            let noted : IsNoted news (suc n) (stretches_of w) new =
-            rw (same, at) at (g.spans n at a.0) in
-            let up : w.floor ≤ three.floor =
-            omega (
-              arith,
-              c.retire.ensures.rises,
-              ap (λ (x : Window). x.floor) added,
-              ap (λ (x : Window). x.floor) gone,
-            ) in
-            let k = (g.keeps n at a.0).0 in
-            let t = c.in_ok-trim.ensures.trims.spans after (suc n)
-            (tiles-noted before after n news (stretches_of w) new tiles kept is noted)
-            (begins-noted news (suc n) w.floor three.floor (stretches_of w) new begins up noted) k
-            in
-            (t.0, t.1, c.in_ok-trim.ensures.goes_on (suc n) k));
-        keeps = λ n at k.
-            (let a = moved-as n n w k (omega arith) mid moved in
-            let b = g.keeps n at a.0 in
-            let d = c.in_ok-trim.ensures.trims.keeps (suc n) b.0 in (
-              d.0,
-              rests-on n w three four (rests-on n w mid three a.1 b.1)
-                  (λ tested h le r. d.1 tested h (omega arith) r),
-            ));
-        starts = λ n at k.
-            (let a = moved-as n n w k (omega arith) mid moved in
-            let b = g.keeps n at a.0 in
-            let d = c.in_ok-trim.ensures.trims.starts (suc n) b.0 in
-            omega (arith, ap begin_of spans, g.starts, d));
-        origin = c.in_ok-trim.ensures.trims.origin ∙ g.origin
-            ∙ ap (λ (ss : List Span). came_after news c.args.at (came ss)) spans;
-      });
+          (news_of c.in_ok-is_other.is_other l)) (sym at-last) takes;
     }

@@ -11,8 +11,8 @@ returns-in_default-clause-ok c = rw c.in_default.is (record {
 })
 
 pub returns-clause-ok : goal.returns-clause-ok
-returns-clause-ok c = 
+returns-clause-ok c =
     rw c.in-Some.is (set-read c.args.numbers.now c.read.new.self c.read-2.new.self c.args.self.now
     (record { keys = c.read.new.known; signers = c.read-2.new.known }) c.args.keys c.args.signers
-    (map id_of c.of-lists.result.0.now) (map id_of c.of-lists.result.1.now) _ _ c.in_ok-has_others.ensures.ok
-    c.in_ok-is_signed_otherwise.ensures.ok _ c.of-lists.ensures)
+    (map id_of c.of-lists.result.0.now) (map id_of c.of-lists.result.1.now) _ _
+    c.in_ok-has_others.ensures.ok c.in_ok-is_signed_otherwise.ensures.ok _ c.of-lists.ensures)

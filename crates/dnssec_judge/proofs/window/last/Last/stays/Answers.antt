@@ -11,7 +11,8 @@ returns-in_default c is t = rw c.in_default.is (record {
 })
 
 pub returns-then-is_left : goal.returns-then-is_left
-returns-then-is_left c is t = 
+returns-then-is_left c is t =
     rw c.in-Some.is (set-read t t t c.args.self.now c.args.self.now c.args.keys c.args.signers
     (map id_of c.of-lists.result.0.now) (map id_of c.of-lists.result.1.now) false false
-    (c.is_left.ensures c.if-is_left.true t) (c.is_left-then-is_left.ensures is t) _ c.of-lists.ensures)
+    (c.is_left.ensures c.if-is_left.true t) (c.is_left-then-is_left.ensures is t) _
+    c.of-lists.ensures)
