@@ -168,6 +168,7 @@ impl Bits {
 
     /// Whether it is the same set. All sets are without words at the end that are 0, or two that
     /// are the same may be taken for two.
+    #[inline(always)]
     pub(crate) fn is(&self, other: &Bits) -> bool
         ensures { result ≡ true → words_of self.now ≡ words_of other.now }
     {

@@ -58,6 +58,7 @@ impl OpenSet {
     }
 
     /// Whether it has these keys, and these keys sign it.
+    #[inline(always)]
     pub(crate) fn is(&self, keys: &Bits, signers: &Bits) -> bool
         ensures { result ≡ true → set_of self.now ≡ (words_of keys.now, words_of signers.now) }
     {

@@ -84,6 +84,7 @@ impl Window {
 
     /// Whether the new sets of another window hold with each set of this one. That one is of the
     /// kind above, or else this one.
+    #[inline(always)]
     fn hold_with_new(&self, link: Link, is_above: bool, other: &Window, tested: usize) -> bool
         ensures { (n : ℕ) → result ≡ true → Keeps n self.now → Keeps n other.now →
             (h : OpenSet) → IsOpen other.now h → tested ≤ h.since →
