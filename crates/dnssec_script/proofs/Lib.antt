@@ -4,7 +4,8 @@
 -- |-------------------------|--------------------------------|-------------------|
 -- | `split_once`, `place_of` | `by_place`, `further`         | Cuts              |
 -- | `number`                | `too_great`                    | Digits            |
--- | `Fields::roll`          | `no_text`, `roll_read`         | Rolls, Ascii      |
+-- | `Fields::roll`          | `no_roll`, `roll_read`         | Rolls, Ascii      |
+-- | `word_named`            | `no_word`                      | Ascii             |
 -- | `ReferenceList::references`   | `each_reference`, `parts_of`   | Lists             |
 -- | `algorithm`             | `no_algorithm`                 | Ascii             |
 -- | `reference`             | `reference_utf8`               | Ascii             |

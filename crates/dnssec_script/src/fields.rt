@@ -1,6 +1,7 @@
 //! The fields of a line of a script, and what each says.
 ghost use Rattle.std.specs.Prelude.{◌≡◌, ◌≤◌, if◌then◌else◌, List, [], map, IfOk};
-ghost use Rattle.std.specs.Prelude.{Option, Some, None, is_some, IfSome};
+ghost use Rattle.std.specs.Prelude.{Option, Some, None, is_some, IfSome, IfNone};
+ghost use Rattle.std.specs.Str.{IsAscii};
 ghost use denote.Bor.{now};
 ghost use Rattle.std.specs.Option.{option_map};
 ghost use Rattle.dnssec_script.specs.Script.{Value, Reference, Private, References, Flag, Roll};
@@ -41,6 +42,18 @@ fn yes_no(text: &[u8]) -> Option<bool>
     } else {
         None
     }
+}
+
+/// The text, if it is ASCII.
+#[tactic(auto, using(crate::proofs::Ascii::steps))]
+pub(crate) fn ascii(text: &[u8]) -> Option<&str>
+    ensures same { IfSome result (λ ascii. ascii.now ≡ text.now) }
+    ensures none { IfNone result (¬ IsAscii text.now) }
+{
+    if !text.is_ascii() {
+        return None;
+    }
+    Some(unsafe { str::from_utf8_unchecked(text) })
 }
 
 /// A number up to `most`.
@@ -97,7 +110,7 @@ fn algorithm(text: &[u8]) -> Option<SecurityAlgorithm>
 {
     match number(255, text) {
         Some(number) => Some(SecurityAlgorithm::from_int(number as u8)),
-        None => SecurityAlgorithm::from_name(str::from_utf8(text).ok()?),
+        None => SecurityAlgorithm::from_name(ascii(text)?),
     }
 }
 
@@ -187,8 +200,7 @@ impl<'a> Fields<'a> {
         ensures { option_map (λ x. (Roll x.0, x.1)) result ≡ value_at as_roll self.entry }
     {
         let (text, fields) = self.next()?;
-        let name = str::from_utf8(text).ok()?;
-        Some((name.parse().ok()?, fields))
+        Some((ascii(text)?.parse().ok()?, fields))
     }
 
     /// The next field as an algorithm.

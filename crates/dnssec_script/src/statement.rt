@@ -2,11 +2,12 @@
 ghost use Rattle.std.specs.Prelude.{◌≡◌, if◌then◌else◌, IfOk, IfErr, IsSome, None, true};
 ghost use Rattle.std.specs.Option.{option_map};
 ghost use Rattle.dnssec_key.specs.Key.{is_available};
-ghost use Rattle.dnssec_script.specs.Script.{call_says, said_after_word, says};
+ghost use Rattle.dnssec_script.specs.Script.{call_says, said_after_word, says, word_at};
+ghost use Rattle.dnssec_script.specs.Script.{word_named};
 ghost use Rattle.dnssec_script.specs.Inner.Statement.{MakesEntry, start_says};
 ghost use Rattle.dnssec_script.specs.Inner.Statement.{adds, statement_says, takes_memory};
 
-use crate::fields::Fields;
+use crate::fields::{Fields, ascii};
 use crate::forms::{
     KeyTraits, flag, key, public_key, report, roll, signing_key, stamp, start, timed_flag, wait,
 };
@@ -38,30 +39,6 @@ pub(crate) enum Word {
     Done,
     Abort,
 }
-
-/// Each word with its name.
-const WORDS: [(&str, Word); 20] = [
-    ("add-ksk", Word::AddKsk),
-    ("add-zsk", Word::AddZsk),
-    ("add-csk", Word::AddCsk),
-    ("add-public", Word::AddPublic),
-    ("set-decoupled", Word::SetDecoupled),
-    ("set-present", Word::SetPresent),
-    ("set-signer", Word::SetSigner),
-    ("set-at-parent", Word::SetAtParent),
-    ("set-stale", Word::SetStale),
-    ("set-visible", Word::SetVisible),
-    ("set-ds-visible", Word::SetDsVisible),
-    ("set-rrsig-visible", Word::SetRrsigVisible),
-    ("delete", Word::Delete),
-    ("start", Word::Start),
-    ("report1", Word::Report1),
-    ("wait1", Word::Wait1),
-    ("report2", Word::Report2),
-    ("wait2", Word::Wait2),
-    ("done", Word::Done),
-    ("abort", Word::Abort),
-];
 
 /// What a line says: its call. Only the call of a start is made later, since it borrows its lists.
 #[derive(Drop)]
@@ -116,12 +93,47 @@ pub fn read_line<'a>(alloc: Global, line: &'a [u8]) -> Result<Option<Statement<'
     ensures read { IfOk result (λ found. option_map statement_says found ≡ says line.now) }
     ensures memory { IfErr result (λ _. IsSome (says line.now)) }
 {
-    let Some((name, fields)) = Fields::of(line).next() else {
-        return Ok(None);
-    };
-    match WORDS.iter().find(|row| row.0.as_bytes() == name) {
-        Some(row) => call_of_word(alloc, row.1, fields),
+    match first_word(Fields::of(line)) {
+        Some((word, fields)) => call_of_word(alloc, word, fields),
         None => Ok(None),
+    }
+}
+
+/// The first field as a word.
+fn first_word<'a>(fields: Fields<'a>) -> Option<(Word, Fields<'a>)>
+    ensures { option_map (λ x. (x.0, x.1)) result ≡ word_at fields.entry }
+{
+    let (name, fields) = fields.next()?;
+    Some((word_named(name)?, fields))
+}
+
+/// The word with this name.
+#[tactic(auto, using(crate::proofs::Ascii::steps), unfolding(crate::specs::Script::word_named))]
+fn word_named(name: &[u8]) -> Option<Word>
+    ensures { result ≡ word_named name.now }
+{
+    match ascii(name)? {
+        "add-ksk" => Some(Word::AddKsk),
+        "add-zsk" => Some(Word::AddZsk),
+        "add-csk" => Some(Word::AddCsk),
+        "add-public" => Some(Word::AddPublic),
+        "set-decoupled" => Some(Word::SetDecoupled),
+        "set-present" => Some(Word::SetPresent),
+        "set-signer" => Some(Word::SetSigner),
+        "set-at-parent" => Some(Word::SetAtParent),
+        "set-stale" => Some(Word::SetStale),
+        "set-visible" => Some(Word::SetVisible),
+        "set-ds-visible" => Some(Word::SetDsVisible),
+        "set-rrsig-visible" => Some(Word::SetRrsigVisible),
+        "delete" => Some(Word::Delete),
+        "start" => Some(Word::Start),
+        "report1" => Some(Word::Report1),
+        "wait1" => Some(Word::Wait1),
+        "report2" => Some(Word::Report2),
+        "wait2" => Some(Word::Wait2),
+        "done" => Some(Word::Done),
+        "abort" => Some(Word::Abort),
+        _ => None,
     }
 }
 
