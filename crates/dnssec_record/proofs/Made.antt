@@ -1,8 +1,8 @@
 -- A loop that reads the lines of a script one by one, and makes their calls.
 use Rattle.std.proofs.Common.{◌≡◌, ℕ, List, [], ◌∷◌, ◌++◌, Option, Some, None, subst}
-use Rattle.std.proofs.Common.{Result, IfErr}
+use Rattle.std.proofs.Common.{Result, IfErr, IfOk}
 use Rattle.std.specs.Prelude.{IsErrAnd}
-use Rattle.std.proofs.lemmas.Result.{err_from_is_err_and}
+use Rattle.std.proofs.lemmas.Result.{IfOk-weaker, err_from_is_err_and}
 use Rattle.dnssec_run.specs.declared.{call.Call.Call, record.Entry.Entry}
 use Rattle.dnssec_script.specs.Inner.{Reading.HasRead, Reading.IsReadFault, Reading.ReadsOn}
 use Rattle.dnssec_script.specs.Inner.Statement.{statement_says}
@@ -12,6 +12,8 @@ use Rattle.dnssec_script.specs.declared.{lines.Lines.Lines, lines.ReadFault.Read
 use Rattle.dnssec_script.specs.declared.statement.Statement.{Statement}
 use Rattle.dnssec_record.specs.{Answer.AnswerFault, Fault.fault_of_reading}
 use Rattle.dnssec_record.specs.declared.fault.ScriptFault.{ScriptFault, TheVariants.OutOfMemory}
+use Rattle.dnssec_record.specs.Inner.Zone.{Comes, Known, TakesOn}
+use Rattle.dnssec_record.specs.declared.{zone.Made.Made, zone.ZoneState.ZoneState}
 use Rattle.dnssec_record.proofs.Answering.{answer_fault}
 
 -- these are left of the lines of a script, and this holds of the calls of the others and of their
@@ -100,3 +102,14 @@ pub memory_made_on : {lines left : Lines} {On : List ℕ → Type 0}
 memory_made_on r gives made =
     let p = err_from_is_err_and r gives in
     rw (p.1, p.2) (λ script name read so. begins (made script name read so).read)
+
+-- ---- the call of a statement
+
+-- if this is the statement's call, what came of it came of the statement
+pub takes_on : {E : Type 0} (After : Known) (old next : ZoneState) (statement : Statement)
+    (call : Call) → call_says call ≡ statement_says statement → (r : Result Made E)
+    → IfOk r (λ made. (name : List ℕ) (calls : List Call) (entries : List Entry)
+    → After name calls entries old → Comes After name calls entries call next made)
+    → IfOk r (TakesOn After statement old next)
+takes_on After old next statement call is r comes = IfOk-weaker r _ _
+    (λ made so. record { call = call; is_call = is; comes = so }) comes

@@ -1,11 +1,12 @@
 //! The answers to a script, as text.
 ghost use Rattle.std.specs.Prelude.{◌≡◌, ◌++◌, IfOk, OnOk, codes, decimal, string_bytes};
+ghost use Rattle.dnssec_base.specs.ErrorTexts.{error_text};
 ghost use Rattle.dnssec_run.specs.Record.{is_accepted};
 ghost use Rattle.dnssec_record.specs.Output.{action_name, broken_text, chain_line};
 ghost use Rattle.dnssec_record.specs.Output.{published_text, reply_text, set_text};
 
 use dnssec_judge::Broken;
-use dnssec_keyset::Action;
+use dnssec_keyset::{Action, Error};
 use dnssec_run::{Published, PublishedKey, Reply};
 use std::alloc::{AllocError, Global};
 
@@ -24,8 +25,17 @@ pub(crate) fn push_answer(text: &mut String, reply: &Reply) -> Result<(), AllocE
             }
             text.push_str("\n")
         }
-        Reply::Refused(error) => write!(text, "refused: {error}\n"),
+        Reply::Refused(error) => push_refusal(text, error),
     }
+}
+
+/// Writes the line of a refusal. It isn't inlined, so that an accepted call needs no room for it.
+#[inline(never)]
+fn push_refusal(text: &mut String, error: &Error) -> Result<(), AllocError>
+    ensures { OnOk result (string_bytes text.new
+        ≡ string_bytes text.old ++ codes "refused: " ++ error_text error.now ++ codes "\n") }
+{
+    write!(text, "refused: {error}\n")
 }
 
 /// The line of the answer to a call with this reply.

@@ -6,6 +6,7 @@ ghost use Rattle.dnssec_record.specs.Output.{reply_text};
 ghost use Rattle.dnssec_record.specs.Session.{Closes, Follows};
 ghost use Rattle.dnssec_run.specs.declared.call.Call.{Call};
 ghost use Rattle.dnssec_run.specs.declared.record.Entry.{Entry};
+ghost use Rattle.dnssec_script.specs.declared.statement.Statement.TheVariants as statement;
 
 use crate::answers::{answer_line, push_chain_line, push_published};
 use crate::courses::{Courses, Turn};
@@ -13,7 +14,7 @@ use dnssec_base::Name;
 use dnssec_judge::Judge;
 use dnssec_keyset::{Error, KeySet, UnixTime};
 use dnssec_run::{Call, Recorder, Reply};
-use dnssec_script::Statement;
+use dnssec_script::{Start, Statement};
 use std::alloc::{AllocError, Global};
 
 /// A zone of at most this many keys is fitted to them. So no call costs more for that than another.
@@ -98,8 +99,16 @@ impl ZoneState {
     {
         match statement {
             Statement::Call(call) => self.advance(alloc, call),
-            Statement::Start(start) => self.advance(alloc, start.call()),
+            Statement::Start(start) => self.start(alloc, &start),
         }
+    }
+
+    /// Makes the call of a start. It isn't inlined, so that other lines need no room for its call.
+    #[inline(never)]
+    fn start(&mut self, alloc: Global, start: &Start<'_>) -> Result<Made, AllocError>
+        ensures { IfOk result (TakesOn Follows (statement.Start start.now) self.old self.new) }
+    {
+        self.advance(alloc, start.call())
     }
 
     /// Makes the call, and keeps what the rolls listed. A refused call counts in the record too,
