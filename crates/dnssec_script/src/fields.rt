@@ -187,6 +187,7 @@ impl<'a> Fields<'a> {
     }
 
     /// The next field as yes or no.
+    #[inline(always)]
     pub(crate) fn yes_no(self) -> Option<(bool, Fields<'a>)>
         ensures { option_map (λ x. (Flag x.0, x.1)) result ≡ value_at as_yes_no self.entry }
     {
@@ -228,6 +229,7 @@ impl<'a> Fields<'a> {
     }
 
     /// The next field as a number up to `most`.
+    #[inline(always)]
     #[tactic(auto, unfolding(crate::specs::Script::as_number))]
     pub fn number(self, most: u64) -> Option<(u64, Fields<'a>)>
         ensures read { option_map (λ x. (Number x.0, x.1)) result
@@ -239,6 +241,7 @@ impl<'a> Fields<'a> {
     }
 
     /// The next field as a moment.
+    #[inline(always)]
     #[tactic(auto, unfolding(crate::specs::Script::as_time))]
     pub fn time(self) -> Option<(UnixTime, Fields<'a>)>
         ensures { option_map (λ x. (Moment x.0, x.1)) result ≡ value_at as_time self.entry }
