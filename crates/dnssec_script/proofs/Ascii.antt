@@ -76,23 +76,38 @@ differs : {A : Type 0} (name : A → List ℕ) (text : List ℕ) → ¬ IsAscii 
     → list_all (λ r. list_all is_below (name r)) rows ≡ true → Differs name text rows
 differs name text other [] below = tt
 differs name text other (r ∷ rs) below =
-    let b = and_both (list_all is_below (name r)) _ below in
-    (λ same. other (subst IsAscii (sym same) (below_ascii (name r) b.0)),
-      differs name text other rs b.1)
+    let b = and_both (list_all is_below (name r)) _ below in (
+      λ same. other (subst IsAscii (sym same) (below_ascii (name r) b.0)),
+      differs name text other rs b.1,
+    )
   where
     and_both : (x y : Bool) → (x && y) ≡ true → (x ≡ true) × (y ≡ true)
     and_both true y e = (refl, e)
     and_both false y e = cc
 
-pub no_such_word : (text : List ℕ) → Differs (λ (row : List ℕ × Word). row.0) text words
-    → None ≡ word_named text
+-- the same, each difference on its own
+abbrev pub Unless : {A : Type 0} → (A → List ℕ) → List ℕ → Type 0 → List A → Type 0
+Unless name text P [] = P
+Unless name text P (r ∷ rs) = text ≢ name r → Unless name text P rs
+
+unless : {A : Type 0} (name : A → List ℕ) (text : List ℕ) (P : Type 0) (rows : List A)
+    → (Differs name text rows → P) → Unless name text P rows
+unless name text P [] holds = holds tt
+unless name text P (r ∷ rs) holds = λ other. unless name text P rs (λ others. holds (other, others))
+
+abbrev pub name_of : List ℕ × Word → List ℕ
+name_of row = row.0
+
+no_such_word : (text : List ℕ) → Differs name_of text words → None ≡ word_named text
 unfolding word_named
 no_such_word text other = ap (option_map (λ (row : List ℕ × Word). row.1))
-    (sym (unnamed (λ (row : List ℕ × Word). row.0) text words other))
+    (sym (unnamed name_of text words other))
+
+pub unless_word : (text : List ℕ) → Unless name_of text (None ≡ word_named text) words
+unless_word text = unless name_of text _ words (no_such_word text)
 
 pub no_word : (text : List ℕ) → ¬ IsAscii text → None ≡ word_named text
-no_word text other = no_such_word text
-    (differs (λ (row : List ℕ × Word). row.0) text other words refl)
+no_word text other = no_such_word text (differs name_of text other words refl)
 
 pub no_roll : (text : List ℕ) → ¬ IsAscii text → None ≡ roll_named text
 unfolding roll_named
@@ -109,5 +124,11 @@ no_algorithm text other =
     apart name below same = other (subst IsAscii (sym same) (below_ascii name below))
 
 pub ruleset steps = (
-  common_steps, reference_utf8, IsUtf8-from_ascii, not_ascii, no_word, no_roll, no_algorithm,
+  common_steps,
+  reference_utf8,
+  IsUtf8-from_ascii,
+  not_ascii,
+  no_word,
+  no_roll,
+  no_algorithm,
 )

@@ -88,8 +88,8 @@ fn public_key_texts<'a>(fields: Fields<'a>) -> Option<(&'a str, KeyTraits)>
     Some((pubref, traits(fields)?))
 }
 
-/// The last fields of an add. They are inlined, since a moment that comes from a call is copied with
-/// each statement, also if that has none.
+/// The last fields of an add. They are inlined, since a moment that comes from a call is copied
+/// with each statement, also if that has none.
 #[inline(always)]
 fn traits(fields: Fields<'_>) -> Option<KeyTraits>
     ensures { option_map traits_say result ≡ values_of trait_forms fields.entry }
