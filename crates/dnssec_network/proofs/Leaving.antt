@@ -1,13 +1,13 @@
 -- One of two signers leaves: until it is over both keep the rules for two, and then caches have
 -- nothing of it.
-use Rattle.std.proofs.Common.{arith, inl, inr, map, sym, ℕ, ◌+◌, ◌*◌, ◌<◌, ◌≡◌, ◌≤◌}
+use Rattle.std.proofs.Common.{List, arith, inl, inr, map, sym, ℕ, ◌+◌, ◌*◌, ◌<◌, ◌≡◌, ◌≤◌}
 use Rattle.std.proofs.lemmas.Bool.{cases_lt}
 use Rattle.dnssec_run.proofs.Chain.Side.{or_map}
 use Rattle.dnssec_run.specs.Safe.{Dnskey, Ds, SetKind, ZoneSigners}
-use Rattle.dnssec_network.proofs.Either.{alone-chain, alone-each, both-chain, both-each, own-chain}
-use Rattle.dnssec_network.proofs.{Either.own-each, Guide.dnskey_of, Guide.signers_of, Guide.zone_of}
+use Rattle.dnssec_network.proofs.Either.{OfOne, WhileBoth, alone-chain, alone-each, both-chain}
+use Rattle.dnssec_network.proofs.Either.{both-each, only-one, own-chain, own-each}
 use Rattle.dnssec_network.proofs.Pairs.{keeps, signers_can_be_met}
-use Rattle.dnssec_network.specs.Either.{One, Other, Which, signer_of}
+use Rattle.dnssec_network.specs.Either.{OfEither, One, Other, Which, signer_of}
 use Rattle.dnssec_network.specs.Guide.{ds_of_both}
 use Rattle.dnssec_network.specs.Leaving.{Leave, LeavesInOrder, LeavingCanBeMet, LeavingKeepsChain}
 use Rattle.dnssec_network.specs.Leaving.{LeavingKeepsEachChain, MayBeAsked, MayBeHeldOf}
@@ -62,68 +62,48 @@ module _ (stays leaves : Signer) (leave : Leave) (time : ℕ)
 
 -- ---- at each time
 
-pub leaving_keeps_chain : LeavingKeepsChain
-leaving_keeps_chain stays leaves leave time rules order keeper signer p q z in_ds keys zone =
+-- both, or the one that stays: with the DS set of both, or its own
+leaving : (stays leaves : Signer) (leave : Leave) (time : ℕ)
+    (P : List ℕ → List ℕ → List ℕ → List ℕ → Type 0) → LeavesInOrder stays leaves leave time
+    → (time < leave.over → WhileBoth stays leaves time P)
+    → (leave.over ≤ time → (p : ℕ) → p < leave.alone → MayBeHeld stays.network Ds p time
+    → OfOne stays time (ds_of_both stays leaves p) P)
+    → ((p : ℕ) → MayBeHeld stays.network Ds p time
+    → OfOne stays time (map stays.public (shown stays Ds p).ds) P)
+    → OfEither stays leaves time (ds_while_leaving stays leaves leave)
+    (MayBeHeldOf stays leaves leave time) P
+leaving stays leaves leave time P order both alone own keeper signer p q z in_ds keys zone =
     elim (cases_lt time leave.over) [
       | inl lt ↦
           rw (of-both stays leaves leave time order lt p in_ds)
-          (both-chain stays leaves time rules (order.both lt) keeper signer p q z in_ds
+          (both lt keeper signer p q z in_ds
           (held-of stays leaves leave time order keeper Dnskey q keys)
           (held-of stays leaves leave time order signer ZoneSigners z zone))
-      | inr over ↦ after over keeper signer keys zone
+      | inr over ↦
+          only-one stays leaves time (ds_while_leaving stays leaves leave p)
+          (MayBeHeldOf stays leaves leave time) P (λ kind v held. held)
+          (λ v. (nothing_is_left stays leaves leave v time order over).0)
+          (λ v. (nothing_is_left stays leaves leave v time order over).1)
+          (elim (cases_lt p leave.alone) [
+            | inl lt ↦ rw (ds-of-both stays leaves leave p lt) (alone over p lt in_ds)
+            | inr ge ↦ rw (ds-alone stays leaves leave p ge) (own p in_ds)
+          ]) keeper signer q z keys zone
     ]
-  where
-    after : leave.over ≤ time → (keeper signer : Which)
-        → MayBeHeldOf stays leaves leave time keeper Dnskey q
-        → MayBeHeldOf stays leaves leave time signer ZoneSigners z
-        → PublicChain (ds_while_leaving stays leaves leave p)
-        (dnskey_of (signer_of stays leaves keeper) q) (signers_of (signer_of stays leaves keeper) q)
-        (zone_of (signer_of stays leaves signer) z)
-    after over One One keys zone = elim (cases_lt p leave.alone) [
-      | inl lt ↦
-          rw (ds-of-both stays leaves leave p lt)
-          (alone-chain stays leaves time rules p in_ds q z keys zone (order.other over p lt in_ds))
-      | inr ge ↦
-          rw (ds-alone stays leaves leave p ge)
-          (own-chain stays leaves time rules p in_ds q z keys zone)
-    ]
-    after over One Other keys zone =
-        absurd ((nothing_is_left stays leaves leave z time order over).1 zone)
-    after over Other signer keys zone =
-        absurd ((nothing_is_left stays leaves leave q time order over).0 keys)
+
+pub leaving_keeps_chain : LeavingKeepsChain
+leaving_keeps_chain stays leaves leave time rules order =
+    leaving stays leaves leave time PublicChain order
+    (λ lt. both-chain stays leaves time rules (order.both lt))
+    (λ over p lt in_ds. alone-chain stays leaves time rules p in_ds (order.other over p lt in_ds))
+    (λ p in_ds. own-chain stays leaves time rules p in_ds)
 
 pub leaving_keeps_each_chain : LeavingKeepsEachChain
-leaving_keeps_each_chain stays leaves leave algorithm time rules order same keeper signer p q z
-    in_ds keys zone =
-    elim (cases_lt time leave.over) [
-      | inl lt ↦
-          rw (of-both stays leaves leave time order lt p in_ds)
-          (both-each stays leaves time rules (order.both lt) keeper signer p q z in_ds
-          (held-of stays leaves leave time order keeper Dnskey q keys)
-          (held-of stays leaves leave time order signer ZoneSigners z zone) algorithm same.mine
-          (same.both lt))
-      | inr over ↦ after over keeper signer keys zone
-    ]
-  where
-    after : leave.over ≤ time → (keeper signer : Which)
-        → MayBeHeldOf stays leaves leave time keeper Dnskey q
-        → MayBeHeldOf stays leaves leave time signer ZoneSigners z
-        → PublicChainByEach algorithm (ds_while_leaving stays leaves leave p)
-        (dnskey_of (signer_of stays leaves keeper) q) (signers_of (signer_of stays leaves keeper) q)
-        (zone_of (signer_of stays leaves signer) z)
-    after over One One keys zone = elim (cases_lt p leave.alone) [
-      | inl lt ↦
-          rw (ds-of-both stays leaves leave p lt)
-          (alone-each stays leaves time rules p in_ds q z keys zone algorithm same.mine
-          (order.other over p lt in_ds) (same.other over p lt in_ds))
-      | inr ge ↦
-          rw (ds-alone stays leaves leave p ge)
-          (own-each stays leaves time rules p in_ds q z keys zone algorithm same.mine)
-    ]
-    after over One Other keys zone =
-        absurd ((nothing_is_left stays leaves leave z time order over).1 zone)
-    after over Other signer keys zone =
-        absurd ((nothing_is_left stays leaves leave q time order over).0 keys)
+leaving_keeps_each_chain stays leaves leave algorithm time rules order same =
+    leaving stays leaves leave time (PublicChainByEach algorithm) order
+    (λ lt. both-each stays leaves time rules (order.both lt) algorithm same.mine (same.both lt))
+    (λ over p lt in_ds. alone-each stays leaves time rules p in_ds algorithm same.mine
+    (order.other over p lt in_ds) (same.other over p lt in_ds))
+    (λ p in_ds. own-each stays leaves time rules p in_ds algorithm same.mine)
 
 -- ---- two in step
 

@@ -9,7 +9,7 @@ use Rattle.dnssec_run.specs.Safe.{Dnskey, Ds, SetKind, ZoneSigners, kind_of, ret
 use Rattle.dnssec_run.specs.declared.record.Entry.{Entry}
 use Rattle.dnssec_run.specs.declared.caches.SetKind.{SetKind as Kind}
 use Rattle.dnssec_run.specs.declared.caches.SetKind.TheVariants as code
-use Rattle.dnssec_network.proofs.{Held.report-within, Noted.notes_make_reports_true}
+use Rattle.dnssec_network.proofs.{Held.report-within, Noted.noted_reports}
 use Rattle.dnssec_network.specs.Facts.{Before, AreTrueFrom, news_of, ttl_before}
 use Rattle.dnssec_network.specs.Models.{IsByTheClock, NoTtlBelow, PremisesCanBeMet, made_since}
 use Rattle.dnssec_network.specs.{Models.prompt, Reports.due_or, Reports.higher}
@@ -238,9 +238,7 @@ module _ (first start ttl time : ℕ) (entries : List Entry) (within : first ≤
       }
 
   reports : ReportsAreTrue entries net time
-  reports r kind speaks over v held =
-      (notes_make_reports_true entries net time back notes r kind speaks).expired v time over
-      (omega arith) held
+  reports = noted_reports entries net time back notes
 
 pub premises_can_be_met : PremisesCanBeMet
 premises_can_be_met first start ttl time entries within late fits clock low = record {

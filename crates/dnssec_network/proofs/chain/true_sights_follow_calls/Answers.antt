@@ -1,21 +1,11 @@
 -- What a server gives at the moment of a true sight was published by then, and so was the call.
-use Rattle.std.proofs.Common.{List, [], arith, refl, subst, suc, ℕ, ◌++◌, ◌<◌, ◌∷◌, ◌≡◌, ◌≤◌}
+use Rattle.std.proofs.Common.{List, arith, refl, subst, suc, ℕ, ◌<◌, ◌∷◌, ◌≡◌, ◌≤◌}
 use Rattle.dnssec_run.specs.{Safe.SetKind, Safe.time_at, declared.record.Entry.Entry}
-use Rattle.dnssec_network.{proofs.Held.time_before, specs.Facts.AreTrueFrom}
+use Rattle.dnssec_network.proofs.{Held.time_before, Noted.true-parts}
+use Rattle.dnssec_network.specs.Facts.{AreTrueFrom}
 use Rattle.dnssec_network.specs.Network.{IsNetworkOf, Network, NeverGoesBack, NoneLiesAhead}
-use Rattle.dnssec_network.specs.declared.fact.News.{News}
 use Rattle.dnssec_network.specs.declared.fact.News.TheVariants.{Everywhere, Published}
 use Rattle.dnssec_network.proofs.chain.true_sights_follow_calls.Goals as goal
-
--- what is true of all news is true of the later ones
-true-later : (network : Network) (kind : SetKind) (time n : ℕ) (earlier later : List News)
-    → AreTrueFrom network kind time n (earlier ++ later)
-    → (m : ℕ) × AreTrueFrom network kind time m later
-true-later network kind time n [] later are = (n, are)
-true-later network kind time n (Published position ttl moment ∷ earlier) later are =
-    true-later network kind time (suc n) earlier later are.3
-true-later network kind time n (Everywhere moment ∷ earlier) later are =
-    true-later network kind time n earlier later are.1
 
 follows : (entries : List Entry) (network : Network) (kind : SetKind) (n position seen : ℕ)
     → network.position kind n ≡ position
@@ -38,7 +28,7 @@ follows entries network kind n position seen at gives is ahead back serves =
 pub returns : goal.returns
 returns c entries before facts kind earlier later position ttl moment seen network news are is ahead
     back serves =
-    let from = true-later network kind seen 0 earlier
+    let from = (true-parts network kind seen 0 earlier
     (Published position ttl moment ∷ Everywhere seen ∷ later)
-    (subst (λ news. AreTrueFrom network kind seen 0 news) news (are kind).1) in
+    (subst (λ news. AreTrueFrom network kind seen 0 news) news (are kind).1)).1 in
     follows entries network kind (suc from.0) position seen from.1.0 from.1.3.0 is ahead back serves
