@@ -31,10 +31,6 @@ use Rattle.dnssec_policy.proofs.May.{IsChange, IsRenewal, IsStart, is_renewal}
 abbrev Entry : Type 0
 Entry = List ℕ × KeyParts
 
--- the references of entries that pass
-abbrev pub picks : (KeyParts → Bool) → List Entry → List (List ℕ)
-picks p es = map (λ (e : Entry). e.0) (filter (λ (e : Entry). p e.1) es)
-
 module _ (at : List ℕ → Option KeyParts) where
   -- a look-up finds these entries
   abbrev pub AllAt : List Entry → Type 0
@@ -45,14 +41,14 @@ module _ (at : List ℕ → Option KeyParts) where
 
   old-free : (roll : RollType) (p : KeyParts → Bool)
       → ((k : KeyParts) → p k ≡ true → lists_kind (side_of roll) k.keytype ≡ true)
-      → (es : List Entry) → AllAt es → old_fault roll at (picks p es) ≡ None
+      → (es : List Entry) → AllAt es → old_fault roll at (references_where p es) ≡ None
   old-free roll p kind [] there = refl
   old-free roll p kind (e ∷ es) there =
       grind (arith, old-free roll p kind es there.1, there.0, kind e.1)
 
   -- an entry that is listed passes
   picked-passes : (p : KeyParts → Bool) (es : List Entry) → AllAt es → (q : List ℕ)
-      → is_listed (picks p es) q ≡ true → (k : KeyParts) × (at q ≡ Some k) × (p k ≡ true)
+      → is_listed (references_where p es) q ≡ true → (k : KeyParts) × (at q ≡ Some k) × (p k ≡ true)
   picked-passes p [] there q l = absurd (true≢false (sym l))
   picked-passes p (e ∷ es) there q l =
       grind (arith, or_parts, picked-passes p es there.1 q, there.0, (bytes_decides q e.0).0)
@@ -67,13 +63,14 @@ module _ (at : List ℕ → Option KeyParts) where
     AllOf (e ∷ es) = (p e.1 ≡ true → e.1.algorithm ≡ a) × AllOf es
 
     olds-within : (es : List Entry) → AllAt es → AllOf es
-        → algorithms_within at (picks p es) (q ∷ []) ≡ true
+        → algorithms_within at (references_where p es) (q ∷ []) ≡ true
     olds-within [] there is = refl
     olds-within (e ∷ es) there is = grind (arith, olds-within es there.1 is.1, there.0, is.0)
 
 -- an entry that passes is listed
 pub listed-in : (p : KeyParts → Bool) (es : List Entry) (q : List ℕ) (k : KeyParts)
-    → find (slice_cmp nat_cmp) q es ≡ Some k → p k ≡ true → is_listed (picks p es) q ≡ true
+    → find (slice_cmp nat_cmp) q es ≡ Some k → p k ≡ true
+    → is_listed (references_where p es) q ≡ true
 listed-in p [] q k f e = absurd (cc)
 listed-in p (x ∷ xs) q k f e =
     grind (arith, same_key, or_parts, listed-in p xs q k, (bytes_decides q x.0).1)
@@ -167,10 +164,11 @@ module _ (policy : Policy) (set : KeySetParts) where
       (all-at (entries set.keys) (entries_sorted set.keys))
 
   new-key : (role : KeyRole) (q : List ℕ)
-      → first_of role (references_where (is_new policy role) set.keys) ≡ Ok q → IsNewKey role q
+      → first_of role (references_where (is_new policy role) (entries set.keys)) ≡ Ok q
+      → IsNewKey role q
   new-key role q found =
       let w = picked-passes (get set.keys) (is_new policy role) (entries set.keys) there q
-      (first-listed role (references_where (is_new policy role) set.keys) q found) in
+      (first-listed role (references_where (is_new policy role) (entries set.keys)) q found) in
       let k = w.0 in
       let x = and_parts (has_role role k.keytype && all_states is_fresh k.keytype)
       (nat_eq k.algorithm policy.algorithm) w.2 in
@@ -187,8 +185,8 @@ module _ (policy : Policy) (set : KeySetParts) where
       → new_keys policy set.keys (role ∷ []) ≡ Ok news
       → (q : List ℕ) × (q ∷ [] ≡ news) × IsNewKey role q
   one-new role news e =
-      let x = with-parts (first_of role (references_where (is_new policy role) set.keys)) (Ok [])
-      news e in
+      let x = with-parts
+      (first_of role (references_where (is_new policy role) (entries set.keys))) (Ok []) news e in
       let one = ap (λ (qs : List (List ℕ)). x.0 ∷ qs) (sym (none-left x.1 x.3)) ∙ x.4 in
       (x.0, one, new-key role x.0 x.2)
 
@@ -196,7 +194,7 @@ module _ (policy : Policy) (set : KeySetParts) where
       → new_keys policy set.keys (a ∷ b ∷ []) ≡ Ok news
       → (q r : List ℕ) × (q ∷ r ∷ [] ≡ news) × IsNewKey a q × IsNewKey b r
   two-new a b news e =
-      let x = with-parts (first_of a (references_where (is_new policy a) set.keys))
+      let x = with-parts (first_of a (references_where (is_new policy a) (entries set.keys)))
       (new_keys policy set.keys (b ∷ [])) news e in
       let y = one-new b x.1 x.3 in
       (x.0, y.0, ap (λ (qs : List (List ℕ)). x.0 ∷ qs) y.1 ∙ x.4, new-key a x.0 x.2, y.2)
@@ -205,7 +203,7 @@ module _ (policy : Policy) (set : KeySetParts) where
 
   module _ (roll : RollType) where
     abbrev pub olds : List (List ℕ)
-    olds = references_where (goes roll) set.keys
+    olds = references_where (goes roll) (entries set.keys)
 
     olds-free : old_fault roll (get set.keys) olds ≡ None
     olds-free = old-free (get set.keys) roll (goes roll)
@@ -335,20 +333,19 @@ free policy v roll old news s = subst (λ old. keyset.start_refusal roll v.set o
     begins = no-cause (conflict roll v.set.rolls) s.begins
 
     changed : IsChange policy v roll news → keyset.start_refusal roll v.set
-        (references_where (goes roll) v.set.keys) news ≡ None
+        (references_where (goes roll) (entries v.set.keys)) news ≡ None
     changed c = subst (λ roll. keyset.start_refusal roll v.set
-        (references_where (goes roll) v.set.keys) news ≡ None) (sym c.roll_is)
+        (references_where (goes roll) (entries v.set.keys)) news ≡ None) (sym c.roll_is)
         (by-scheme policy v.set policy.scheme news
         (subst (λ roll. conflict roll v.set.rolls ≡ None) c.roll_is begins) c.news_are)
 
     renewed : IsRenewal policy v roll news → keyset.start_refusal roll v.set
-        (references_where (goes roll) v.set.keys) news ≡ None
+        (references_where (goes roll) (entries v.set.keys)) news ≡ None
     renewed r =
         let n = one-new policy v.set (role_of roll) news r.news_are in
         let g = works-goes roll r.key r.renews r.works in
-        subst (λ news. keyset.start_refusal roll v.set (references_where (goes roll) v.set.keys)
-        news
-        ≡ None) n.1
+        subst (λ news. keyset.start_refusal roll v.set
+        (references_where (goes roll) (entries v.set.keys)) news ≡ None) n.1
         (one-free policy v.set roll begins (role_of roll) n.0 n.2 (role-kind roll n.2.key n.2.has)
         (role-serves roll n.2.key n.2.has)
         (renewal-algorithms policy v.set r.wanted roll n.0 n.2 r.old r.key r.there g))

@@ -28,15 +28,7 @@ IsOf c = (is_add c ≡ true) ⊎ ((policy : Policy) × (v : View) × May policy 
 untouched-by : (set : KeySetParts) (c : Call) → IsOf c → is_by_hand set c ≡ false
 untouched-by set (call.AbortRoll roll) (inl h) = absurd (true≢false (sym h))
 untouched-by set (call.AbortRoll roll) (inr m) = absurd m.2
-untouched-by set (call.SetPresent a b c) x = ap not (only (is_others set) (call.SetPresent a b c) x)
-untouched-by set (call.SetSigner a b) x = ap not (only (is_others set) (call.SetSigner a b) x)
-untouched-by set (call.SetAtParent a b) x = ap not (only (is_others set) (call.SetAtParent a b) x)
-untouched-by set (call.SetStale a) x = ap not (only (is_others set) (call.SetStale a) x)
-untouched-by set (call.SetVisible a b) x = ap not (only (is_others set) (call.SetVisible a b) x)
-untouched-by set (call.SetDsVisible a b) x = ap not (only (is_others set) (call.SetDsVisible a b) x)
-untouched-by set (call.SetRrsigVisible a b) x =
-    ap not (only (is_others set) (call.SetRrsigVisible a b) x)
-untouched-by set _ x = refl
+untouched-by set c x = ap not (only (is_others set) c x)
 
 none-at : (set : KeySetParts) (c : Option Call) (e : Option Entry) (at : ℕ)
     → ((d : Call) → c ≡ Some d → IsOf d) → by_hand_at set c e at ≡ None

@@ -11,12 +11,12 @@ use Rattle.dnssec_keyset.specs.Step as keyset
 use Rattle.dnssec_keyset.specs.WaitEnd.{EndsAt, TellsEnd}
 use Rattle.dnssec_keyset.specs.declared.wait.WaitEnd.TheVariants.{At}
 use Rattle.dnssec_run.specs.WholeRolls.{propagation}
-use Rattle.dnssec_policy.specs.{declared.policy.Policy.Policy, View.View}
-use Rattle.dnssec_policy.proofs.{May.May, Accepted.free}
+use Rattle.dnssec_policy.specs.{declared.policy.Policy.Policy, Laws.NextIsAccepted, View.View}
+use Rattle.dnssec_policy.proofs.{May.May, Accepted.free, Said.may}
 
 -- the half in which a roll waits, and for how long
-half-is : (o : Option RollState) (half other : Half) (ttl t : ℕ) → o ≡ Some (cache_expire half ttl)
-    → ttl_in other o ≡ Some t → (other ≡ half) × (t ≡ ttl)
+pub half-is : (o : Option RollState) (half other : Half) (ttl t : ℕ)
+    → o ≡ Some (cache_expire half ttl) → ttl_in other o ≡ Some t → (other ≡ half) × (t ≡ ttl)
 half-is o First First ttl t is e = (refl, grind (arith, is, e))
 half-is o Second Second ttl t is e = (refl, grind (arith, is, e))
 half-is o First Second ttl t is e = absurd (grind (arith, is, e))
@@ -44,7 +44,7 @@ module _ (policy : Policy) (v : View)
           (sym oh)
           ∙ ap (λ o. wait_in_phase roll other o v.now v.set.keys) ttl-is ∙ clear
 
-  pub clear : (c : keyset.Call) → May policy v c → keyset.clearance v.set c ≡ Clear
+  clear : (c : keyset.Call) → May policy v c → keyset.clearance v.set c ≡ Clear
   clear (keyset.AddKey reference key) m = absurd m
   clear (keyset.Set reference setting) m = absurd m
   clear (keyset.DeleteKey q) m =
@@ -58,3 +58,6 @@ module _ (policy : Policy) (v : View)
       ∙ over roll half m.1 m.3 m.2 m.4 m.5
   clear (keyset.RollDone roll) m = ap (λ o. barred_by (end_refusal o)) m.0
   clear (keyset.AbortRoll roll) m = absurd m
+
+pub accepted : NextIsAccepted
+accepted policy v call tells said = clear policy v tells call (may policy v call said)

@@ -26,15 +26,15 @@ use Rattle.dnssec_run.proofs.Premise.{SetsNothing, end_of, same-rolls, sets-noth
 use Rattle.dnssec_run.proofs.WholeRolls.Waits.{clear-from}
 use Rattle.dnssec_run.specs.WholeRolls as rolls
 use Rattle.dnssec_network.specs.Network.{Network}
-use Rattle.dnssec_policy.specs.Automatic.{IsAutomatic, is_add, last_below}
+use Rattle.dnssec_policy.specs.Automatic.{IsAutomatic, last_below}
 use Rattle.dnssec_policy.specs.Delays.{AreMade, Delays, HasTtls, IsAfter}
 use Rattle.dnssec_policy.specs.Delays.{SpreadWithin, Watch, delay_of, said}
 use Rattle.dnssec_policy.specs.Laws.{IsPrompt, UntilOver}
 use Rattle.dnssec_policy.specs.{Todo.Make, Todo.Todo, Todo.rank, View.View}
 use Rattle.dnssec_policy.specs.Ttls.{at_most_due, if_retired, report_takes}
-use Rattle.dnssec_policy.proofs.PlainCalls.{automatic-plain}
+use Rattle.dnssec_policy.proofs.PlainCalls.{add-is, automatic-plain}
 use Rattle.dnssec_policy.proofs.Bound.{ends-in-time, in-time, lasts-longer, no-longer}
-use Rattle.dnssec_policy.proofs.{Lags.climbs, May.May}
+use Rattle.dnssec_policy.proofs.{Clear.half-is, Lags.climbs, May.May}
 use Rattle.dnssec_policy.proofs.Notes.{add-moment, at-now, none-ahead}
 use Rattle.dnssec_policy.proofs.{Prompt.prompt, Said.may, Steps.second_of}
 
@@ -63,8 +63,7 @@ over-by : (set : KeySetParts) (roll : RollType) (half : Half) (ttl latest end : 
     → end ≤ latest
 over-by set roll half ttl latest end phase clear e = elim (cases_lt latest end) [
   | inl lt ↦
-      let same : e.0 ≡ half = its-half e.0 half e.1 ttl
-      (sym (ap (ttl_in e.0) phase) ∙ e.2) in
+      let same = (half-is (phase_of set.rolls roll) half e.0 ttl e.1 phase e.2).0 in
       let is : keyset.wait_clearance roll e.0 latest set ≡ waits.Clear =
       subst (λ h. keyset.wait_clearance roll h latest set ≡ waits.Clear) (sym same) clear in
       let early : wait_in_phase roll e.0 (Some e.1) latest set.keys ≡ waits.Clear =
@@ -72,13 +71,6 @@ over-by set roll half ttl latest end phase clear e = elim (cases_lt latest end) 
       let not = sym early ∙ e.3.early latest lt in absurd (cc)
   | inr ge ↦ ge
 ]
-  where
-    its-half : (h half : Half) (x ttl : ℕ) → ttl_in h (Some (cache_expire half ttl)) ≡ Some x
-        → h ≡ half
-    its-half First First x ttl e = refl
-    its-half First Second x ttl e = absurd (none-some x e)
-    its-half Second First x ttl e = absurd (none-some x e)
-    its-half Second Second x ttl e = refl
 
 -- so a call is said from then on
 over-said : (v : View) (todo : Todo) (roll : RollType) (latest : ℕ) → latest ≤ v.now
@@ -125,19 +117,6 @@ and-no false b h = refl
 and-no true false h = refl
 and-no true true h = elim h [ inl e ↦ absurd (true≢false e) | inr e ↦ absurd (true≢false e) ]
 
-add-aborts : (c : Call) → is_add c ≡ true → (roll : RollType) → call_of c ≡ keyset.AbortRoll roll
-    → ⊥
-add-aborts c h roll e = grind arith
-
-pub and-yes : (a b : Bool) → a ≡ true → b ≡ true → (a && b) ≡ true
-and-yes true true h k = refl
-and-yes true false h k = absurd (true≢false (sym k))
-and-yes false b h k = absurd (true≢false (sym h))
-
-add-reports : (c : Call) → is_add c ≡ true → (roll : RollType) (half : Half) (ttl now : ℕ)
-    → call_of c ≡ keyset.Report roll half ttl now → ⊥
-add-reports c h roll half ttl now e = grind arith
-
 -- the call of an entry ends a roll
 pub ends-by : (calls : List Call) (entries : List Entry) (n : ℕ) (roll : RollType) (c : Call)
     (e : Entry) → slice_get calls n ≡ Some c → slice_get entries n ≡ Some e
@@ -177,7 +156,7 @@ module _ {name : List ℕ} {calls : List Call} {entries : List Entry} {network :
   pub never-aborts : (n : ℕ) (c : Call) → slice_get calls n ≡ Some c → (roll : RollType)
       → call_of c ≡ keyset.AbortRoll roll → ⊥
   never-aborts n c ci roll is = elim (all.are_said n c ci) [
-    | inl a ↦ add-aborts c a roll is
+    | inl a ↦ let other = sym (add-is c a).2 ∙ is in cc
     | inr s ↦ subst (May (watch.policy s.0) (watch.view n s.0)) is
         (may (watch.policy s.0) (watch.view n s.0) (call_of c) s.3)
   ]
@@ -318,7 +297,7 @@ module _ {name : List ℕ} {calls : List Call} {entries : List Entry} {network :
     pub counts : (n : ℕ) (c : Call) → slice_get calls n ≡ Some c → (half : Half) (t now : ℕ)
         → call_of c ≡ keyset.Report roll half t now → t ≤ takes half
     counts n c ci half t now is = elim (all.are_said n c ci) [
-      | inl a ↦ absurd (add-reports c a roll half t now is)
+      | inl a ↦ let other = sym (add-is c a).2 ∙ is in absurd (cc)
       | inr s ↦
           let k = all.known n s.0 s.1 s.2 in
           let one = no-longer (watch.policy s.0) (watch.view n s.0) roll half t now k.2 k.0.highest

@@ -10,18 +10,11 @@ use Rattle.dnssec_run.specs.{Record.call_of, Safe.kind_of}
 use Rattle.dnssec_network.specs.{declared.reach.Reach.TheVariants.Everywhere, Facts.AreTrue}
 use Rattle.dnssec_network.specs.Network.{Network, NeverGoesBack}
 use Rattle.dnssec_network.{specs.Reach.AllGive, proofs.Reached.all-give}
-use Rattle.dnssec_policy.specs.{Automatic.is_add, Keys.is_rolled}
+use Rattle.dnssec_policy.specs.Keys.{is_rolled}
 use Rattle.dnssec_policy.specs.Laws.{AutomaticDeletionsFollow, AutomaticEndsFollow}
 use Rattle.dnssec_policy.specs.{Next.next_of, Todo.Make, declared.policy.Policy.Policy}
 use Rattle.dnssec_policy.specs.View.{View, reach_in}
-use Rattle.dnssec_policy.proofs.{May.May, Said.may, Said.not-so}
-
--- an add ends no roll, and deletes no key
-add-ends : (c : Call) → is_add c ≡ true → (roll : RollType) → call_of c ≡ keyset.RollDone roll → ⊥
-add-ends c h roll e = grind arith
-
-add-deletes : (c : Call) → is_add c ≡ true → (q : List ℕ) → call_of c ≡ keyset.DeleteKey q → ⊥
-add-deletes c h q e = grind arith
+use Rattle.dnssec_policy.proofs.{May.May, PlainCalls.add-is, Said.may, Said.not-so}
 
 may-as : (policy : Policy) (v : View) (c k : keyset.Call) → next_of policy v ≡ Make c → c ≡ k
     → May policy v k
@@ -39,7 +32,7 @@ since-call v network time made base kind are clock there back u t from by given 
 pub follows : AutomaticEndsFollow
 follows name calls entries network time n call roll kind base auto ci is asks last back =
     elim (auto n call ci) [
-      | inl a ↦ absurd (add-ends call a roll is)
+      | inl a ↦ let other = sym (add-is call a).2 ∙ is in absurd (cc)
       | inr s ↦
           let v = s.view in
           let m = may-as s.policy v (call_of call) (keyset.RollDone roll) s.said is in
@@ -52,7 +45,7 @@ follows name calls entries network time n call roll kind base auto ci is asks la
 pub leaves : AutomaticDeletionsFollow
 leaves name calls entries network time n call q auto ci is =
     elim (auto n call ci) [
-      | inl a ↦ absurd (add-deletes call a q is)
+      | inl a ↦ let other = sym (add-is call a).2 ∙ is in absurd (cc)
       | inr s ↦
           let v = s.view in
           let m = may-as s.policy v (call_of call) (keyset.DeleteKey q) s.said is in

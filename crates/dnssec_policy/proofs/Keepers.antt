@@ -8,11 +8,11 @@ use Rattle.dnssec_run.specs.declared.{call.Call.Call, record.Entry.Entry}
 use Rattle.dnssec_run.specs.declared.{record.Mark.TheVariants.Report, steps.LastStep.LastStep}
 use Rattle.dnssec_run.specs.{Steps.origin_in, Record.call_of}
 use Rattle.dnssec_run.specs.Safe.{SetKind, Ds, Dnskey, ZoneSigners, retires}
-use Rattle.dnssec_run.proofs.Chain.Trust.{each-holds, mark, moment}
+use Rattle.dnssec_run.proofs.Chain.Trust.{mark, moment}
 use Rattle.dnssec_network.specs.{Facts.AreTrue, Network.MayBeHeld, Network.Network}
-use Rattle.dnssec_network.specs.{Network.ReportsAreTrue, Reports.IsByNotes, Reports.NoneGoesBack}
-use Rattle.dnssec_network.proofs.Held.{held-cached, held-each, past_report}
-use Rattle.dnssec_network.proofs.Noted.{notes_make_reports_true}
+use Rattle.dnssec_network.specs.Reports.{IsByNotes, NoneGoesBack}
+use Rattle.dnssec_network.proofs.Held.{past_report, resolvers_find_each_chain}
+use Rattle.dnssec_network.proofs.Noted.{noted_reports}
 use Rattle.dnssec_policy.specs.{declared.policy.Policy.Policy, Automatic.IsAutomatic}
 use Rattle.dnssec_policy.specs.Kept.{AutomaticRunsServeKeepers, IsAutomaticKeeping, IsHeldBy}
 use Rattle.dnssec_policy.specs.Kept.{KeptAlgorithmsSign, keeping}
@@ -74,22 +74,17 @@ still-back seconds entries network time back r kind speaks =
 
 pub serves-keepers : AutomaticRunsServeKeepers
 serves-keepers name calls entries network time seconds run auto is back =
-    let plain = automatic-plain run (automatic-of auto) in
-    let ahead = none-ahead run (automatic-of auto) in
+    let auto' = automatic-of auto in
     let kept = keeping seconds network in
-    let reports : ReportsAreTrue entries kept time = λ r kind speaks over v held.
-    (notes_make_reports_true entries kept time (still-back seconds entries network time back)
+    resolvers_find_each_chain name calls entries kept time run (automatic-plain run auto') is
+    (automatic-whole run auto')
+    (noted_reports entries kept time (still-back seconds entries network time back)
     (all-by-notes run (λ n c ci. elim (auto n c ci) [
       | inl a ↦ inl a
       | inr s ↦ inr (λ roll second step at ttl there. by-view seconds s.0.policy s.0.view network
           time s.0.at.are_true s.1 (call_of c) (may s.0.policy s.0.view (call_of c) s.0.said) roll
           second step at ttl (s.0.at.step roll ∙ there))
-    ])) r kind speaks).expired v time over (omega arith) held in
-    λ p q z ds keys zone.
-    let h = held-cached entries kept time is reports ahead p q z ds keys zone in
-    held-each entries h.0 (network.position Ds p) (network.position Dnskey q)
-    (network.position ZoneSigners z) h.2 h.3 h.4 calls
-    (each-holds name calls entries run plain (automatic-whole run (automatic-of auto)) h.0 h.1)
+    ]))) (none-ahead run auto')
 
 -- a DNSKEY set in a cache was checked by a DS set that is held, as if for so much longer
 longer-held : (seconds : ℕ) (network : Network) (p q time : ℕ) → network.ttl Dnskey q < seconds

@@ -31,6 +31,7 @@ use Rattle.dnssec_policy.proofs.{PlainCalls.automatic-plain, Whole.add-starts}
 use Rattle.dnssec_policy.proofs.Delays.{auto, in-turn}
 use Rattle.dnssec_policy.proofs.InTime.{renewals-in-time}
 use Rattle.dnssec_policy.proofs.Lags.{costs-grow, more-by, none-by, sum-by}
+use Rattle.dnssec_policy.proofs.Loops.{aged_key}
 use Rattle.dnssec_policy.proofs.{May.May, May.is_renewal, Said.may, RollsEnd.rolls-end}
 
 -- ---- whose time is over
@@ -63,8 +64,7 @@ earlier-second now (Some m) (Some n) w = by (nat_lt n m) refl
 
 module _ (role : KeyRole) (renewal : Term) (now : ℕ) where
   abbrev with-key : Option ℕ → KeyParts → Option ℕ
-  with-key best k = if serves role k.keytype
-      then earlier best (over_from renewal k.timestamps.published) else best
+  with-key = aged_key role renewal
 
   past-kept : (best : Option ℕ) (k : KeyParts) → IsPast now best → IsPast now (with-key best k)
   past-kept best k w = by (serves role k.keytype)

@@ -9,7 +9,7 @@
 -- | `automatic_reports_are_by_notes` | `by-notes`, `none-ahead`              | Notes      |
 -- | `automatic_runs_reach_resolvers` | those, and the network's              | Notes      |
 -- | `automatic_runs_serve_keepers`   | `serves-keepers`, `kept-sign`         | Keepers    |
--- | `next_is_accepted`               | `clear`                               | Clear      |
+-- | `next_is_accepted`               | `accepted`                            | Clear      |
 -- | `automatic_ends_follow`          | `follows`                             | Ends       |
 -- | `automatic_deletions_follow`     | `leaves`                              | Ends       |
 -- | `next_goes_on`                   | `prompt`                              | Prompt     |
@@ -19,7 +19,7 @@
 -- | `starts_are_in_time`             | `renewals-in-time`, `changes-in-time` | InTime     |
 -- | `keys_leave`                     | `keys-leave`                          | KeysLeave  |
 -- | `nothing_is_silent`              | `outspoken`                           | Silence    |
--- | `rest_is_as_wanted`              | `as-wanted`                           | Rests      |
+-- | `rest_is_as_wanted`              | `as_wanted`                           | Rests      |
 -- | `automatic_runs_grow`            | `grows`                               | Growing    |
 -- | `said_lines_are_read`            | `are-read`, `names`, `goes-on`        | Lines      |
 pub mod May

@@ -4,7 +4,8 @@ use Rattle.std.proofs.Common.{[], ◌∷◌, Some, length, refl, sym, subst, ap,
 use Rattle.std.proofs.{Math.Bool.or-true, lemmas.Bool.true≢false, lemmas.Option.none-some}
 use Rattle.std.specs.Prelude.{◌||◌, Ok, slice_get}
 use Rattle.std.specs.Cmp.Lexicographic.{bytes_decides, slice_cmp}
-use Rattle.std.specs.{FinMap.get-empty, Ordering.nat_cmp, Str.bytes_eq}
+use Rattle.std.specs.{FinMap.entries as entries_of, FinMap.get-empty, Ordering.nat_cmp}
+use Rattle.std.specs.Str.{bytes_eq}
 use Rattle.dnssec_key.specs.declared.roll.RollType.{RollType}
 use Rattle.dnssec_zone.specs.Start.{is_listed}
 use Rattle.dnssec_keyset.{specs.KeySet.KeySetParts, proofs.Changes.Changes}
@@ -40,7 +41,7 @@ all-named (q ∷ qs) each =
     rw (here, rest) refl
 
 module _ (policy : Policy) (v : View) (names : CanNameKeys v.set) where
-  olds-named : (roll : RollType) → AreNamed (references_where (goes roll) v.set.keys)
+  olds-named : (roll : RollType) → AreNamed (references_where (goes roll) (entries_of v.set.keys))
   olds-named roll = all-named _ (λ q l.
       let w = old-goes policy v.set roll q l in names q w.0 w.1)
 

@@ -14,7 +14,6 @@ use Rattle.dnssec_keyset.specs.declared.wait.WaitEnd.{WaitEnd}
 use Rattle.dnssec_key.specs.{declared.roll.RollType.RollType, Key.KeyParts}
 use Rattle.dnssec_zone.{specs.Keys.Keys, specs.Keys.some_key, proofs.Quantified.list_any-map}
 use Rattle.dnssec_run.specs.InOrder.{entry_of}
-use Rattle.dnssec_policy.specs.Code.{passing}
 use Rattle.dnssec_policy.specs.Keys.{earlier, first_over, over_from, serves, with_key}
 use Rattle.dnssec_policy.specs.declared.policy.Term.{Term}
 use Rattle.dnssec_policy.specs.Next.{deletion, deletions, once_ended}
@@ -41,14 +40,14 @@ picked p es =
     map (λ (e : Lent). string_bytes e.0.now) (filter (λ (e : Lent). p e.1.now) es)
 
 picked-next : (p : KeyParts → Bool) (e : Lent) (es : List Lent) (t : Bool) → p e.1.now ≡ t
-    → picked p es ≡ passing p (map {A = Lent} entry_of es)
-    → picked p (e ∷ es) ≡ passing p (map {A = Lent} entry_of (e ∷ es))
+    → picked p es ≡ references_where p (map {A = Lent} entry_of es)
+    → picked p (e ∷ es) ≡ references_where p (map {A = Lent} entry_of (e ∷ es))
 picked-next p e es true is rest =
     rw is (ap (λ (qs : List (List ℕ)). string_bytes e.0.now ∷ qs) rest)
 picked-next p e es false is rest = rw is rest
 
 pub picked-is : (p : KeyParts → Bool) (es : List Lent)
-    → picked p es ≡ passing p (map {A = Lent} entry_of es)
+    → picked p es ≡ references_where p (map {A = Lent} entry_of es)
 picked-is p [] = refl
 picked-is p (e ∷ es) = picked-next p e es (p e.1.now) refl (picked-is p es)
 
@@ -104,7 +103,7 @@ module _ (policy : Policy) (all : Keys) (roles : List KeyRole) (i : ℕ) (d : Ke
   here = get_or roles i d
 
   abbrev found : Result (List ℕ) KeyRole
-  found = first_of here (references_where (is_new policy here) all)
+  found = first_of here (references_where (is_new policy here) (entries all))
 
   abbrev rest : Result (List (List ℕ)) KeyRole
   rest = new_keys policy all (drop (suc i) roles)

@@ -1,6 +1,6 @@
 -- What a call that is said says of the set and the notes by which it is said.
 use Rattle.std.proofs.Common.{◌≡◌, ℕ, ◌≤◌, ◌⊎◌, Bool, true, false, List, [], ◌∷◌, Some}
-use Rattle.std.specs.{Prelude.Ok, FinMap.get}
+use Rattle.std.specs.{Prelude.Ok, FinMap.entries, FinMap.get}
 use Rattle.dnssec_key.specs.declared.roll.{RollState.TheVariants.Done, RollType.RollType}
 use Rattle.dnssec_key.specs.{declared.roll.RollType.TheVariants.AlgorithmRoll, Key.KeyParts}
 use Rattle.dnssec_key.specs.RollTable.{cache_expire, is_second}
@@ -44,7 +44,7 @@ pub record IsRenewal (policy : Policy) (v : View) (roll : RollType) (news : List
 pub record IsStart (policy : Policy) (v : View) (roll : RollType) (olds news : List (List ℕ))
     : Type 0 where
   pub begins : may_begin v roll ≡ true
-  pub olds_are : olds ≡ references_where (goes roll) v.set.keys
+  pub olds_are : olds ≡ references_where (goes roll) (entries v.set.keys)
   pub by : IsChange policy v roll news ⊎ IsRenewal policy v roll news
 
 abbrev pub May : Policy → View → keyset.Call → Type 0

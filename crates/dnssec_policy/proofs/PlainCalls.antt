@@ -125,6 +125,11 @@ added P adds (call.AddKeyCsk a b c d e f) h = adds _ _
 added P adds (call.AddPublicKey a b c d e) h = adds _ _
 added P adds _ h = absurd (true≢false (sym h))
 
+-- so it is an add of a key
+pub add-is : (c : Call) → is_add c ≡ true → (q : List ℕ) × (k : KeyParts)
+    × (call_of c ≡ keyset.AddKey q k)
+add-is = added (λ c. (q : List ℕ) × (k : KeyParts) × (c ≡ keyset.AddKey q k)) (λ q k. (q, k, refl))
+
 added-ok : (c : Call) → is_add c ≡ true → Ok (call_of c)
 added-ok = added Ok (λ reference key. tt)
 

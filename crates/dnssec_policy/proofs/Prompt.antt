@@ -1,7 +1,7 @@
 -- For each roll in progress enough is said.
 use Rattle.std.proofs.Common.{◌≡◌, ℕ, ◌+◌, ◌≤◌, Bool, true, false, List}
 use Rattle.std.proofs.Common.{Option, None, Some, length, refl, sym, ap, subst, ◌∙◌, arith}
-use Rattle.std.proofs.lemmas.Bool.{le-leb}
+use Rattle.std.proofs.lemmas.{Bool.le-leb, Option.none-some}
 use Rattle.std.specs.Prelude.{if◌then◌else◌, Result, Ok, Err, nat_eq, nat_le}
 use Rattle.std.specs.{Option.option_map}
 use Rattle.dnssec_base.specs.declared.error.Error.{Error}
@@ -79,9 +79,6 @@ once-rank Everywhere kind todo le = le
 once-rank Unpublished kind todo le = omega arith
 once-rank Spreading kind todo le = omega arith
 
-none-is : {A : Type 0} (x : A) → ◌≡◌ {A = Option A} None (Some x) → ⊥
-none-is x e = cc
-
 module _ (v : View) (roll : RollType) where
   counted : (half : Half) (ttl : ℕ) (t : Todo) → NotLater t (report_with v roll half ttl)
       → IsSoon v.now t
@@ -102,7 +99,7 @@ module _ (v : View) (roll : RollType) where
 
   report : (half : Half) (o : Option LastStep) (t : Todo) → (step : LastStep) × (o ≡ Some step)
       → NotLater t (report_next v roll half o) → IsSoon v.now t
-  report half None t h le = absurd (none-is h.0 h.1)
+  report half None t h le = absurd (none-some h.0 h.1)
   report half (Some step) t h le = report-soon half step.origins
       (due v.before v.facts roll (is_second half) (origin_in step.origins) v.now) t le
 
@@ -122,7 +119,7 @@ module _ (v : View) (roll : RollType) where
       (there-rank base Dnskey zone (there-rank base ZoneSigners todo le))
 
   end : (o : Option ℕ) → (base : ℕ) × (o ≡ Some base) → rank (end_next v roll o) ≤ 3
-  end None h = absurd (none-is h.0 h.1)
+  end None h = absurd (none-some h.0 h.1)
   end (Some base) h = settled-rank base (Make (keyset.RollDone roll)) (omega arith)
 
   -- a wait that is over

@@ -132,8 +132,8 @@ module _ (policy : Policy) (v : View) (rests : next_of policy v ≡ Rest) where
           (part (stuck (stuck_of policy v)) (cause-said policy v)) in
           absurd (omega (arith, big))
 
-pub as-wanted : RestIsAsWanted
-as-wanted policy v rests = record {
+pub as_wanted : RestIsAsWanted
+as_wanted policy v rests = record {
   rolls = none-rolls policy v rests;
   gone = none-gone policy v rests;
   others = none-wanted policy v rests;

@@ -32,7 +32,7 @@ use Rattle.dnssec_policy.specs.Automatic.{is_last, last_below}
 use Rattle.dnssec_policy.specs.Delays.{AreMade, Delays, HasTtls, IsAfter, IsDone, RollsEnd}
 use Rattle.dnssec_policy.specs.Delays.{SpreadWithin, Watch, roll_lasts, said}
 use Rattle.dnssec_policy.specs.{Todo.rank, Ttls.report_takes}
-use Rattle.dnssec_policy.proofs.Delays.{NoneReported, and-no, and-yes, counts, end-said, ends-by}
+use Rattle.dnssec_policy.proofs.Delays.{NoneReported, and-no, counts, end-said, ends-by}
 use Rattle.dnssec_policy.proofs.Delays.{ends-on, never-aborts, none-more, none-yet, report-said}
 use Rattle.dnssec_policy.proofs.Delays.{not-beside-itself, second-off, unreported, wait-said}
 use Rattle.dnssec_policy.proofs.Lags.{all-within, begins_by, costs-grow, lasts_by, more-by, none-by}
@@ -246,8 +246,8 @@ module _ {name : List ℕ} {calls : List Call} {entries : List Entry} {network :
               (base_here entries roll (suc n) (ap (is_step roll) mk ∙ its)) here
           waited Second t q now it mk its was is here =
               let last : is_last roll (slice_get calls n) (slice_get entries n) ≡ true =
-              rw (ci, ei) (last-seen c e roll ∙ and-yes (second_of (call_of c) roll)
-              (is_accepted e.reply) (ap (λ k. second_of k roll) it ∙ its) ok) in
+              rw (ci, ei)
+              (last-seen c e roll ∙ rw (ap (λ k. second_of k roll) it ∙ its, ok) refl) in
               comes (CacheExpire2 t) Done was is refl (rw last refl) here
 
           -- by the call, if it is one of the roll

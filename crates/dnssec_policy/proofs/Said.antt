@@ -272,7 +272,7 @@ module _ (policy : Policy) (v : View) where
       → start_with v roll r ≡ Make c → May policy v c
   start c roll (Err role) begins by e = absurd (cc)
   start c roll (Ok news) begins by e =
-      let olds = references_where (goes roll) v.set.keys in
+      let olds = references_where (goes roll) (entries v.set.keys) in
       subst (May policy v) (made (keyset.StartRoll roll olds news v.now) c e)
       (refl, record { begins = begins; olds_are = refl; by = by news refl })
 

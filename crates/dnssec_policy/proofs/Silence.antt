@@ -25,10 +25,10 @@ use Rattle.dnssec_policy.specs.View.{View}
 use Rattle.dnssec_policy.proofs.{Ahead.start-rank, InTime.change-is, InTime.renewal-is}
 use Rattle.dnssec_policy.proofs.Order.{NotLater, among, change-said, rank-le, renewal-said}
 
--- the first cause of these rolls
-abbrev pub first_why : View → List RollType → Option Why
-first_why v rs =
-    fold (λ why roll. option_or why (phase_why v roll (phase_of v.set.rolls roll))) None rs
+-- this cause, or the first one of these rolls
+abbrev pub first_why : View → Option Why → List RollType → Option Why
+first_why v why rs =
+    fold (λ why roll. option_or why (phase_why v roll (phase_of v.set.rolls roll))) why rs
 
 -- ---- some cause
 
@@ -46,18 +46,14 @@ of-second (Some why) b h = (why, refl)
 module _ (policy : Policy) (v : View) where
   -- ---- rolls
 
-  abbrev from : Option Why → List RollType → Option Why
-  from o rs =
-      fold (λ why roll. option_or why (phase_why v roll (phase_of v.set.rolls roll))) o rs
-
-  has-kept : (rs : List RollType) (o : Option Why) → Has o → Has (from o rs)
+  has-kept : (rs : List RollType) (o : Option Why) → Has o → Has (first_why v o rs)
   has-kept [] o h = h
   has-kept (r ∷ rs) o h = has-kept rs (option_or o (phase_why v r (phase_of v.set.rolls r)))
       (of-first o (phase_why v r (phase_of v.set.rolls r)) h)
 
   has-found : (rs : List RollType) (o : Option Why) (roll : RollType)
       → list_any (same_roll roll) rs ≡ true → Has (phase_why v roll (phase_of v.set.rolls roll))
-      → Has (from o rs)
+      → Has (first_why v o rs)
   has-found [] o roll e h = absurd (true≢false (sym e))
   has-found (r ∷ rs) o roll e h =
       let here = phase_why v r (phase_of v.set.rolls r) in

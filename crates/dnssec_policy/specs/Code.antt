@@ -1,6 +1,6 @@
 -- What the code keeps and answers, in the words of the definitions.
 use denote.Ref.{Bor}
-use Rattle.std.specs.Prelude.{◌≡◌, ℕ, Bool, false, List, map, filter, Option, None, Some, get_or}
+use Rattle.std.specs.Prelude.{◌≡◌, ℕ, Bool, false, List, map, Option, None, Some, get_or}
 use Rattle.std.specs.Prelude.{if◌then◌else◌, Result, Ok, Err}
 use Rattle.std.specs.{FinMap.entries, Global.Global}
 use Rattle.std.specs.declared.{string.String.String, vec.Vec.Vec}
@@ -70,10 +70,6 @@ news_of (Err role) = Err role
 abbrev pub passes : Pick → KeyParts → Bool
 passes (Old roll) k = goes roll k
 passes (New policy role) k = is_new policy role k
-
-abbrev pub passing : (KeyParts → Bool) → List (List ℕ × KeyParts) → List (List ℕ)
-passing p es =
-    map (λ (e : List ℕ × KeyParts). e.0) (filter (λ (e : List ℕ × KeyParts). p e.1) es)
 
 -- ---- what to do next
 

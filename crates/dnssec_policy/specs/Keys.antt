@@ -22,10 +22,10 @@ use Rattle.dnssec_policy.specs.declared.policy.{Term.Term, Policy.Policy}
 use Rattle.dnssec_policy.specs.declared.policy.KskMethod.TheVariants as ksks
 use Rattle.dnssec_policy.specs.declared.policy.ZskMethod.TheVariants as zsks
 
--- the references of the keys that pass, in their order
-abbrev pub references_where : (KeyParts → Bool) → Keys → List (List ℕ)
-references_where p keys =
-    map (λ (e : List ℕ × KeyParts). e.0) (filter (λ (e : List ℕ × KeyParts). p e.1) (entries keys))
+-- the references of the entries whose keys pass, in their order
+abbrev pub references_where : (KeyParts → Bool) → List (List ℕ × KeyParts) → List (List ℕ)
+references_where p es =
+    map (λ (e : List ℕ × KeyParts). e.0) (filter (λ (e : List ℕ × KeyParts). p e.1) es)
 
 -- ---- roles
 
@@ -96,7 +96,7 @@ with_key (Ok q) (Ok qs) = Ok (q ∷ qs)
 abbrev pub new_keys : Policy → Keys → List KeyRole → Result (List (List ℕ)) KeyRole
 new_keys policy keys [] = Ok []
 new_keys policy keys (role ∷ roles) =
-    with_key (first_of role (references_where (is_new policy role) keys))
+    with_key (first_of role (references_where (is_new policy role) (entries keys)))
     (new_keys policy keys roles)
 
 -- ---- rolls that renew keys

@@ -64,7 +64,7 @@ deletions policy v =
 abbrev pub start_with : View → RollType → Result (List (List ℕ)) KeyRole → Todo
 start_with v roll (Err role) = NeedKey role
 start_with v roll (Ok news) =
-    Make (StartRoll roll (references_where (goes roll) v.set.keys) news v.now)
+    Make (StartRoll roll (references_where (goes roll) (entries v.set.keys)) news v.now)
 
 -- the first keys, another algorithm, or another scheme
 abbrev pub change : Policy → View → Todo

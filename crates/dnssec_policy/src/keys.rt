@@ -6,9 +6,9 @@ ghost use Rattle.std.specs.Option.{option_map_or};
 ghost use Rattle.dnssec_key.specs.State.{is_active_ksk, is_active_zsk};
 ghost use Rattle.dnssec_zone.specs.Start.{lists_kind, texts};
 ghost use Rattle.dnssec_run.specs.InOrder.{entry_of};
-ghost use Rattle.dnssec_policy.specs.Code.{passes, passing};
+ghost use Rattle.dnssec_policy.specs.Code.{passes};
 ghost use Rattle.dnssec_policy.specs.Keys.{goes, has_role, is_in_use, is_unwanted, is_wanted};
-ghost use Rattle.dnssec_policy.specs.Keys.{kept_in_use, roles_of, serves};
+ghost use Rattle.dnssec_policy.specs.Keys.{kept_in_use, references_where, roles_of, serves};
 
 use crate::policy::{KeyRole, Policy, Scheme};
 use dnssec_key::{Side, side_of};
@@ -153,7 +153,7 @@ pub(crate) fn references<'a>(
     pick: &Pick,
 ) -> Result<Vec<&'a str>, AllocError>
     ensures { IfOk result (λ found.
-        texts found.items ≡ passing (passes pick.now) (map entry_of keys.now)) }
+        texts found.items ≡ references_where (passes pick.now) (map entry_of keys.now)) }
 {
     let mut found = Vec::new(alloc);
     for entry in keys {

@@ -46,6 +46,7 @@ pub fn automatic_runs_serve_keepers()
 {}
 
 /// A call that `next` says isn't refused, memory aside.
+#[tactic(auto, using(crate::proofs::Clear::accepted))]
 pub fn next_is_accepted()
     ensures { NextIsAccepted }
 {}
@@ -102,6 +103,7 @@ pub fn nothing_is_silent()
 {}
 
 /// If nothing is said, the zone is as the policy wants it, and nothing is stuck.
+#[tactic(auto, using(crate::proofs::Rests::as_wanted))]
 pub fn rest_is_as_wanted()
     ensures { RestIsAsWanted }
 {}

@@ -246,8 +246,3 @@ text-back p so =
     ∙ ap policy_of (lines-back (bare_first p) (further_lines p) (all-lack p so))
     ∙ ap (λ o. of_first o (further_lines p)) (first-back p so.algorithm)
     ∙ lines-read p p.scheme refl so.ksk so.zsk so.delete_after
-
--- and so is an equal text
-pub read_of : (p : Policy) (text : List ℕ) → text ≡ policy_text p → IsSayable p
-    → policy_of (lines_of text) ≡ Ok p
-read_of p text is so = ap (λ t. policy_of (lines_of t)) is ∙ text-back p so

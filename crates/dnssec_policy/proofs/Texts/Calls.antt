@@ -22,6 +22,7 @@ use Rattle.dnssec_script.specs.Script.{is_reference_byte, references_of, roll_na
 use Rattle.dnssec_script.specs.Script.{said_after_word, says, word_at, word_named}
 use Rattle.dnssec_policy.specs.Automatic.Lines.{call_line, list_text, start_text}
 use Rattle.dnssec_policy.proofs.Texts.Cut.{first-field, lack-append, lacks, none-of, one-field}
+use Rattle.dnssec_policy.proofs.Texts.Cut.{split-join}
 use Rattle.dnssec_policy.proofs.Texts.Numbers.{digits-lack, number-back, time-back}
 
 -- ---- names of rolls
@@ -49,24 +50,10 @@ said-by line fields is = ap (λ l. option_and_then (λ x. said_after_word x.0 x.
 
 -- ---- fields
 
-onto : (b : ℕ) (xs ys : List (List ℕ)) → 0 < length xs
-    → onto_first b (xs ++ ys) ≡ onto_first b xs ++ ys
-onto b [] ys some = absurd (omega arith)
-onto b (x ∷ xs) ys some = refl
-
--- the fields before a space, and those after it
-join : (t x : List ℕ) → fields_of (t ++ 32 ∷ x) ≡ fields_of t ++ fields_of x
-join [] x = refl
-join (b ∷ t) x = elim (cases_Bool (b == 32)) [
-  | inl e ↦ rw e (ap (λ l. [] ∷ l) (join t x))
-  | inr e ↦ rw e (ap (onto_first b) (join t x) ∙ onto b (fields_of t) (fields_of x)
-      (let many = length-slice_split (λ b. b == 32) t in omega (arith, many)))
-]
-
 -- one field more
 more : (t x : List ℕ) → lacks 32 x → fields_of ((t ++ codes " ") ++ x) ≡ fields_of t ++ x ∷ []
 more t x h =
-    ap fields_of (append_assoc t (32 ∷ []) x) ∙ join t x
+    ap fields_of (append_assoc t (32 ∷ []) x) ∙ split-join (λ b. b == 32) t 32 x refl
     ∙ ap (λ l. fields_of t ++ l) (one-field x h)
 
 -- a word and one field

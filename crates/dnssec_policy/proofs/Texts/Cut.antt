@@ -1,10 +1,11 @@
 -- A text that is made of lines, or a line that is made of fields, is cut where it was joined.
 use Rattle.std.proofs.Common.{◌≡◌, ℕ, ◌==◌, ◌∙◌, ◌++◌, ◌∷◌, List, [], All, false, true, not}
-use Rattle.std.proofs.Common.{ap, sym, append_assoc, arith, refl}
-use Rattle.std.proofs.lemmas.Bool.{and_parts, Decides.nat_tests}
-use Rattle.std.proofs.lemmas.List.Splits.{slice_split_at, slice_split_none}
+use Rattle.std.proofs.Common.{ap, sym, append_assoc, arith, refl, inl, inr, length, Bool, ◌<◌}
+use Rattle.std.proofs.lemmas.Bool.{and_parts, cases_Bool, Decides.nat_tests}
+use Rattle.std.proofs.lemmas.List.Splits.{length-slice_split, slice_split-cons_no}
+use Rattle.std.proofs.lemmas.List.Splits.{slice_split-cons_yes, slice_split_at, slice_split_none}
 use Rattle.std.proofs.lemmas.List.{Sums.AllPass-from_list_all, Folds.list_all-append}
-use Rattle.std.specs.List.{list_all, slice_split}
+use Rattle.std.specs.List.{list_all, onto_first, slice_split}
 use Rattle.dnssec_script.proofs.Judging.{without_end_last}
 use Rattle.dnssec_script.specs.Script.{fields_of, lines_of, without_end}
 
@@ -23,6 +24,29 @@ none-of c text h =
 -- nor in two texts, if it is in neither
 pub lack-append : (c : ℕ) (xs ys : List ℕ) → lacks c xs → lacks c ys → lacks c (xs ++ ys)
 lack-append c xs ys e f = list_all-append (λ b. not (b == c)) xs ys ∙ rw (e, f) refl
+
+-- ---- parts
+
+-- the first part grows, and the last parts stay
+onto_first-append : {X : Type 0} (x : X) (parts more : List (List X)) → 0 < length parts
+    → onto_first x (parts ++ more) ≡ onto_first x parts ++ more
+onto_first-append x [] more some = absurd (omega arith)
+onto_first-append x (part ∷ parts) more some = refl
+
+-- the parts before an element at which a list is cut, and those after it
+pub split-join : {X : Type 0} (p : X → Bool) (xs : List X) (y : X) (ys : List X) → p y ≡ true
+    → slice_split p (xs ++ y ∷ ys) ≡ slice_split p xs ++ slice_split p ys
+split-join p [] y ys cuts = slice_split-cons_yes p y ys cuts
+split-join p (x ∷ xs) y ys cuts = elim (cases_Bool (p x)) [
+  | inl t ↦
+      slice_split-cons_yes p x (xs ++ y ∷ ys) t ∙ ap (λ ps. [] ∷ ps) (split-join p xs y ys cuts)
+      ∙ ap (λ ps. ps ++ slice_split p ys) (sym (slice_split-cons_yes p x xs t))
+  | inr f ↦
+      let some = length-slice_split p xs in
+      slice_split-cons_no p x (xs ++ y ∷ ys) f ∙ ap (onto_first x) (split-join p xs y ys cuts)
+      ∙ onto_first-append x (slice_split p xs) (slice_split p ys) (omega (arith, some))
+      ∙ ap (λ ps. ps ++ slice_split p ys) (sym (slice_split-cons_no p x xs f))
+]
 
 -- ---- fields
 

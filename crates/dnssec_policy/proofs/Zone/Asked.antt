@@ -4,37 +4,9 @@ use Rattle.std.proofs.Common.{Bool, true, false, ap, arith, drop, get_or, if◌t
 use Rattle.std.proofs.Common.{length, length-drop, refl, subst, sym, take}
 use Rattle.std.specs.List.{onto_first, slice_split}
 use Rattle.std.proofs.lemmas.List.{drop_more, take-append-drop, take_all, take_more}
-use Rattle.std.proofs.lemmas.List.Splits.{length-slice_split, slice_split-cons_no}
-use Rattle.std.proofs.lemmas.List.Splits.{slice_split-cons_yes}
+use Rattle.std.proofs.lemmas.List.Splits.{slice_split-cons_no}
 use Rattle.dnssec_script.{proofs.Judging.without_end_last, specs.Script.without_end}
-use Rattle.dnssec_policy.specs.Automatic.Asking.{IsLastLine}
-
--- the first part grows, and the last parts stay
-onto_first-append : {X : Type 0} (x : X) (parts more : List (List X)) → 0 < length parts
-    → onto_first x (parts ++ more) ≡ onto_first x parts ++ more
-onto_first-append x [] more some = absurd (omega arith)
-onto_first-append x (part ∷ parts) more some = refl
-
-some_part : {X : Type 0} (p : X → Bool) (xs : List X) → 0 < length (slice_split p xs)
-some_part p xs = let count = length-slice_split p xs in omega arith
-
-split-first : {X : Type 0} (p : X → Bool) (x : X) (xs : List X) (y : X) (ys : List X) (b : Bool)
-    → p x ≡ b → slice_split p (xs ++ y ∷ ys) ≡ slice_split p xs ++ ys ∷ []
-    → slice_split p (x ∷ (xs ++ y ∷ ys)) ≡ slice_split p (x ∷ xs) ++ ys ∷ []
-split-first p x xs y ys true is more =
-    slice_split-cons_yes p x (xs ++ y ∷ ys) is ∙ ap (λ ps. [] ∷ ps) more
-    ∙ ap (λ ps. ps ++ ys ∷ []) (sym (slice_split-cons_yes p x xs is))
-split-first p x xs y ys false is more =
-    slice_split-cons_no p x (xs ++ y ∷ ys) is ∙ ap (onto_first x) more
-    ∙ onto_first-append x (slice_split p xs) (ys ∷ []) (some_part p xs)
-    ∙ ap (λ ps. ps ++ ys ∷ []) (sym (slice_split-cons_no p x xs is))
-
--- what stands after an element at which a list is cut is the last part, if it is one
-pub split-last : {X : Type 0} (p : X → Bool) (xs : List X) (y : X) (ys : List X) → p y ≡ true
-    → slice_split p ys ≡ ys ∷ [] → slice_split p (xs ++ y ∷ ys) ≡ slice_split p xs ++ ys ∷ []
-split-last p [] y ys cuts one = slice_split-cons_yes p y ys cuts ∙ ap (λ ps. [] ∷ ps) one
-split-last p (x ∷ xs) y ys cuts one =
-    split-first p x xs y ys (p x) refl (split-last p xs y ys cuts one)
+use Rattle.dnssec_policy.{specs.Automatic.Asking.IsLastLine, proofs.Texts.Cut.split-join}
 
 -- ---- from the end of a text
 
@@ -62,7 +34,8 @@ feed_found text at within feed so =
     let cut : take at text ++ b ∷ drop (at + 1) text ≡ text =
     ap (λ ys. take at text ++ ys) (sym (drop_more text at 0 within)) ∙ take-append-drop at text in
     ap (slice_split (λ c. c == 10)) (sym cut)
-    ∙ split-last (λ c. c == 10) (take at text) b (drop (at + 1) text) feed so
+    ∙ split-join (λ c. c == 10) (take at text) b (drop (at + 1) text) feed
+    ∙ ap (λ parts. slice_split (λ c. c == 10) (take at text) ++ parts) so
     ∙ ap (λ t. slice_split (λ c. c == 10) t ++ drop (at + 1) text ∷ []) (sym above)
 
 -- the same where the byte before a position is one

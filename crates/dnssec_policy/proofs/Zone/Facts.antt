@@ -17,24 +17,21 @@ number_in (Number n) = n
 number_in (Moment t) = t
 number_in _ = 0
 
-abbrev number_at : {W : Type 0} → ℕ → W × List Value → ℕ
-number_at i said = number_in (get_or said.1 i (Number 0))
+abbrev number_of : ℕ → List Value → ℕ
+number_of i values = number_in (get_or values i (Number 0))
 
 same-news : (m n : News) → news_says m ≡ news_says n → m ≡ n
 same-news (Published p t m) (Published q u n) e =
-    λ i. Published (ap (number_at 0) e i) (ap (number_at 1) e i) (ap (number_at 2) e i)
+    λ i. Published (number_of 0 (e i).1) (number_of 1 (e i).1) (number_of 2 (e i).1)
 same-news (Published p t m) (Everywhere n) e = absurd (omega (arith, ap (λ said. length said.1) e))
 same-news (Everywhere m) (Published q u n) e = absurd (omega (arith, ap (λ said. length said.1) e))
-same-news (Everywhere m) (Everywhere n) e = λ i. Everywhere (ap (number_at 0) e i)
+same-news (Everywhere m) (Everywhere n) e = λ i. Everywhere (number_of 0 (e i).1)
 
 pub same-fact : (f g : Fact) → fact_says f ≡ fact_says g → f ≡ g
 same-fact f g e =
     let kind = ap (λ s. s.0) e in
     let news = same-news f.news g.news (ap (λ s. s.1) e) in
     λ i. record { kind = kind i; news = news i }
-
-abbrev number_of : ℕ → List Value → ℕ
-number_of i values = number_in (get_or values i (Number 0))
 
 pub same-before : (a b : Before) → before_says a ≡ before_says b → a ≡ b
 same-before a b e = λ i. record {

@@ -8,7 +8,7 @@ use Rattle.dnssec_run.specs.declared.{call.Call.Call, record.Entry.Entry, record
 use Rattle.dnssec_run.specs.{Record.call_of, Safe.SetKind, Safe.kind_of}
 use Rattle.dnssec_network.specs.Facts.{Before, AreTrue, AreTrueFrom, news_of, same_kind}
 use Rattle.dnssec_network.specs.{Network.Network, declared.fact.Fact.Fact, declared.fact.News.News}
-use Rattle.dnssec_network.specs.declared.fact.News.TheVariants.{Published, Everywhere}
+use Rattle.dnssec_network.proofs.Noted.{true-parts}
 use Rattle.dnssec_policy.specs.{declared.policy.Policy.Policy, Automatic.IsSaid, Automatic.is_add}
 use Rattle.dnssec_policy.specs.{ByHand.first_by_hand, Todo.Make}
 use Rattle.dnssec_policy.proofs.{ByHand.answered, Growing.grows}
@@ -90,15 +90,6 @@ module _ (name : List ℕ) (calls : List Call) (entries : List Entry) (asked : L
 
 -- ---- one more fact
 
--- news that are true with more of them are true without these
-front-true : (network : Network) (kind : SetKind) (time n : ℕ) (xs ys : List News)
-    → AreTrueFrom network kind time n (xs ++ ys) → AreTrueFrom network kind time n xs
-front-true network kind time n [] ys are = tt
-front-true network kind time n (Published position ttl moment ∷ xs) ys are =
-    (are.0, are.1, are.2, front-true network kind time (suc n) xs ys are.3)
-front-true network kind time n (Everywhere moment ∷ xs) ys are =
-    (are.0, front-true network kind time n xs ys are.1)
-
 pub fewer-true : (before : Before) (facts more : List Fact) (network : Network) (time : ℕ)
     → AreTrue before (facts ++ more) network time → AreTrue before facts network time
 fewer-true before facts more network time are kind =
@@ -107,8 +98,8 @@ fewer-true before facts more network time are kind =
     ap (map (λ (fact : Fact). fact.news)) (filter-append test facts more)
     ∙ map-append (λ (fact : Fact). fact.news) (filter test facts) (filter test more) in (
       (are kind).0,
-      front-true network kind time 0 (news_of kind facts) (news_of kind more)
-          (subst (AreTrueFrom network kind time 0) news (are kind).1),
+      (true-parts network kind time 0 (news_of kind facts) (news_of kind more)
+          (subst (AreTrueFrom network kind time 0) news (are kind).1)).0,
     )
 
 pub one-noted : (name : List ℕ) (calls : List Call) (entries : List Entry) (asked : List ℕ)

@@ -1,5 +1,6 @@
 -- Lifetimes that are shorter than a roll takes, by the TTLs of notes.
 use Rattle.std.specs.Prelude.{ℕ, nat_lt, if◌then◌else◌, Option, None, Some}
+use Rattle.std.specs.Option.{option_or}
 use Rattle.dnssec_key.specs.declared.roll.RollType.{RollType, TheVariants.CskRoll}
 use Rattle.dnssec_run.specs.Safe.{SetKind}
 use Rattle.dnssec_policy.specs.declared.policy.{Policy.Policy, Scheme.Scheme}
@@ -19,12 +20,8 @@ abbrev pub too_short_for : Policy → (SetKind → ℕ) → RollType → Option 
 too_short_for policy ttl roll =
     shorter roll (renewal_of policy (role_of roll)).lifetime (roll_takes ttl roll)
 
-abbrev pub or_else : Option TooShort → Option TooShort → Option TooShort
-or_else None other = other
-or_else (Some fault) other = Some fault
-
 -- the first such lifetime of a policy
 abbrev pub too_short : Policy → Scheme → (SetKind → ℕ) → Option TooShort
 too_short policy (Split k z) ttl =
-    or_else (too_short_for policy ttl (ksk_roll k)) (too_short_for policy ttl (zsk_roll z))
+    option_or (too_short_for policy ttl (ksk_roll k)) (too_short_for policy ttl (zsk_roll z))
 too_short policy SingleType ttl = too_short_for policy ttl CskRoll

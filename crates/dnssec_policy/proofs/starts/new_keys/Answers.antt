@@ -2,7 +2,7 @@
 use Rattle.std.proofs.Common.{Bor, slice_get, drop, ◌+◌, ◌∙◌, ap, sym, arith, List, ℕ}
 use Rattle.dnssec_zone.specs.Start.{texts}
 use Rattle.dnssec_policy.specs.declared.policy.KeyRole.TheVariants as role
-use Rattle.dnssec_policy.specs.{Code.passing, Keys.first_of, Keys.is_new, Keys.new_keys}
+use Rattle.dnssec_policy.specs.Keys.{first_of, is_new, new_keys, references_where}
 use Rattle.dnssec_policy.proofs.Loops.{first-none, first-some, onto, role-found}
 use Rattle.dnssec_policy.proofs.Loops.{role-missing, texts-push, here}
 use Rattle.dnssec_policy.proofs.starts.new_keys.Goals as goal
@@ -14,7 +14,7 @@ returns-in-None c all same =
     let r = here a.policy.now all a.roles.now i role.Ksk c.loop-role-test.true
     (texts c.loop-role.new.items) in
     let p = is_new a.policy.now r in
-    let is = ap (passing p) same ∙ sym (c.in_ok-found.ensures) in
+    let is = ap (references_where p) same ∙ sym (c.in_ok-found.ensures) in
     let none = ap (first_of r) is
     ∙ first-none r c.in_ok-found.found.items
     (ap (λ (xs : List (Bor (List ℕ))). slice_get xs 0) (sym c.deref.ensures.value)
@@ -29,7 +29,7 @@ loop-role-preserved c all same =
     let qs = texts c.loop-role.new.items in
     let r = here a.policy.now all a.roles.now i role.Ksk c.loop-role-test.true qs in
     let p = is_new a.policy.now r in
-    let is = ap (passing p) same ∙ sym (c.in_ok-found.ensures) in
+    let is = ap (references_where p) same ∙ sym (c.in_ok-found.ensures) in
     let q = c.in-Some.reference.now in
     let one = ap (first_of r) is
     ∙ first-some r c.in_ok-found.found.items q
