@@ -1,9 +1,9 @@
 -- A start that is said isn't refused.
 use Rattle.std.proofs.Common.{◌≡◌, ℕ, inl, inr, Bool, true, false, List, [], ◌∷◌, Option, None}
-use Rattle.std.proofs.Common.{Some, refl, sym, ap, subst, ◌∙◌, arith, map}
+use Rattle.std.proofs.Common.{Some, refl, sym, ap, subst, ◌∙◌, arith}
 use Rattle.std.proofs.lemmas.Bool.{and_parts, eqb-true, false_from_ne_true, or_parts, true≢false}
 use Rattle.std.proofs.lemmas.Option.{same_Some}
-use Rattle.std.specs.Prelude.{T, filter, ◌&&◌, ◌||◌, nat_eq, is_none, Result, Ok, Err}
+use Rattle.std.specs.Prelude.{T, ◌&&◌, ◌||◌, nat_eq, is_none, Result, Ok, Err}
 use Rattle.std.specs.{List.list_all, Cmp.Lexicographic.bytes_decides, Cmp.Lexicographic.slice_cmp}
 use Rattle.std.specs.{Ordering.nat_cmp, FinMap.find, FinMap.Entries.is_sorted, Str.bytes_eq}
 use Rattle.std.specs.FinMap.{entries, entries_sorted, get, get-entries}

@@ -28,7 +28,7 @@ use Rattle.dnssec_policy.specs.{Laws.ReportsCountNoLonger, Next.next_of, Next.ph
 use Rattle.dnssec_policy.specs.Todo.{Make, Todo, rank}
 use Rattle.dnssec_policy.specs.Ttls.{at_most_due, higher_with, highest_of, if_retired, keeps}
 use Rattle.dnssec_policy.specs.{Ttls.lasting, Ttls.report_takes, View.View, View.reach_in}
-use Rattle.dnssec_policy.proofs.{Dues.due-parts, InTime.by-rank, Said.may, Spreads.Spread}
+use Rattle.dnssec_policy.proofs.{Dues.due-parts, InTime.by-rank, Said.may-next, Spreads.Spread}
 use Rattle.dnssec_policy.proofs.Order.{roll-said}
 
 -- ---- by the notes of a kind
@@ -231,7 +231,7 @@ module _ (v : View) (ahead : NoneLiesAheadOf v)
 
 pub no-longer : ReportsCountNoLonger
 no-longer policy v roll half ttl now ahead highest is =
-    let m = may policy v (keyset.Report roll half ttl now) is in
+    let m = may-next policy v (keyset.Report roll half ttl now) is in
     let least = least-due v ahead highest roll (is_second half) (origin_in (m.2).origins) m.4 m.5 in
     let le = lasts-longer v.highest v.highest (λ kind. omega arith) roll (is_second half) m.4
     (at_most_due v.highest roll (is_second half)) least in

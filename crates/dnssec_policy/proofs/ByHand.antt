@@ -15,9 +15,9 @@ use Rattle.dnssec_policy.specs.Automatic.{is_add}
 use Rattle.dnssec_policy.specs.ByHand.{at_if_by_hand, by_hand_at, first_by_hand, is_by_hand}
 use Rattle.dnssec_policy.specs.{ByHand.is_others, Laws.AutomaticRunsAreUntouched}
 use Rattle.dnssec_policy.specs.Next.{answer_of, lasts, next_of, stuck_of, unless_by_hand}
-use Rattle.dnssec_policy.specs.Next.{unless_lasting}
+use Rattle.dnssec_policy.specs.Next.{task_of, unless_lasting}
 use Rattle.dnssec_policy.specs.{Todo.Make, Todo.NotBefore, Todo.Stuck, Todo.Todo, View.View}
-use Rattle.dnssec_policy.proofs.{PlainCalls.only, May.May, Said.may}
+use Rattle.dnssec_policy.proofs.{PlainCalls.only, May.May, Said.may, Said.task-said}
 
 -- ---- automatic calls
 
@@ -97,5 +97,6 @@ still-made None (Some why) (NotBefore moment) c e =
 still-made None (Some why) _ c e = e
 
 pub answered : (policy : Policy) (by_hand : Option ℕ) (v : View) (c : keyset.Call)
-    → answer_of policy by_hand v ≡ Make c → next_of policy v ≡ Make c
-answered policy by_hand v c e = still-made by_hand (stuck_of policy v) (next_of policy v) c e
+    → answer_of policy by_hand v ≡ Make c → task_of policy v ≡ Make c
+answered policy by_hand v c e =
+    task-said policy v c (still-made by_hand (stuck_of policy v) (next_of policy v) c e)

@@ -12,7 +12,7 @@ use Rattle.dnssec_keyset.specs.WaitEnd.{EndsAt, TellsEnd}
 use Rattle.dnssec_keyset.specs.declared.wait.WaitEnd.TheVariants.{At}
 use Rattle.dnssec_run.specs.WholeRolls.{propagation}
 use Rattle.dnssec_policy.specs.{declared.policy.Policy.Policy, Laws.NextIsAccepted, View.View}
-use Rattle.dnssec_policy.proofs.{May.May, Accepted.free, Said.may}
+use Rattle.dnssec_policy.proofs.{May.May, Accepted.free, Said.may-next}
 
 -- the half in which a roll waits, and for how long
 pub half-is : (o : Option RollState) (half other : Half) (ttl t : ℕ)
@@ -60,4 +60,4 @@ module _ (policy : Policy) (v : View)
   clear (keyset.AbortRoll roll) m = absurd m
 
 pub accepted : NextIsAccepted
-accepted policy v call tells said = clear policy v tells call (may policy v call said)
+accepted policy v call tells said = clear policy v tells call (may-next policy v call said)

@@ -36,7 +36,7 @@ use Rattle.dnssec_policy.proofs.PlainCalls.{add-is, automatic-plain}
 use Rattle.dnssec_policy.proofs.Bound.{ends-in-time, in-time, lasts-longer, no-longer}
 use Rattle.dnssec_policy.proofs.{Clear.half-is, Lags.climbs, May.May}
 use Rattle.dnssec_policy.proofs.Notes.{add-moment, at-now, none-ahead}
-use Rattle.dnssec_policy.proofs.{Prompt.prompt, Said.may, Steps.second_of}
+use Rattle.dnssec_policy.proofs.{Prompt.prompt, Said.may-next, Said.task-said, Steps.second_of}
 
 -- ---- higher TTLs
 
@@ -149,7 +149,7 @@ module _ {name : List ℕ} {calls : List Call} {entries : List Entry} {network :
       at = (all.known n s.0 s.1 s.2).0;
       clock = (let is = (all.known n s.0 s.1 s.2).1 in
           omega (arith, is, s.1.2 (within-calls n c ci)));
-      said = s.3;
+      said = task-said (watch.policy s.0) (watch.view n s.0) (call_of c) s.3;
     })
   ]
 
@@ -158,7 +158,7 @@ module _ {name : List ℕ} {calls : List Call} {entries : List Entry} {network :
   never-aborts n c ci roll is = elim (all.are_said n c ci) [
     | inl a ↦ let other = sym (add-is c a).2 ∙ is in cc
     | inr s ↦ subst (May (watch.policy s.0) (watch.view n s.0)) is
-        (may (watch.policy s.0) (watch.view n s.0) (call_of c) s.3)
+        (may-next (watch.policy s.0) (watch.view n s.0) (call_of c) s.3)
   ]
 
   pub in-turn : (m n : ℕ) → m ≤ n → n ≤ length entries → network.made m ≤ network.made n
@@ -173,7 +173,7 @@ module _ {name : List ℕ} {calls : List Call} {entries : List Entry} {network :
     | inr s ↦
         let v = watch.view n s.0 in
         let at = at-now (watch.policy s.0) v (call_of c)
-        (may (watch.policy s.0) v (call_of c) s.3) m (sym (plainly c).moment_is ∙ mo) in
+        (may-next (watch.policy s.0) v (call_of c) s.3) m (sym (plainly c).moment_is ∙ mo) in
         let now = (all.known n s.0 s.1 s.2).1 in
         (omega (arith, at, now, s.1.1), omega (arith, at, now, s.1.2 (within-calls n c ci)))
   ]

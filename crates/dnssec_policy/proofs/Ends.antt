@@ -1,22 +1,22 @@
 -- A roll is ended, and a key deleted, once all servers give what the last actions wait for.
-use Rattle.std.proofs.Common.{◌≡◌, ℕ, ◌≤◌, ap, arith, inl, inr, List, subst, sym, false, true, ◌∙◌}
+use Rattle.std.proofs.Common.{◌≡◌, ℕ, ◌≤◌, ap, arith, inl, inr, subst, sym, false, ◌∙◌}
 use Rattle.std.proofs.lemmas.{Bool.and_parts, Option.same_Some}
 use Rattle.std.specs.{FinMap.get, Prelude.not}
-use Rattle.dnssec_key.specs.{Key.all_states, State.is_stale, declared.roll.RollType.RollType}
+use Rattle.dnssec_key.specs.{Key.all_states, State.is_stale}
 use Rattle.dnssec_keyset.specs.KeySet.{KeySetParts}
 use Rattle.dnssec_keyset.specs.Step as keyset
-use Rattle.dnssec_run.specs.declared.{call.Call.Call, caches.SetKind.SetKind}
+use Rattle.dnssec_run.specs.declared.{caches.SetKind.SetKind}
 use Rattle.dnssec_run.specs.{Record.call_of, Safe.kind_of}
 use Rattle.dnssec_network.specs.{declared.reach.Reach.TheVariants.Everywhere, Facts.AreTrue}
 use Rattle.dnssec_network.specs.Network.{Network, NeverGoesBack}
 use Rattle.dnssec_network.{specs.Reach.AllGive, proofs.Reached.all-give}
 use Rattle.dnssec_policy.specs.Keys.{is_rolled}
 use Rattle.dnssec_policy.specs.Laws.{AutomaticDeletionsFollow, AutomaticEndsFollow}
-use Rattle.dnssec_policy.specs.{Next.next_of, Todo.Make, declared.policy.Policy.Policy}
+use Rattle.dnssec_policy.specs.{Next.task_of, Todo.Make, declared.policy.Policy.Policy}
 use Rattle.dnssec_policy.specs.View.{View, reach_in}
 use Rattle.dnssec_policy.proofs.{May.May, PlainCalls.add-is, Said.may, Said.not-so}
 
-may-as : (policy : Policy) (v : View) (c k : keyset.Call) → next_of policy v ≡ Make c → c ≡ k
+may-as : (policy : Policy) (v : View) (c k : keyset.Call) → task_of policy v ≡ Make c → c ≡ k
     → May policy v k
 may-as policy v c k said is = subst (May policy v) is (may policy v c said)
 

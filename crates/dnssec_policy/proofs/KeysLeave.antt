@@ -23,7 +23,7 @@ use Rattle.dnssec_policy.specs.declared.policy.{KeyRole.KeyRole, Policy.Policy, 
 use Rattle.dnssec_policy.specs.declared.policy.Scheme.TheVariants.{Split, SingleType}
 use Rattle.dnssec_policy.specs.{declared.policy.Term.Term}
 use Rattle.dnssec_policy.specs.Delays.{AreMade, IsAfter, IsDue, KeysLeave, Watch, said}
-use Rattle.dnssec_policy.specs.Keys.{earlier, first_from, goes, over_by_age}
+use Rattle.dnssec_policy.specs.Keys.{earlier, goes, over_by_age}
 use Rattle.dnssec_policy.specs.Keys.{over_from, over_on_demand, renewal_of, role_of}
 use Rattle.dnssec_policy.specs.{Keys.rolls_of, Keys.serves, Next.next_of, Todo.Make, Todo.rank}
 use Rattle.dnssec_policy.{specs.View.View, proofs.Accepted.listed-in, proofs.Accepted.works-goes}
@@ -31,8 +31,8 @@ use Rattle.dnssec_policy.proofs.{PlainCalls.automatic-plain, Whole.add-starts}
 use Rattle.dnssec_policy.proofs.Delays.{auto, in-turn}
 use Rattle.dnssec_policy.proofs.InTime.{renewals-in-time}
 use Rattle.dnssec_policy.proofs.Lags.{costs-grow, more-by, none-by, sum-by}
-use Rattle.dnssec_policy.proofs.Loops.{aged_key}
-use Rattle.dnssec_policy.proofs.{May.May, May.is_renewal, Said.may, RollsEnd.rolls-end}
+use Rattle.dnssec_policy.proofs.Loops.{aged_key, first_from}
+use Rattle.dnssec_policy.proofs.{May.May, May.is_renewal, Said.may-next, RollsEnd.rolls-end}
 
 -- ---- whose time is over
 
@@ -201,7 +201,7 @@ module _ {name : List ℕ} {calls : List Call} {entries : List Entry} {network :
           let may-be : May (watch.policy now) (watch.view n now)
           (keyset.StartRoll roll (texts old.now) (texts new.now) at) =
           subst (May (watch.policy now) (watch.view n now)) call
-          (may (watch.policy now) (watch.view n now) (call_of d.call) says) in
+          (may-next (watch.policy now) (watch.view n now) (call_of d.call) says) in
           let fits = in-time-at n later within h.0 in
           let view = (all.known n (now-at n) (after-at n later within) (omega (arith, fits))).0 in
           let set : (watch.view n (now-at n)).set ≡ (watch.view n now).set =

@@ -31,6 +31,10 @@ abbrev pub aged_key : KeyRole → Term → Option ℕ → KeyParts → Option �
 aged_key role renewal best k = if serves role k.keytype
     then earlier best (over_from renewal k.timestamps.published) else best
 
+-- of all these keys
+abbrev pub first_from : KeyRole → Term → Option ℕ → List KeyParts → Option ℕ
+first_from role renewal best keys = fold (aged_key role renewal) best keys
+
 abbrev pub aged_entry : KeyRole → Term → Option ℕ → Lent → Option ℕ
 aged_entry role renewal best e = aged_key role renewal best e.1.now
 

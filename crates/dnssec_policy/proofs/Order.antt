@@ -17,7 +17,8 @@ use Rattle.dnssec_policy.specs.declared.policy.{Policy.Policy, Scheme.Scheme}
 use Rattle.dnssec_policy.specs.declared.policy.Scheme.TheVariants.{Split, SingleType}
 use Rattle.dnssec_policy.specs.Keys.{ksk_roll, rolls_of, zsk_roll}
 use Rattle.dnssec_policy.specs.Next.{change, deletion, deletions, next_of, phase_next, renewal}
-use Rattle.dnssec_policy.specs.{Next.renewals, Next.rolls_next, Stuck.stuck, Stuck.stuck_of}
+use Rattle.dnssec_policy.specs.{Next.renewals, Next.rolls_next, Next.task_of, Stuck.stuck}
+use Rattle.dnssec_policy.specs.Stuck.{stuck_of}
 use Rattle.dnssec_policy.specs.Todo.{Todo, Rest, is_sooner, moment_of, rank, sooner}
 use Rattle.dnssec_policy.specs.View.{View}
 
@@ -73,6 +74,15 @@ second a b = of-second a b (is_sooner a b) refl
 left : (a b x : Todo) → NotLater a x → NotLater (sooner a b) x
 left a b x le = follows (sooner a b) a x (first a b) le
 
+-- what is the best of all is no later than what was the best before
+kept : {A : Type 0} (says : A → Todo) (xs : List A) (t : Todo)
+    → NotLater (fold (λ best x. sooner best (says x)) t xs) t
+kept says [] t = reflexive t
+kept says (x ∷ xs) t =
+    let next = sooner t (says x) in
+    follows (fold (λ best x. sooner best (says x)) next xs) next t (kept says xs next)
+    (first t (says x))
+
 -- ---- of the rolls
 
 pub among : (roll : RollType) → list_any (same_roll roll) all_rolls ≡ true
@@ -86,11 +96,6 @@ module _ (v : View) where
   best_of best rs =
       fold (λ best roll. sooner best (phase_next v roll (phase_of v.set.rolls roll))) best rs
 
-  best-kept : (rs : List RollType) (t : Todo) → NotLater (best_of t rs) t
-  best-kept [] t = itself (rank t) (moment_of t)
-  best-kept (r ∷ rs) t = follows (best_of (sooner t (says r)) rs) (sooner t (says r)) t
-      (best-kept rs (sooner t (says r))) (first t (says r))
-
   best-said : (rs : List RollType) (t : Todo) (roll : RollType)
       → list_any (same_roll roll) rs ≡ true → NotLater (best_of t rs) (says roll)
   best-said [] t roll e = absurd (true≢false (sym e))
@@ -98,7 +103,7 @@ module _ (v : View) where
     | inl same ↦ subst (λ x. NotLater (best_of (sooner t (says r)) rs) (says x))
         (sym (same-is roll r same))
         (follows (best_of (sooner t (says r)) rs) (sooner t (says r)) (says r)
-        (best-kept rs (sooner t (says r))) (second t (says r)))
+        (kept says rs (sooner t (says r))) (second t (says r)))
     | inr apart ↦ best-said rs (sooner t (says r)) roll
         (sym (ap (λ b. b || list_any (same_roll roll) rs) apart) ∙ e)
   ]
@@ -122,22 +127,18 @@ module _ (policy : Policy) (v : View) where
   abbrev renewed : Todo
   renewed = renewals policy v policy.scheme
 
-  -- all but the causes for which nothing is done
-  abbrev wanted : Todo
-  wanted = sooner (sooner (sooner rolls gone) other) renewed
-
   abbrev cause : Todo
   cause = stuck (stuck_of policy v)
 
-  wanted-said : (x : Todo) → NotLater wanted x → NotLater (next_of policy v) x
-  wanted-said x le = left wanted cause x le
+  task-said : (x : Todo) → NotLater (task_of policy v) x → NotLater (next_of policy v) x
+  task-said x le = left (task_of policy v) cause x le
 
   pub cause-said : NotLater (next_of policy v) (stuck (stuck_of policy v))
-  cause-said = second wanted cause
+  cause-said = second (task_of policy v) cause
 
   -- the rolls and the deletions
   early-said : (x : Todo) → NotLater (sooner rolls gone) x → NotLater (next_of policy v) x
-  early-said x le = wanted-said x
+  early-said x le = task-said x
       (left (sooner (sooner rolls gone) other) renewed x (left (sooner rolls gone) other x le))
 
   pub roll-said : (roll : RollType)
@@ -150,15 +151,11 @@ module _ (policy : Policy) (v : View) where
   deletions-said = early-said gone (second rolls gone)
 
   -- what each key has to say
-  abbrev best_key : Todo → List (List ℕ × KeyParts) → Todo
-  best_key best es =
-      fold (λ best (e : List ℕ × KeyParts). sooner best (deletion policy v e.0 e.1)) best es
+  abbrev says-gone : List ℕ × KeyParts → Todo
+  says-gone e = deletion policy v e.0 e.1
 
-  keys-kept : (es : List (List ℕ × KeyParts)) (t : Todo) → NotLater (best_key t es) t
-  keys-kept [] t = reflexive t
-  keys-kept (e ∷ es) t =
-      let next = sooner t (deletion policy v e.0 e.1) in
-      follows (best_key next es) next t (keys-kept es next) (first t (deletion policy v e.0 e.1))
+  abbrev best_key : Todo → List (List ℕ × KeyParts) → Todo
+  best_key best es = fold (λ best e. sooner best (says-gone e)) best es
 
   keys-said : (es : List (List ℕ × KeyParts)) (t : Todo) (q : List ℕ) (k : KeyParts)
       → find (slice_cmp nat_cmp) q es ≡ Some k → NotLater (best_key t es) (deletion policy v q k)
@@ -171,7 +168,7 @@ module _ (policy : Policy) (v : View) where
             let one : q ≡ e.0 = same_key q e.0 same in
             let key : e.1 ≡ k = same_Some e.1 k
             (sym (ap (λ b. cond b (Some e.1) (find (slice_cmp nat_cmp) q es)) same) ∙ f) in
-            let le = follows (best_key next es) next x (keys-kept es next) (second t x) in
+            let le = follows (best_key next es) next x (kept says-gone es next) (second t x) in
             subst (λ q. NotLater (best_key next es) (deletion policy v q k)) (sym one)
             (subst (λ k. NotLater (best_key next es) (deletion policy v e.0 k)) key le)
         | inr apart ↦ keys-said es next q k
@@ -185,11 +182,11 @@ module _ (policy : Policy) (v : View) where
       deletions-said (keys-said (entries v.set.keys) Rest q k f)
 
   pub change-said : NotLater (next_of policy v) other
-  change-said = wanted-said other
+  change-said = task-said other
       (left (sooner (sooner rolls gone) other) renewed other (second (sooner rolls gone) other))
 
   pub renewals-said : NotLater (next_of policy v) renewed
-  renewals-said = wanted-said renewed (second (sooner (sooner rolls gone) other) renewed)
+  renewals-said = task-said renewed (second (sooner (sooner rolls gone) other) renewed)
 
   -- a roll by which the scheme renews keys
   among-scheme : (scheme : Scheme) (roll : RollType)

@@ -32,15 +32,16 @@ use Rattle.dnssec_policy.specs.declared.policy.Scheme.TheVariants.{Split, Single
 use Rattle.dnssec_policy.specs.declared.{policy.ZskMethod.ZskMethod, why.Why.Why}
 use Rattle.dnssec_policy.specs.InProgress.{awaited, end_next, ends_with, later, once, once_settled}
 use Rattle.dnssec_policy.specs.InProgress.{once_there, report_next, report_or, wait_next}
-use Rattle.dnssec_policy.specs.Keys.{earlier, first_from, first_over, goes, has_left, is_unwanted}
+use Rattle.dnssec_policy.specs.Keys.{earlier, first_over, goes, has_left, is_unwanted}
 use Rattle.dnssec_policy.specs.Keys.{ksk_roll, leaves_from, new_keys, over_from, references_where}
 use Rattle.dnssec_policy.specs.Keys.{renewal_of, role_of, roles_of, serves, wants_others, zsk_roll}
 use Rattle.dnssec_policy.specs.Next.{at_moment, change, deletion, deletions, may_begin, next_of}
 use Rattle.dnssec_policy.specs.Next.{once_all_ended, once_ended, phase_next, renewal, renewals}
-use Rattle.dnssec_policy.specs.{Next.rolls_next, Next.start_with, Stuck.stuck, Stuck.stuck_of}
+use Rattle.dnssec_policy.specs.Next.{rolls_next, start_with, task_of}
+use Rattle.dnssec_policy.specs.Stuck.{stuck, stuck_of}
 use Rattle.dnssec_policy.specs.Todo.{Todo, Make, NotBefore, Rest, is_sooner, sooner}
 use Rattle.dnssec_policy.specs.{Ttls.lasting, View.View, View.reach_in}
-use Rattle.dnssec_policy.proofs.Order.{among}
+use Rattle.dnssec_policy.proofs.{Loops.first_from, Order.among}
 use Rattle.dnssec_policy.proofs.May.{IsChange, IsRenewal, IsSettled, May, is_renewal}
 
 -- ---- of two
@@ -354,22 +355,28 @@ module _ (policy : Policy) (v : View) where
 
   -- ---- all of it
 
-  pub may : (c : keyset.Call) → next_of policy v ≡ Make c → May policy v c
+  pub may : (c : keyset.Call) → task_of policy v ≡ Make c → May policy v c
   may c e =
       let a = rolls_next v in
       let b = deletions policy v in
       let d = change policy v in
-      let r = renewals policy v policy.scheme in
-      elim (of_two (sooner (sooner (sooner a b) d) r) (stuck (stuck_of policy v)) c e) [
-        | inl e ↦ elim (of_two (sooner (sooner a b) d) r c e) [
-          | inl e ↦ elim (of_two (sooner a b) d c e) [
-            | inl e ↦ elim (of_two a b c e) [
-              | inl e ↦ elim (rolls c all_rolls Rest e) [ inl n ↦ absurd (cc) | inr m ↦ m ]
-              | inr e ↦ deletes c e
-            ]
-            | inr e ↦ changed c e
+      elim (of_two (sooner (sooner a b) d) (renewals policy v policy.scheme) c e) [
+        | inl e ↦ elim (of_two (sooner a b) d c e) [
+          | inl e ↦ elim (of_two a b c e) [
+            | inl e ↦ elim (rolls c all_rolls Rest e) [ inl n ↦ absurd (cc) | inr m ↦ m ]
+            | inr e ↦ deletes c e
           ]
-          | inr e ↦ all policy.scheme c e
+          | inr e ↦ changed c e
         ]
-        | inr e ↦ absurd (uncaused (stuck_of policy v) c e)
+        | inr e ↦ all policy.scheme c e
       ]
+
+  -- a cause is no call
+  pub task-said : (c : keyset.Call) → next_of policy v ≡ Make c → task_of policy v ≡ Make c
+  task-said c e = elim (of_two (task_of policy v) (stuck (stuck_of policy v)) c e) [
+    | inl e ↦ e
+    | inr e ↦ absurd (uncaused (stuck_of policy v) c e)
+  ]
+
+  pub may-next : (c : keyset.Call) → next_of policy v ≡ Make c → May policy v c
+  may-next c e = may c (task-said c e)

@@ -19,7 +19,7 @@ use Rattle.dnssec_run.specs.declared.record.Entry.{Entry}
 use Rattle.dnssec_run.specs.Record.{call_of, is_accepted, world_at}
 use Rattle.dnssec_run.specs.{Safe.SetKind, Steps.last_step}
 use Rattle.dnssec_network.specs.{Facts.AreTrue, Network.Network}
-use Rattle.dnssec_policy.specs.{declared.policy.Policy.Policy, Next.next_of, Todo.Make}
+use Rattle.dnssec_policy.specs.{declared.policy.Policy.Policy, Next.task_of, Todo.Make}
 use Rattle.dnssec_policy.specs.{Ttls.highest_of, View.View}
 
 -- ---- the last second wait of a roll
@@ -50,14 +50,14 @@ pub record IsViewAt (name : List ℕ) (calls : List Call) (entries : List Entry)
   pub are_true : AreTrue v.before v.facts network time
 
 -- the call after position n is what some policy said to do next, at a moment that the clock had
--- reached when the call was made
+-- reached when the call was made. (A call is said before any cause for which nothing is done.)
 pub record IsSaid (name : List ℕ) (calls : List Call) (entries : List Entry) (network : Network)
     (time n : ℕ) (call : Call) : Type 0 where
   pub policy : Policy
   pub view : View
   pub at : IsViewAt name calls entries network time n view
   pub clock : view.now ≤ network.made (suc n)
-  pub said : next_of policy view ≡ Make (call_of call)
+  pub said : task_of policy view ≡ Make (call_of call)
 
 -- the call adds a key
 abbrev pub is_add : Call → Bool

@@ -153,14 +153,11 @@ over_from renewal published =
     earlier (over_by_age renewal.lifetime (unwrap_or published 0))
     (over_on_demand renewal.once (unwrap_or published 0))
 
--- the first such moment of the keys at work, and of the best so far
-abbrev pub first_from : KeyRole → Term → Option ℕ → List KeyParts → Option ℕ
-first_from role renewal best keys =
-    fold (λ best (k : KeyParts). if serves role k.keytype
-    then earlier best (over_from renewal k.timestamps.published) else best) best keys
-
+-- the first such moment of the keys at work
 abbrev pub first_over : KeyRole → Term → List KeyParts → Option ℕ
-first_over role renewal keys = first_from role renewal None keys
+first_over role renewal keys =
+    fold (λ best (k : KeyParts). if serves role k.keytype
+    then earlier best (over_from renewal k.timestamps.published) else best) None keys
 
 -- ---- keys that have left
 

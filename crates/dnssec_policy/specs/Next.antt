@@ -88,10 +88,15 @@ renewals policy v SingleType = renewal policy v CskRoll
 
 -- ---- all of it
 
+-- what there is to do, or to wait for
+abbrev pub task_of : Policy → View → Todo
+task_of policy v =
+    sooner (sooner (sooner (rolls_next v) (deletions policy v)) (change policy v))
+    (renewals policy v policy.scheme)
+
+-- or why nothing is done
 abbrev pub next_of : Policy → View → Todo
-next_of policy v =
-    sooner (sooner (sooner (sooner (rolls_next v) (deletions policy v)) (change policy v))
-    (renewals policy v policy.scheme)) (stuck (stuck_of policy v))
+next_of policy v = sooner (task_of policy v) (stuck (stuck_of policy v))
 
 -- ---- what is answered
 

@@ -1,12 +1,12 @@
 -- A line that says a call is read as that call.
-use Rattle.std.proofs.Common.{◌≡◌, ℕ, ◌<◌, ◌≤◌, ◌*◌, ◌==◌, ◌⊎◌, ◌∙◌, ◌++◌, ◌∷◌, inl, inr, List, []}
-use Rattle.std.proofs.Common.{Some, Bool, true, false, not, bytes_eq, codes, decimal, length}
+use Rattle.std.proofs.Common.{◌≡◌, ℕ, ◌≤◌, ◌*◌, ◌==◌, ◌⊎◌, ◌∙◌, ◌++◌, ◌∷◌, inl, inr, List, []}
+use Rattle.std.proofs.Common.{Some, Bool, true, false, not, bytes_eq, codes, decimal}
 use Rattle.std.proofs.Common.{map, append_assoc, ap, arith, refl, subst, sym}
-use Rattle.std.proofs.lemmas.Bool.{and_parts, cases_Bool, false_from_ne_true, true≢false}
+use Rattle.std.proofs.lemmas.Bool.{and_parts, false_from_ne_true, true≢false}
 use Rattle.std.proofs.lemmas.{Bool.Decides.nat_tests, List.append-nil}
-use Rattle.std.proofs.lemmas.List.Splits.{length-slice_split, slice_split_at, slice_split_none}
+use Rattle.std.proofs.lemmas.List.Splits.{slice_split_at, slice_split_none}
 use Rattle.std.proofs.lemmas.List.Sums.{AllPass-from_list_all, list_all-from_AllPass}
-use Rattle.std.specs.List.{flat_map, list_all, onto_first, slice_split}
+use Rattle.std.specs.List.{flat_map, list_all, slice_split}
 use Rattle.std.specs.Prelude.{if◌then◌else◌, None, option_and_then, slice_index_or}
 use Rattle.std.specs.Cmp.Lexicographic.{bytes_decides}
 use denote.Bor.{Bor, now}

@@ -1,7 +1,7 @@
 -- The last line of a text, and the lines above it.
 use Rattle.std.proofs.Common.{◌≡◌, ◌∙◌, ℕ, zero, suc, ◌+◌, ◌-◌, ◌<◌, ◌≤◌, ◌++◌, ◌∷◌, ◌==◌, List, []}
 use Rattle.std.proofs.Common.{Bool, true, false, ap, arith, drop, get_or, if◌then◌else◌}
-use Rattle.std.proofs.Common.{length, length-drop, refl, subst, sym, take}
+use Rattle.std.proofs.Common.{length, length-drop, subst, sym, take}
 use Rattle.std.specs.List.{onto_first, slice_split}
 use Rattle.std.proofs.lemmas.List.{drop_more, take-append-drop, take_all, take_more}
 use Rattle.std.proofs.lemmas.List.Splits.{slice_split-cons_no}

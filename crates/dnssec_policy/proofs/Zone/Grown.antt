@@ -5,9 +5,9 @@ use Rattle.std.proofs.Common.{filter, inl, inr, length, length-append, map, subs
 use Rattle.std.proofs.Math.Seq.{get_or-append_seam}
 use Rattle.std.proofs.lemmas.List.{get_or_append_left, map-append, Elements.filter-append}
 use Rattle.dnssec_run.specs.declared.{call.Call.Call, record.Entry.Entry, record.Reply.Reply}
-use Rattle.dnssec_run.specs.{Record.call_of, Safe.SetKind, Safe.kind_of}
+use Rattle.dnssec_run.specs.{Record.call_of, Safe.kind_of}
 use Rattle.dnssec_network.specs.Facts.{Before, AreTrue, AreTrueFrom, news_of, same_kind}
-use Rattle.dnssec_network.specs.{Network.Network, declared.fact.Fact.Fact, declared.fact.News.News}
+use Rattle.dnssec_network.specs.{Network.Network, declared.fact.Fact.Fact}
 use Rattle.dnssec_network.proofs.Noted.{true-parts}
 use Rattle.dnssec_policy.specs.{declared.policy.Policy.Policy, Automatic.IsSaid, Automatic.is_add}
 use Rattle.dnssec_policy.specs.{ByHand.first_by_hand, Todo.Make}
