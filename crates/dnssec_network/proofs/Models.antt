@@ -1,7 +1,7 @@
 -- Prompt servers, and notes of what they give, meet all premises.
-use Rattle.std.proofs.Common.{Bool, List, None, Ok, Some, [], ap, arith, false, length, refl, subst}
-use Rattle.std.proofs.Common.{suc, sym, true, zero, ℕ, ◌+◌, ◌<◌, ◌∷◌, ◌∙◌, ◌≡◌, ◌≤◌}
-use Rattle.std.specs.Prelude.{fold, max, ◌-◌}
+use Rattle.std.proofs.Common.{Bool, List, None, Ok, Option, Some, [], ap, arith, false, length}
+use Rattle.std.proofs.Common.{refl, subst, suc, sym, true, zero, ℕ, ◌+◌, ◌<◌, ◌∷◌, ◌∙◌, ◌≡◌, ◌≤◌}
+use Rattle.std.specs.{Option.ok_or, Prelude.fold, Prelude.max, Prelude.◌-◌}
 use Rattle.dnssec_key.specs.declared.roll.RollType.{RollType}
 use Rattle.dnssec_run.proofs.{Chain.History.base-lies-below, Since.origin-le}
 use Rattle.dnssec_run.specs.Origins.{origin}
@@ -12,7 +12,7 @@ use Rattle.dnssec_run.specs.declared.caches.SetKind.TheVariants as code
 use Rattle.dnssec_network.proofs.{Held.report-within, Noted.noted_reports}
 use Rattle.dnssec_network.specs.Facts.{Before, AreTrueFrom, news_of, ttl_before}
 use Rattle.dnssec_network.specs.Models.{IsByTheClock, NoTtlBelow, PremisesCanBeMet, made_since}
-use Rattle.dnssec_network.specs.{Models.prompt, Reports.due_or, Reports.higher}
+use Rattle.dnssec_network.specs.{Models.prompt, Reports.higher}
 use Rattle.dnssec_network.specs.Network.{IsNetworkOf, Network, NoneLiesAhead, ReportsAreTrue}
 use Rattle.dnssec_network.specs.Reports.{NoneGoesBack, ReportsAreByNotes, due, due_of}
 use Rattle.dnssec_network.specs.Spread.{after, due_for, end_of, first_spread, known, seconds_left}
@@ -205,7 +205,7 @@ module _ (first start ttl time : ℕ) (entries : List Entry) (within : first ≤
       → due_for base (known base ttl (news_from first start ttl first (at - first)))
       (made_since first start at) ≡ Some least
       → due_of earlier (noted at) kind true base (made_since first start at) ≡ Ok least
-  each-due base at least kind e = ap (due_or kind) ((λ i. due_for base
+  each-due base at least kind e = ap (λ (o : Option ℕ). ok_or o kind) ((λ i. due_for base
       (known base (earlier-is (kind_of kind) i)
       (news-of first start ttl (kind_of kind) first (at - first) i))
       (made_since first start at)) ∙ e)

@@ -1,7 +1,7 @@
 -- The TTL with which a report is due, by what is noted; and that the report is then true.
 use Rattle.std.specs.Prelude.{◌≡◌, ℕ, ◌≤◌, Bool, max, List, Option, None, Some, Result, Ok, Err}
 use Rattle.std.specs.Prelude.{if◌then◌else◌, true, nat_lt, option_and_then, unwrap_or}
-use Rattle.std.specs.Option.{option_map}
+use Rattle.std.specs.Option.{ok_or, option_map}
 use Rattle.dnssec_key.specs.RollTable.{is_second}
 use Rattle.dnssec_key.specs.declared.roll.Half.{Half, TheVariants.First, TheVariants.Second}
 use Rattle.dnssec_key.specs.declared.roll.RollState.{RollState}
@@ -22,22 +22,18 @@ use Rattle.dnssec_network.specs.Spread.{due_for, known}
 
 -- ---- which TTL is due
 
--- a TTL, or the kind that it is not yet due for
-abbrev pub due_or : Kind → Option ℕ → Result ℕ Kind
-due_or kind None = Err kind
-due_or kind (Some ttl) = Ok ttl
-
 -- the higher of two TTLs, or the first kind that has none yet
 abbrev pub higher : Result ℕ Kind → Result ℕ Kind → Result ℕ Kind
 higher (Ok a) (Ok b) = Ok (max a b)
 higher (Ok a) (Err kind) = Err kind
 higher (Err kind) other = Err kind
 
--- the TTL for a kind that the report speaks of; for another any will do
+-- the TTL for a kind that the report speaks of, or the kind if none is due yet; for another kind
+-- any will do
 abbrev pub due_of : Before → List Fact → Kind → Bool → ℕ → ℕ → Result ℕ Kind
 due_of before facts kind speaks base now =
-    if speaks then due_or kind (due_for base
-    (known base (ttl_before before (kind_of kind)) (news_of (kind_of kind) facts)) now)
+    if speaks then ok_or (due_for base
+    (known base (ttl_before before (kind_of kind)) (news_of (kind_of kind) facts)) now) kind
     else Ok 0
 
 -- The highest TTL for all kinds that a report of the roll speaks of; or the first such kind whose

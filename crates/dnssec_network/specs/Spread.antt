@@ -1,7 +1,7 @@
 -- How far the versions of one kind of sets have spread, by what is noted of them, and the TTL with
 -- which a report is then true.
-use Rattle.std.specs.Prelude.{ℕ, ◌+◌, ◌*◌, ◌-◌, ◌/◌, ◌&&◌, Bool, false, true, max, fold, List}
-use Rattle.std.specs.Prelude.{Option, None, Some, if◌then◌else◌, nat_le, nat_lt, unwrap_or}
+use Rattle.std.specs.Prelude.{ℕ, ◌+◌, ◌*◌, ◌-◌, ◌/◌, ◌&&◌, max, fold, List}
+use Rattle.std.specs.Prelude.{Option, None, Some, if◌then◌else◌, is_none, nat_le, nat_lt, unwrap_or}
 use Rattle.dnssec_network.specs.declared.fact.News.{News}
 use Rattle.dnssec_network.specs.declared.fact.News.TheVariants.{Published, Everywhere}
 use Rattle.dnssec_network.specs.declared.spread.Spread.{Spread}
@@ -66,14 +66,9 @@ abbrev pub seconds_until : ℕ → ℕ → Option ℕ
 seconds_until end now =
     if nat_le (seconds_left end now) 4_294_967_295 then Some (seconds_left end now) else None
 
--- no server gives an older version any more
-abbrev pub is_none_older : Option ℕ → Bool
-is_none_older None = true
-is_none_older (Some ttl) = false
-
--- the TTL with which a report at the moment is true; none as long as servers may give an
--- older version
+-- the TTL with which a report at the moment is true; none as long as servers may give an older
+-- version
 abbrev pub due_for : ℕ → Spread → ℕ → Option ℕ
 due_for base s now =
-    if nat_le base s.position && is_none_older s.older && nat_le s.seen now
+    if nat_le base s.position && is_none s.older && nat_le s.seen now
     then seconds_until s.expired now else None

@@ -2,6 +2,7 @@
 use Rattle.std.proofs.Common.{◌≡◌, ℕ, ◌+◌, ◌≤◌, Bool, true, false, List, [], ◌∷◌, Option, None}
 use Rattle.std.proofs.Common.{Some, Ok, max, refl, sym, ap, subst, ◌∙◌, arith, fold, if◌then◌else◌}
 use Rattle.std.proofs.lemmas.Bool.{and_parts, le-leb}
+use Rattle.std.specs.Option.{is_none, ok_or}
 use Rattle.std.specs.Prelude.{◌&&◌, ◌-◌, nat_le, nat_lt, unwrap_or}
 use Rattle.std.specs.List.{list_all}
 use Rattle.dnssec_key.specs.declared.roll.{RollType.RollType, Half.Half}
@@ -17,9 +18,9 @@ use Rattle.dnssec_network.specs.declared.fact.News.{News}
 use Rattle.dnssec_network.specs.declared.fact.News.TheVariants.{Published, Everywhere}
 use Rattle.dnssec_network.specs.declared.reach.Reach.{Reach}
 use Rattle.dnssec_network.specs.{Facts.moment_of, Facts.news_of, Facts.ttl_before, Reach.reach_of}
-use Rattle.dnssec_network.specs.Reports.{due, due_of, due_or, higher}
+use Rattle.dnssec_network.specs.Reports.{due, due_of, higher}
 use Rattle.dnssec_network.specs.Spread.{after, due_for, end_of, expired_after, first_spread}
-use Rattle.dnssec_network.specs.Spread.{is_none_older, known, seconds_left, seconds_until}
+use Rattle.dnssec_network.specs.Spread.{known, seconds_left, seconds_until}
 use Rattle.dnssec_network.specs.declared.reach.Reach.TheVariants as reach
 use Rattle.dnssec_policy.specs.InProgress.{end_next, once_there, later, report_next}
 use Rattle.dnssec_policy.specs.InProgress.{ends_with, once, report_or}
@@ -92,7 +93,7 @@ module _ (now : ℕ) where
 
   due-within : (base h y : ℕ) (a : Spread) → Within h a → due_for base a now ≡ Some y → y ≤ h + 1
   due-within base h y a w is =
-      by (nat_le base a.position && is_none_older a.older && nat_le a.seen now) is
+      by (nat_le base a.position && is_none a.older && nat_le a.seen now) is
     where
       by : (t : Bool) → (if t then seconds_until a.expired now else None) ≡ Some y → y ≤ h + 1
       by true e = until-within h a.expired y w.expired e
@@ -109,10 +110,10 @@ module _ (now : ℕ) where
   there-due : (base h : ℕ) (a : Spread) → Within h a → h + 1 ≤ 4_294_967_295
       → reach_of base a now ≡ reach.Everywhere → (y : ℕ) × (due_for base a now ≡ Some y)
   there-due base h a w small is =
-      by (nat_lt a.position base) refl (is_none_older a.older && nat_le a.seen now) refl is
+      by (nat_lt a.position base) refl (is_none a.older && nat_le a.seen now) refl is
     where
       by : (p : Bool) → nat_lt a.position base ≡ p → (q : Bool)
-          → (is_none_older a.older && nat_le a.seen now) ≡ q
+          → (is_none a.older && nat_le a.seen now) ≡ q
           → (if p then reach.Unpublished else (if q then reach.Everywhere else reach.Spreading))
           ≡ reach.Everywhere → (y : ℕ) × (due_for base a now ≡ Some y)
       by true e q f is = absurd (cc)
@@ -122,7 +123,7 @@ module _ (now : ℕ) where
           le-leb base a.position (grind (arith, e)) in
           let y = until-some h a.expired w.expired small in (
             y.0,
-            ap (λ (t : Bool). if t && is_none_older a.older && nat_le a.seen now
+            ap (λ (t : Bool). if t && is_none a.older && nat_le a.seen now
                 then seconds_until a.expired now else None) on
                 ∙ ap (λ (t : Bool). if t then seconds_until a.expired now else None) f ∙ y.1,
           )
@@ -163,7 +164,7 @@ module _ (v : View) (ahead : NoneLiesAheadOf v)
       by (due_for base (spread (kind_of kind) base) v.now) refl is
     where
       by : (o : Option ℕ) → due_for base (spread (kind_of kind) base) v.now ≡ o
-          → due_or kind o ≡ Ok y → y ≤ v.highest (kind_of kind) + 1
+          → ok_or o kind ≡ Ok y → y ≤ v.highest (kind_of kind) + 1
       by None e is = absurd (cc)
       by (Some n) e is =
           let same : n ≡ y = cc in
@@ -204,7 +205,7 @@ module _ (v : View) (ahead : NoneLiesAheadOf v)
     kind-there kind true base small there =
         let y = there-due v.now base (v.highest (kind_of kind)) (spread (kind_of kind) base)
         (within (kind_of kind) base) (small refl) (there refl) in
-        (y.0, ap (due_or kind) y.1)
+        (y.0, ap (λ (o : Option ℕ). ok_or o kind) y.1)
 
     small-kind : (kind : SetKind) → report_takes v.highest roll second ≤ 4_294_967_295
         → if_retired v.highest roll second kind ≤ at_most_due v.highest roll second - 1

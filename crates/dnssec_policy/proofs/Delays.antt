@@ -9,7 +9,7 @@ use Rattle.dnssec_key.specs.declared.roll.{RollType.RollType, Half.Half}
 use Rattle.dnssec_key.specs.declared.roll.Half.TheVariants.{First, Second}
 use Rattle.dnssec_key.specs.RollTable.{cache_expire, is_second}
 use Rattle.dnssec_zone.specs.Rolls.{phase_of, same_roll}
-use Rattle.dnssec_zone.specs.{Start.together, Wait.ttl_in, Wait.wait_in_phase}
+use Rattle.dnssec_zone.specs.{Start.together, Wait.wait_in_phase}
 use Rattle.dnssec_zone.specs.Wait as waits
 use Rattle.dnssec_keyset.specs.{KeySet.KeySetParts, WaitEnd.EndsAt, WaitEnd.TellsEnd}
 use Rattle.dnssec_keyset.specs.declared.wait.WaitEnd.{WaitEnd, TheVariants.At, TheVariants.PastTime}

@@ -4,6 +4,7 @@ use Rattle.std.proofs.Common.{◌≡◌, ℕ, suc, ◌+◌, ◌*◌, ◌≤◌, 
 use Rattle.std.proofs.Common.{List, [], ◌∷◌, Option, None, Some, Ok, map, max}
 use Rattle.std.proofs.Common.{refl, sym, ap, subst, ◌∙◌, arith, fold, if◌then◌else◌}
 use Rattle.std.proofs.lemmas.Bool.{le-leb}
+use Rattle.std.specs.Option.{is_none, ok_or}
 use Rattle.std.specs.Prelude.{◌&&◌, nat_le, nat_lt, unwrap_or}
 use Rattle.dnssec_key.specs.declared.roll.RollType.{RollType}
 use Rattle.dnssec_run.specs.declared.caches.SetKind.{SetKind as Kind}
@@ -13,9 +14,9 @@ use Rattle.dnssec_network.specs.declared.fact.{Fact.Fact, News.News}
 use Rattle.dnssec_network.specs.declared.fact.News.TheVariants.{Published, Everywhere}
 use Rattle.dnssec_network.specs.Facts.{Before, AreTrue, AreTrueFrom, news_of, ttl_before}
 use Rattle.dnssec_network.specs.Network.{Network}
-use Rattle.dnssec_network.specs.Reports.{due, due_of, due_or, higher}
+use Rattle.dnssec_network.specs.Reports.{due, due_of, higher}
 use Rattle.dnssec_network.specs.Spread.{after, due_for, expired_after, first_spread}
-use Rattle.dnssec_network.specs.Spread.{is_none_older, known, seconds_left, seconds_until}
+use Rattle.dnssec_network.specs.Spread.{known, seconds_left, seconds_until}
 use Rattle.dnssec_policy.{specs.Kept.keeping, proofs.Dues.due-parts, proofs.Spreads.Spread}
 
 -- ---- the same notes, with a higher TTL for each DS set
@@ -173,16 +174,16 @@ module _ (s : ℕ) where
         )
     left-due e end le false is = absurd (cc)
 
-    still-none : (o : Option ℕ) → is_none_older (raised o) ≡ is_none_older o
+    still-none : (o : Option ℕ) → is_none (raised o) ≡ is_none o
     still-none None = refl
     still-none (Some ttl) = refl
 
     due-for : (base : ℕ) (a : Spread) (e : ℕ) → Within e a → due_for base a now ≡ Some x
         → (y : ℕ) × (due_for base (higher-spread e a) now ≡ Some y) × (y ≤ x + s)
     due-for base a e le is =
-        let found = on (nat_le base a.position && is_none_older a.older && nat_le a.seen now) is in
+        let found = on (nat_le base a.position && is_none a.older && nat_le a.seen now) is in
         let same : due_for base (higher-spread e a) now
-        ≡ (if nat_le base a.position && is_none_older a.older && nat_le a.seen now
+        ≡ (if nat_le base a.position && is_none a.older && nat_le a.seen now
         then seconds_until e now else None) =
         ap (λ (b : Bool). if nat_le base a.position && b && nat_le a.seen now
         then seconds_until e now else None) (still-none a.older) in
@@ -194,7 +195,7 @@ module _ (s : ℕ) where
             (nat_le (seconds_left a.expired now) 4_294_967_295) h
         on false h = absurd (cc)
 
-  some-due : (o : Option ℕ) (x : ℕ) → due_or code.Ds o ≡ Ok x → o ≡ Some x
+  some-due : (o : Option ℕ) (x : ℕ) → ok_or o code.Ds ≡ Ok x → o ≡ Some x
   some-due None x e = absurd (cc)
   some-due (Some n) x e = let same : n ≡ x = cc in ap Some same
 
@@ -212,8 +213,8 @@ module _ (s : ℕ) where
         let same : known base (before.ds + s) (news_of Ds (kept facts)) ≡ higher-spread found.0 a =
         ap (λ (ns : List News). known base (before.ds + s) ns) (ds-news facts) ∙ found.1 in (
           d.0,
-          ap (λ (b : Spread). due_or code.Ds (due_for base b now)) same
-              ∙ ap (due_or code.Ds) d.1,
+          ap (λ (b : Spread). ok_or (due_for base b now) code.Ds) same
+              ∙ ap (λ (o : Option ℕ). ok_or o code.Ds) d.1,
           d.2,
         )
 
@@ -223,8 +224,8 @@ module _ (s : ℕ) where
         → news_of (kind_of kind) (kept facts) ≡ news_of (kind_of kind) facts
         → (t : Bool) (base : ℕ) → due_of (kept_before s before) (kept facts) kind t base now
         ≡ due_of before facts kind t base now
-    others-due kind first news true base = λ i. due_or kind
-        (due_for base (known base (first i) (news i)) now)
+    others-due kind first news true base = λ i. ok_or
+        (due_for base (known base (first i) (news i)) now) kind
     others-due kind first news false base = refl
 
     pub still-due : (roll : RollType) (second : Bool) (from : SetKind → ℕ) (least : ℕ)

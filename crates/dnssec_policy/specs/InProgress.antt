@@ -42,8 +42,7 @@ report_with v roll half ttl =
     if nat_le ttl 4_294_967_295 then Make (Report roll half ttl v.now) else later v.now
 
 -- a report that lasts longer than the TTL that is due, or what it waits for of the sets that came
--- at
--- these positions
+-- at these positions
 abbrev pub report_or : View → RollType → Half → Origins → Result ℕ SetKind → Todo
 report_or v roll half origins (Ok ttl) =
     report_with v roll half (lasting v.highest roll (is_second half) ttl)

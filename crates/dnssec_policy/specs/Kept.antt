@@ -1,6 +1,6 @@
 -- Validators that ask for a chain by each algorithm of a DS set, also after they have dropped the
--- set:
--- with a DNSKEY set in a cache they keep the algorithms of the DS set by which they checked it.
+-- set: with a DNSKEY set in a cache they keep the algorithms of the DS set by which they checked
+-- it.
 use Rattle.std.specs.Prelude.{◌≡◌, ℕ, ◌+◌, ◌*◌, ◌<◌, ◌≤◌, ◌⊎◌, true, List, slice_get, Some}
 use Rattle.std.specs.List.{Contains}
 use Rattle.dnssec_run.specs.ByAlgorithm.{TrustsZoneBy, algorithm_of}
@@ -36,8 +36,7 @@ IsAutomaticKeeping seconds name calls entries network time =
     × (seconds ≤ keeps said.view.highest))
 
 -- then validators find a chain by each algorithm, also of a DS set that they dropped so many
--- seconds
--- ago
+-- seconds ago
 abbrev pub AutomaticRunsServeKeepers : Type 0
 AutomaticRunsServeKeepers =
     (name : List ℕ) (calls : List Call) (entries : List Entry) (network : Network)

@@ -1,7 +1,6 @@
 -- What a policy says to do next: rolls in progress go on, keys that have left are deleted, and
 -- rolls start that the policy wants. The most urgent of all that is said; and if nothing can be
--- done,
--- why.
+-- done, why.
 use Rattle.std.specs.Prelude.{ℕ, ◌&&◌, not, List, ◌∷◌, [], nat_le, Option, None, Some}
 use Rattle.std.specs.Prelude.{if◌then◌else◌, Result, Ok, Err}
 use Rattle.std.specs.{List.fold, FinMap.entries, FinMap.values}

@@ -25,8 +25,7 @@ pub data Todo : Type 0 where
   Rest : Todo
 
 -- What is asked of CDS and CDNSKEY beside it. They are in the zone while the DS set changes. They
--- leave
--- once all servers of the parent give it, and that is noted only once no server gives them.
+-- leave once all servers of the parent give it, and that is noted only once no server gives them.
 abbrev pub cds_with : Todo → Option Cds
 cds_with (Publish Ds) = Some In
 cds_with (Watch Ds) = Some Out

@@ -47,9 +47,8 @@ abbrev pub keeps : (SetKind → ℕ) → ℕ
 keeps ttl = ttl Dnskey + 1
 
 -- The TTL of a report, by the TTL that is due for what it speaks of. One that speaks of DS sets
--- also
--- counts the algorithms that validators keep with DNSKEY sets; and CDS, a set of the zone, which
--- left before the report.
+-- also counts the algorithms that validators keep with DNSKEY sets; and CDS, a set of the zone,
+-- which left before the report.
 abbrev pub lasting : (SetKind → ℕ) → RollType → Bool → ℕ → ℕ
 lasting ttl roll second due =
     if retires roll second Ds then max (due + keeps ttl) (ttl ZoneSigners + 1) else due

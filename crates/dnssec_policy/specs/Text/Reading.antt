@@ -1,6 +1,6 @@
 -- Which lines are a policy, and which line of others is the first with a fault.
 use Rattle.std.specs.Prelude.{ℕ, suc, if◌then◌else◌, List, [], ◌∷◌, Option, None, Some, unwrap_or}
-use Rattle.std.specs.Prelude.{Result, Ok, Err}
+use Rattle.std.specs.{Prelude.Result, Prelude.Ok, Prelude.Err, Option.ok_or}
 use Rattle.dnssec_policy.specs.declared.policy.{Policy.Policy, Scheme.Scheme}
 use Rattle.dnssec_policy.specs.declared.text.fault.{WishFault.WishFault, PolicyFault.PolicyFault}
 use Rattle.dnssec_policy.specs.declared.text.fault.PolicyFault.TheVariants.{Malformed, SaidTwice}
@@ -17,14 +17,10 @@ fault_at line.NoSuchKeys n = NoSuchKeys n
 
 -- ---- line by line
 
-abbrev pub unless_twice : Option PolicyDraft → Result PolicyDraft WishFault
-unless_twice None = Err line.SaidTwice
-unless_twice (Some d) = Ok d
-
 -- after one more wish, beside the scheme of the first line
 abbrev pub said_after : Scheme → PolicyDraft → Wish → Result PolicyDraft WishFault
 said_after scheme d wish =
-    if is_for scheme wish then unless_twice (after d wish) else Err line.NoSuchKeys
+    if is_for scheme wish then ok_or (after d wish) line.SaidTwice else Err line.NoSuchKeys
 
 abbrev pub wish_said : Scheme → PolicyDraft → Option Wish → Result PolicyDraft WishFault
 wish_said scheme d None = Err line.Malformed
