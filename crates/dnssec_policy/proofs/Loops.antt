@@ -3,7 +3,7 @@ use Rattle.std.proofs.Common.{◌≡◌, ℕ, Bool, true, false, List, [], ◌�
 use Rattle.std.proofs.Common.{sym, ap, ◌∙◌, map, string_bytes, Bor, String}
 use Rattle.std.specs.Prelude.{if◌then◌else◌, ◌&&◌, filter, ◌++◌, Result, Ok, Err}
 use Rattle.std.proofs.{lemmas.List.append_assoc, lemmas.List.map-append, Math.Seq.drop-cons}
-use Rattle.std.proofs.Common.{suc, ◌<◌, drop, get_or, length}
+use Rattle.std.proofs.Common.{suc, ◌<◌, ◌≤◌, drop, get_or, length}
 use Rattle.std.specs.Prelude.{slice_get}
 use Rattle.dnssec_zone.specs.Start.{texts}
 use Rattle.dnssec_policy.specs.declared.policy.Policy.{Policy}
@@ -19,12 +19,17 @@ use Rattle.dnssec_policy.specs.declared.policy.Term.{Term}
 use Rattle.dnssec_policy.specs.Next.{deletion, deletions, once_ended}
 use Rattle.dnssec_policy.specs.{Todo.Rest, Todo.Todo, Todo.sooner, View.View}
 use Rattle.std.specs.List.{fold}
-use Rattle.std.proofs.lemmas.List.{Folds.fold-map, Sums.fold-append, take_more}
+use Rattle.std.proofs.lemmas.List.{Folds.fold-map, Sums.fold-append, take_all, take_more}
+use Rattle.dnssec_zone.specs.Rolls.{all_rolls}
 use Rattle.std.{proofs.Common.take, proofs.Common.◌+◌, specs.FinMap.values}
 use mathlib.Core.List.{map-map}
 
 abbrev pub Lent : Type 0
 Lent = Bor (String Global) × Bor KeyParts
+
+-- a loop over all rolls went over each of them
+pub over-all : (rs : List RollType) (i : ℕ) → length rs ≤ i → rs ≡ all_rolls → take i rs ≡ all_rolls
+over-all rs i past all = take_all i rs past ∙ all
 
 -- the first moment so far, after one more key
 abbrev pub aged_key : KeyRole → Term → Option ℕ → KeyParts → Option ℕ

@@ -62,6 +62,12 @@ view_of s end = record {
 abbrev pub AreKeysOf : {Y : Type 0} → KeySetParts → List (Bor (String Y) × Bor KeyParts) → Type 0
 AreKeysOf set keys = entries set.keys ≡ map entry_of keys
 
+-- a value is that of what is known by a state and the keys of its set, whenever waits are over
+abbrev pub OfView : {Y A : Type 0} → State → List (Bor (String Y) × Bor KeyParts) → (View → A) → A
+    → Type 0
+OfView state keys what value = (end : RollType → Option WaitEnd) →
+    AreKeysOf state.keyset.now keys → value ≡ what (view_of state end)
+
 -- new keys, or the role of one that is missing
 abbrev pub news_of : Result (Vec (Bor (List ℕ)) Global) KeyRole → Result (List (List ℕ)) KeyRole
 news_of (Ok found) = Ok (texts found.items)

@@ -3,7 +3,7 @@ ghost use Rattle.std.specs.Prelude.{◌≡◌, ℕ, Option, Some, string_bytes};
 ghost use Rattle.std.specs.List.{list_any};
 ghost use Rattle.dnssec_key.specs.declared.roll.RollType.{RollType as AnyRoll};
 ghost use Rattle.dnssec_keyset.specs.declared.wait.WaitEnd.{WaitEnd as AnyEnd};
-ghost use Rattle.dnssec_policy.specs.Code.{AreKeysOf, last_of, todo_of, view_of};
+ghost use Rattle.dnssec_policy.specs.Code.{OfView, last_of, todo_of, view_of};
 ghost use Rattle.dnssec_keyset.specs.Step.{DeleteKey};
 ghost use Rattle.dnssec_policy.specs.Keys.{has_left, is_rolled, leaves_from};
 ghost use Rattle.dnssec_policy.specs.Next.{at_moment, deletion, deletions, once_all_ended};
@@ -112,8 +112,7 @@ pub(crate) fn deletions<'a>(
     state: &State<'a>,
     keys: &[(&'a String, &'a Key)],
 ) -> Next<'a>
-    ensures { (end : AnyRoll → Option AnyEnd) → AreKeysOf state.now.keyset.now keys.now
-        → todo_of state.now.moment result ≡ deletions policy.now (view_of state.now end) }
+    ensures { OfView state.now keys.now (deletions policy.now) (todo_of state.now.moment result) }
 {
     let mut best = Next::Rest;
     for entry in keys {

@@ -8,7 +8,7 @@ ghost use Rattle.dnssec_zone.specs.Keys.{Keys, some_key};
 ghost use Rattle.dnssec_zone.specs.Start.{conflict, has_conflict, texts};
 ghost use Rattle.dnssec_keyset.specs.declared.wait.WaitEnd.{WaitEnd as AnyEnd};
 ghost use Rattle.dnssec_run.specs.InOrder.{entry_of};
-ghost use Rattle.dnssec_policy.specs.Code.{AreKeysOf, news_of, todo_of, view_of};
+ghost use Rattle.dnssec_policy.specs.Code.{OfView, news_of, todo_of, view_of};
 ghost use Rattle.dnssec_policy.specs.Keys.{earlier, first_over, is_unwanted, new_keys};
 ghost use Rattle.dnssec_policy.specs.Keys.{over_by_age, over_from, over_on_demand, renewal_of};
 ghost use Rattle.dnssec_policy.specs.Keys.{role_of, roles_of, serves, wants_others};
@@ -74,10 +74,9 @@ fn start_next<'a>(
     roll: RollType,
     roles: &[KeyRole],
 ) -> Result<Next<'a>, AllocError>
-    ensures { IfOk result (λ next. (end : AnyRoll → Option AnyEnd)
-        → AreKeysOf state.now.keyset.now keys.now → todo_of state.now.moment next
-        ≡ start_with (view_of state.now end) roll
-        (new_keys policy.now state.now.keyset.now.keys roles.now)) }
+    ensures { IfOk result (λ next. OfView state.now keys.now
+        (λ v. start_with v roll (new_keys policy.now v.set.keys roles.now))
+        (todo_of state.now.moment next)) }
 {
     let old = references(alloc, keys, &Pick::Old(roll))?;
     match new_keys(alloc, policy, keys, roles)? {
@@ -122,9 +121,8 @@ pub(crate) fn wants_others(policy: &Policy, keys: &[(&String, &Key)]) -> bool
 
 /// Whether an algorithm roll may begin, and is wanted.
 fn is_change_due(policy: &Policy, state: &State<'_>, keys: &[(&String, &Key)]) -> bool
-    ensures { (end : AnyRoll → Option AnyEnd) → AreKeysOf state.now.keyset.now keys.now → result
-        ≡ (may_begin (view_of state.now end) AlgorithmRoll
-        && wants_others policy.now state.now.keyset.now.keys) }
+    ensures { OfView state.now keys.now
+        (λ v. may_begin v AlgorithmRoll && wants_others policy.now v.set.keys) result }
 {
     may_begin(state, RollType::AlgorithmRoll) && wants_others(policy, keys)
 }
@@ -136,9 +134,8 @@ pub(crate) fn change<'a>(
     state: &State<'a>,
     keys: &[(&'a String, &'a Key)],
 ) -> Result<Next<'a>, AllocError>
-    ensures { IfOk result (λ next. (end : AnyRoll → Option AnyEnd)
-        → AreKeysOf state.now.keyset.now keys.now → todo_of state.now.moment next
-        ≡ change policy.now (view_of state.now end)) }
+    ensures { IfOk result (λ next. OfView state.now keys.now (change policy.now)
+        (todo_of state.now.moment next)) }
 {
     if !is_change_due(policy, state, keys) {
         return Ok(Next::Rest);
@@ -252,9 +249,8 @@ pub(crate) fn first_due(policy: &Policy, roll: RollType, keys: &[(&String, &Key)
 
 /// Whether a roll may begin, and all keys in use are wanted.
 fn may_renew(policy: &Policy, state: &State<'_>, keys: &[(&String, &Key)], roll: RollType) -> bool
-    ensures { (end : AnyRoll → Option AnyEnd) → AreKeysOf state.now.keyset.now keys.now → result
-        ≡ (may_begin (view_of state.now end) roll
-        && not (some_key (is_unwanted policy.now) state.now.keyset.now.keys)) }
+    ensures { OfView state.now keys.now
+        (λ v. may_begin v roll && not (some_key (is_unwanted policy.now) v.set.keys)) result }
 {
     may_begin(state, roll) && !some_unwanted(policy, keys)
 }
@@ -267,9 +263,8 @@ fn renewal<'a>(
     keys: &[(&'a String, &'a Key)],
     roll: RollType,
 ) -> Result<Next<'a>, AllocError>
-    ensures { IfOk result (λ next. (end : AnyRoll → Option AnyEnd)
-        → AreKeysOf state.now.keyset.now keys.now → todo_of state.now.moment next
-        ≡ renewal policy.now (view_of state.now end) roll) }
+    ensures { IfOk result (λ next. OfView state.now keys.now (λ v. renewal policy.now v roll)
+        (todo_of state.now.moment next)) }
 {
     if !may_renew(policy, state, keys, roll) {
         return Ok(Next::Rest);
@@ -295,9 +290,8 @@ pub(crate) fn renewals<'a>(
     state: &State<'a>,
     keys: &[(&'a String, &'a Key)],
 ) -> Result<Next<'a>, AllocError>
-    ensures { IfOk result (λ next. (end : AnyRoll → Option AnyEnd)
-        → AreKeysOf state.now.keyset.now keys.now → todo_of state.now.moment next
-        ≡ renewals policy.now (view_of state.now end) policy.now.scheme) }
+    ensures { IfOk result (λ next. OfView state.now keys.now
+        (λ v. renewals policy.now v policy.now.scheme) (todo_of state.now.moment next)) }
 {
     match policy.scheme {
         Scheme::Split(ksk, zsk) => {

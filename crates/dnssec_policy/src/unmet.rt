@@ -7,7 +7,7 @@ ghost use Rattle.dnssec_key.specs.declared.roll.RollType.{RollType as AnyRoll};
 ghost use Rattle.dnssec_keyset.specs.WaitEnd.{TellsEnd};
 ghost use Rattle.dnssec_keyset.specs.declared.wait.WaitEnd.{WaitEnd as AnyEnd};
 ghost use Rattle.dnssec_zone.specs.Rolls.{phase_of};
-ghost use Rattle.dnssec_policy.specs.Code.{AreKeysOf, end_of, todo_of, view_of};
+ghost use Rattle.dnssec_policy.specs.Code.{AreKeysOf, OfView, end_of, todo_of, view_of};
 ghost use Rattle.dnssec_policy.specs.Keys.{is_left_over};
 ghost use Rattle.dnssec_policy.specs.Stuck.{barred_if, is_over, keys_why, phase_why, renewal_why};
 ghost use Rattle.dnssec_policy.specs.Stuck.{renewals_why, rolls_why, starts_why, stuck_of, why_of};
@@ -79,8 +79,7 @@ fn barred_if(wanted: bool, state: &State<'_>, roll: RollType) -> Option<Why>
 
 /// Whether a key's time is over that the roll renews.
 fn is_over(policy: &Policy, state: &State<'_>, keys: &[(&String, &Key)], roll: RollType) -> bool
-    ensures { (end : AnyRoll → Option AnyEnd) → AreKeysOf state.now.keyset.now keys.now → result
-        ≡ is_over policy.now (view_of state.now end) roll }
+    ensures { OfView state.now keys.now (λ v. is_over policy.now v roll) result }
 {
     match first_due(policy, roll, keys) {
         None => false,
@@ -95,16 +94,14 @@ fn renewal_why(
     keys: &[(&String, &Key)],
     roll: RollType,
 ) -> Option<Why>
-    ensures { (end : AnyRoll → Option AnyEnd) → AreKeysOf state.now.keyset.now keys.now → result
-        ≡ renewal_why policy.now (view_of state.now end) roll }
+    ensures { OfView state.now keys.now (λ v. renewal_why policy.now v roll) result }
 {
     barred_if(is_over(policy, state, keys, roll), state, roll)
 }
 
 /// The first roll that is barred of those that renew keys.
 fn renewals_why(policy: &Policy, state: &State<'_>, keys: &[(&String, &Key)]) -> Option<Why>
-    ensures { (end : AnyRoll → Option AnyEnd) → AreKeysOf state.now.keyset.now keys.now → result
-        ≡ renewals_why policy.now (view_of state.now end) policy.now.scheme }
+    ensures { OfView state.now keys.now (λ v. renewals_why policy.now v policy.now.scheme) result }
 {
     match policy.scheme {
         Scheme::Split(ksk, zsk) => {
@@ -118,8 +115,7 @@ fn renewals_why(policy: &Policy, state: &State<'_>, keys: &[(&String, &Key)]) ->
 
 /// The first roll that is wanted and barred.
 fn starts_why(policy: &Policy, state: &State<'_>, keys: &[(&String, &Key)]) -> Option<Why>
-    ensures { (end : AnyRoll → Option AnyEnd) → AreKeysOf state.now.keyset.now keys.now → result
-        ≡ starts_why policy.now (view_of state.now end) }
+    ensures { OfView state.now keys.now (starts_why policy.now) result }
 {
     let change = barred_if(wants_others(policy, keys), state, RollType::AlgorithmRoll);
     let renewals = renewals_why(policy, state, keys);
@@ -152,8 +148,7 @@ fn some_left_over(state: &State<'_>, keys: &[(&String, &Key)]) -> bool
 }
 
 fn keys_why(state: &State<'_>, keys: &[(&String, &Key)]) -> Option<Why>
-    ensures { (end : AnyRoll → Option AnyEnd) → AreKeysOf state.now.keyset.now keys.now → result
-        ≡ keys_why (view_of state.now end) }
+    ensures { OfView state.now keys.now keys_why result }
 {
     if some_left_over(state, keys) {
         Some(Why::OldKeyInUse)

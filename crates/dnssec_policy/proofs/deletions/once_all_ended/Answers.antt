@@ -1,19 +1,17 @@
 -- All rolls had their say.
-use Rattle.std.proofs.{Common.◌∙◌, Common.ap, Common.get_or, Common.sym, lemmas.List.take_all}
+use Rattle.std.proofs.Common.{◌∙◌, ap, get_or, sym}
 use Rattle.dnssec_policy.specs.Code.{todo_of, view_of}
 use Rattle.dnssec_key.specs.declared.roll.RollType.TheVariants as ksk
 use Rattle.dnssec_policy.specs.{Next.once_ended, Todo.Todo}
-use Rattle.dnssec_policy.proofs.Loops.{ended-more, ended_so_far, no_end}
+use Rattle.dnssec_policy.proofs.Loops.{ended-more, ended_so_far, no_end, over-all}
 use Rattle.dnssec_policy.proofs.deletions.once_all_ended.Goals as goal
 
 pub returns : goal.returns
 returns c end =
     let a = c.args in
-    let so_far = ended_so_far (view_of a.state.now end) (todo_of a.state.now.moment a.todo) in
-    let items = c.all_rolls-roll-items in
     c.loop-roll.invariant
-    ∙ ap so_far (take_all c.loop-roll.roll-index items.result.now c.loop-roll-test.false)
-    ∙ ap so_far items.ensures
+    ∙ ap (ended_so_far (view_of a.state.now end) (todo_of a.state.now.moment a.todo))
+    (over-all _ _ c.loop-roll-test.false c.all_rolls-roll-items.ensures)
 
 pub loop-roll-preserved : goal.loop-roll-preserved
 loop-roll-preserved c =
