@@ -17,8 +17,8 @@ static struct keyset_session session;
 static void give_up(const char *line, uint32_t status)
 {
     uint8_t text[KEYSET_TEXT_ROOM];
-    struct keyset_answered told = keyset_status_text(status, text, sizeof text);
-    fprintf(stderr, "%s: %.*s\n", line, (int)told.length, (const char *)text);
+    struct keyset_answered outcome = keyset_status_text(status, text, sizeof text);
+    fprintf(stderr, "%s: %.*s\n", line, (int)outcome.length, (const char *)text);
     exit(EXIT_FAILURE);
 }
 
@@ -47,12 +47,12 @@ static void take_note(const char *line, bool *has_answered)
         expect_answered(line, keyset_note(&session, (const uint8_t *)line, strlen(line)));
         return;
     }
-    struct keyset_answered told = keyset_due(&session, strtoull(line + 4, NULL, 10), out, ROOM);
-    expect_answered(line, told.status);
+    struct keyset_answered outcome = keyset_due(&session, strtoull(line + 4, NULL, 10), out, ROOM);
+    expect_answered(line, outcome.status);
     if (*has_answered)
         putchar('\n');
     *has_answered = true;
-    fwrite(out, 1, told.length, stdout);
+    fwrite(out, 1, outcome.length, stdout);
 }
 
 int main(void)

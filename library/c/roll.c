@@ -57,17 +57,17 @@ static int read_line(FILE *from, struct text *line)
 static void ask(const struct text *script, struct text *answer)
 {
     for (;;) {
-        struct keyset_answered told =
+        struct keyset_answered outcome =
             keyset_answer(script->bytes, script->length, answer->bytes, answer->room);
-        switch (told.status) {
+        switch (outcome.status) {
         case KEYSET_ANSWERED:
-            answer->length = told.length;
+            answer->length = outcome.length;
             return;
         case KEYSET_SHORT:
-            reserve(answer, told.length);
+            reserve(answer, outcome.length);
             break;
         case KEYSET_MALFORMED:
-            fprintf(stderr, "line %zu: malformed\n", told.line);
+            fprintf(stderr, "line %zu: malformed\n", outcome.line);
             exit(EXIT_FAILURE);
         default:
             give_up("out of memory");

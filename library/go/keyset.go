@@ -157,7 +157,7 @@ func (s *Session) Accept(line string) ([]string, error) {
 	if status != C.KEYSET_ANSWERED && status != C.KEYSET_REFUSED {
 		return nil, fault(status, 0)
 	}
-	answer, err := s.told()
+	answer, err := s.lastAnswer()
 	if err != nil {
 		return nil, err
 	}
@@ -167,7 +167,7 @@ func (s *Session) Accept(line string) ([]string, error) {
 	return strings.Fields(answer)[1:], nil
 }
 
-func (s *Session) told() (string, error) {
+func (s *Session) lastAnswer() (string, error) {
 	text, err := fill(func(out *C.uint8_t, room C.size_t) C.struct_keyset_answered {
 		return C.keyset_told(&s.handle, out, room)
 	})

@@ -36,16 +36,17 @@ static size_t last_line(const struct part *part)
 }
 
 /* The second that the last line of the notes asks about, if it asks. */
-static bool is_asked(const struct part *noted, uint64_t *seconds)
+static bool is_asked(const struct part *notes_and_next, uint64_t *seconds)
 {
-    size_t at = last_line(noted), end = noted->length, digits;
-    if (end > at && noted->bytes[end - 1] == '\n')
+    size_t at = last_line(notes_and_next), end = notes_and_next->length, digits;
+    if (end > at && notes_and_next->bytes[end - 1] == '\n')
         end--;
     digits = end - at - 5;
-    if (at == 0 || end < at + 6 || digits > 20 || memcmp(noted->bytes + at, "next ", 5) != 0)
+    if (at == 0 || end < at + 6 || digits > 20
+        || memcmp(notes_and_next->bytes + at, "next ", 5) != 0)
         return false;
     for (*seconds = 0, at += 5; at < end; at++) {
-        uint64_t digit = (uint64_t)(noted->bytes[at] - '0');
+        uint64_t digit = (uint64_t)(notes_and_next->bytes[at] - '0');
         if (digit > 9 || *seconds > (UINT64_MAX - digit) / 10)
             return false;
         *seconds = *seconds * 10 + digit;
@@ -56,14 +57,15 @@ static bool is_asked(const struct part *noted, uint64_t *seconds)
 static struct keyset_answered ask(const struct part *policy, const struct part *script,
                                   const struct part *notes, uint64_t seconds, struct text *line)
 {
-    struct keyset_answered told;
-    while ((told = keyset_next(policy->bytes, policy->length, script->bytes, script->length,
-                               notes->bytes, notes->length, seconds, line->bytes, line->room - 1))
+    struct keyset_answered outcome;
+    while ((outcome = keyset_next(policy->bytes, policy->length, script->bytes, script->length,
+                                  notes->bytes, notes->length, seconds, line->bytes,
+                                  line->room - 1))
                .status == KEYSET_SHORT)
-        reserve(line, told.length + 1);
-    line->length = told.length;
-    line->bytes[told.length] = told.status == KEYSET_ANSWERED ? '\n' : '\0';
-    return told;
+        reserve(line, outcome.length + 1);
+    line->length = outcome.length;
+    line->bytes[outcome.length] = outcome.status == KEYSET_ANSWERED ? '\n' : '\0';
+    return outcome;
 }
 
 void say_next(void)
@@ -71,20 +73,21 @@ void say_next(void)
     struct text all = read_all(), line = {NULL, 0, 0};
     size_t at = 0;
     struct part policy = next_part(&all, &at), script = next_part(&all, &at);
-    struct part noted = next_part(&all, &at), more = next_part(&all, &at), notes = noted;
+    struct part notes_and_next = next_part(&all, &at), more = next_part(&all, &at);
+    struct part notes = notes_and_next;
     uint64_t seconds = 0;
-    bool has_asked = more.length == 0 && at >= all.length && is_asked(&noted, &seconds);
-    struct keyset_answered told;
+    bool has_asked = more.length == 0 && at >= all.length && is_asked(&notes_and_next, &seconds);
+    struct keyset_answered outcome;
     if (has_asked)
-        notes.length = last_line(&noted);
+        notes.length = last_line(&notes_and_next);
     reserve(&line, 4096);
-    told = ask(&policy, &script, &notes, seconds, &line);
-    if (told.status == KEYSET_OUT_OF_MEMORY)
+    outcome = ask(&policy, &script, &notes, seconds, &line);
+    if (outcome.status == KEYSET_OUT_OF_MEMORY)
         end(OUT_OF_MEMORY, "", "out of memory");
-    if (told.status == KEYSET_NOT_SAID)
+    if (outcome.status == KEYSET_NOT_SAID)
         end(MALFORMED, "", (const char *)line.bytes);
     if (!has_asked)
-        end_at_line("notes: ", noted.lines + 1, "malformed");
+        end_at_line("notes: ", notes_and_next.lines + 1, "malformed");
     line.length++;
     write_all(&line);
 }

@@ -32,17 +32,17 @@ static inline void take_script(struct keyset_session *session, const struct text
 /* Appends the answer to a question, with the room that it needs. */
 #define ASK(answer, before, question)                                                             \
     do {                                                                                          \
-        struct keyset_answered told;                                                              \
+        struct keyset_answered outcome;                                                           \
         uint8_t *out = (answer)->bytes + (answer)->length;                                        \
         size_t room = (answer)->room - (answer)->length;                                          \
-        told = question;                                                                          \
-        if (told.status == KEYSET_ANSWERED) {                                                     \
-            (answer)->length += told.length;                                                      \
+        outcome = question;                                                                       \
+        if (outcome.status == KEYSET_ANSWERED) {                                                  \
+            (answer)->length += outcome.length;                                                   \
             break;                                                                                \
         }                                                                                         \
-        if (told.status != KEYSET_SHORT)                                                          \
+        if (outcome.status != KEYSET_SHORT)                                                       \
             end(OUT_OF_MEMORY, before, "out of memory");                                          \
-        reserve(answer, 2 * ((answer)->length + told.length));                                    \
+        reserve(answer, 2 * ((answer)->length + outcome.length));                                 \
     } while (1)
 
 #endif

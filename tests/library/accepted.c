@@ -40,42 +40,42 @@ typedef struct keyset_answered (*question)(const struct keyset_session *, uint8_
 static char *answer_of(question asked, const struct keyset_session *session)
 {
     uint8_t *out = filled(ROOM);
-    struct keyset_answered told = asked(session, out, ROOM);
-    expect(told.status == KEYSET_ANSWERED && told.line == 0, "answered", "a question");
-    char *text = strndup((const char *)out, told.length);
+    struct keyset_answered outcome = asked(session, out, ROOM);
+    expect(outcome.status == KEYSET_ANSWERED && outcome.line == 0, "answered", "a question");
+    char *text = strndup((const char *)out, outcome.length);
     expect(text != NULL, "memory for a text", "a question");
     free(out);
     return text;
 }
 
-/* All that a session says of its calls. */
-struct said {
-    char *told, *closing, *status;
+/* All that a session answers about its calls. */
+struct answers {
+    char *last, *closing, *status;
     size_t calls;
 };
 
-static struct said said_by(const struct keyset_session *session)
+static struct answers answers_of(const struct keyset_session *session)
 {
-    return (struct said){answer_of(keyset_told, session), answer_of(keyset_closing, session),
-                         answer_of(keyset_status, session), keyset_calls(session)};
+    return (struct answers){answer_of(keyset_told, session), answer_of(keyset_closing, session),
+                            answer_of(keyset_status, session), keyset_calls(session)};
 }
 
-static void forget(struct said *said)
+static void forget(struct answers *answers)
 {
-    free(said->told);
-    free(said->closing);
-    free(said->status);
+    free(answers->last);
+    free(answers->closing);
+    free(answers->status);
 }
 
-/* It says the same but for its last answer, unless that is given. */
-static void expect_same(const struct keyset_session *session, const struct said *before,
-                        const char *told, const char *name)
+/* It answers the same, and its last answer is the given one. */
+static void expect_same(const struct keyset_session *session, const struct answers *before,
+                        const char *answer, const char *name)
 {
-    struct said now = said_by(session);
+    struct answers now = answers_of(session);
     expect(session->is_open && now.calls == before->calls, "the same calls", name);
     expect(strcmp(now.closing, before->closing) == 0, "the same closing lines", name);
     expect(strcmp(now.status, before->status) == 0, "the same status", name);
-    expect(strcmp(now.told, told) == 0, "the answer", name);
+    expect(strcmp(now.last, answer) == 0, "the answer", name);
     forget(&now);
 }
 
@@ -88,13 +88,13 @@ static void expect_malformed(struct keyset_session *session)
 {
     static const char *const lines[] = {"", "rubbish", "abort ksk-roll ", "delete K1\n",
                                         "add-ksk K1 P1 13 1 0 maybe", "start ksk-roll K1 K2 now"};
-    struct said before = said_by(session);
+    struct answers before = answers_of(session);
     for (size_t i = 0; i < sizeof lines / sizeof *lines; i++) {
         size_t made = requests.made;
         uint32_t status = accept_line(session, lines[i], strlen(lines[i]));
         expect(status == KEYSET_MALFORMED, "malformed", lines[i]);
         expect(requests.made == made, "no request for memory", lines[i]);
-        expect_same(session, &before, before.told, lines[i]);
+        expect_same(session, &before, before.last, lines[i]);
     }
     forget(&before);
 }
@@ -103,13 +103,13 @@ static void expect_malformed(struct keyset_session *session)
 static size_t fail_accept(struct keyset_session *session, const char *line, size_t length,
                           uint32_t *status)
 {
-    struct said before = said_by(session);
+    struct answers before = answers_of(session);
     for (requests.failing = 1;; requests.failing++) {
         requests.made = 0;
         *status = accept_line(session, line, length);
         if (requests.made < requests.failing || *status != KEYSET_OUT_OF_MEMORY)
             break;
-        expect_same(session, &before, before.told, "without memory");
+        expect_same(session, &before, before.last, "without memory");
     }
     size_t failed = requests.failing - 1;
     requests.failing = 0;
@@ -122,7 +122,7 @@ static size_t fail_accept(struct keyset_session *session, const char *line, size
 static struct {
     char line[64];
 } notes[1 << 13];
-static size_t noted;
+static size_t note_count;
 
 static void note_line(struct keyset_session *session, const char *line)
 {
@@ -135,11 +135,12 @@ static void note_call(struct keyset_session *session, size_t number)
 {
     static const char *const kinds[] = {"ds", "dnskey", "zone"};
     for (size_t i = 0; i < 3; i++) {
-        snprintf(notes[noted].line, sizeof notes->line, "published %s %zu 60 %s", kinds[i], number,
+        snprintf(notes[note_count].line, sizeof notes->line, "published %s %zu 60 %s", kinds[i],
+                 number, LATE);
+        snprintf(notes[note_count + 1].line, sizeof notes->line, "everywhere %s %s", kinds[i],
                  LATE);
-        snprintf(notes[noted + 1].line, sizeof notes->line, "everywhere %s %s", kinds[i], LATE);
-        note_line(session, notes[noted++].line);
-        note_line(session, notes[noted++].line);
+        note_line(session, notes[note_count++].line);
+        note_line(session, notes[note_count++].line);
     }
 }
 
@@ -150,12 +151,13 @@ static void expect_same_due(const struct keyset_session *session, struct keyset_
 {
     uint8_t *one = filled(ROOM), *other = filled(ROOM);
     note_line(kept, BEFORE);
-    for (size_t i = 0; i < noted; i++)
+    for (size_t i = 0; i < note_count; i++)
         note_line(kept, notes[i].line);
-    struct keyset_answered told = keyset_due(session, UINT64_MAX, one, ROOM);
-    struct keyset_answered again = keyset_due(kept, UINT64_MAX, other, ROOM);
-    expect(told.status == KEYSET_ANSWERED && again.status == KEYSET_ANSWERED, "due", name);
-    expect(told.length == again.length && memcmp(one, other, ROOM) == 0, "the same reports", name);
+    struct keyset_answered first = keyset_due(session, UINT64_MAX, one, ROOM);
+    struct keyset_answered second = keyset_due(kept, UINT64_MAX, other, ROOM);
+    expect(first.status == KEYSET_ANSWERED && second.status == KEYSET_ANSWERED, "due", name);
+    expect(first.length == second.length && memcmp(one, other, ROOM) == 0, "the same reports",
+           name);
     free(one);
     free(other);
 }
@@ -172,9 +174,9 @@ static size_t play(const struct stored *it, bool fails)
     keyset_open((const uint8_t *)line, length, &session);
     keyset_open((const uint8_t *)line, length, &kept);
     note_line(&session, BEFORE);
-    noted = 0;
+    note_count = 0;
     for (line += length + (line[length] == '\n'); *line != '\0';) {
-        struct said before = said_by(&session);
+        struct answers before = answers_of(&session);
         size_t needed = length_of_line(wanted) + 1;
         uint32_t status;
         length = length_of_line(line);
@@ -182,9 +184,10 @@ static size_t play(const struct stored *it, bool fails)
             failed += fail_accept(&session, line, length, &status);
         else
             status = accept_line(&session, line, length);
-        char *told = answer_of(keyset_told, &session);
-        expect(strlen(told) == needed && memcmp(told, wanted, needed) == 0, "as stored", it->name);
-        if (strncmp(told, "ok", 2) == 0) {
+        char *answer = answer_of(keyset_told, &session);
+        expect(strlen(answer) == needed && memcmp(answer, wanted, needed) == 0, "as stored",
+               it->name);
+        if (strncmp(answer, "ok", 2) == 0) {
             expect(status == KEYSET_ANSWERED, "accepted", it->name);
             expect(keyset_calls(&session) == ++accepted, "its number", it->name);
             struct keyset_answered same =
@@ -193,19 +196,19 @@ static size_t play(const struct stored *it, bool fails)
             note_call(&session, accepted);
         } else {
             expect(status == KEYSET_REFUSED, "refused", it->name);
-            expect_same(&session, &before, told, it->name);
+            expect_same(&session, &before, answer, it->name);
         }
-        free(told);
+        free(answer);
         forget(&before);
         wanted += needed;
         line += length + (line[length] == '\n');
     }
     expect_malformed(&session);
-    struct said last = said_by(&kept);
-    char *told = answer_of(keyset_told, &session);
-    expect_same(&session, &last, told, it->name);
+    struct answers last = answers_of(&kept);
+    char *answer = answer_of(keyset_told, &session);
+    expect_same(&session, &last, answer, it->name);
     expect_same_due(&session, &kept, it->name);
-    free(told);
+    free(answer);
     forget(&last);
     keyset_close(&kept);
     keyset_close(&session);
@@ -215,20 +218,21 @@ static size_t play(const struct stored *it, bool fails)
 
 /* ---- threads */
 
-struct asking {
+/* What a thread gets: the session that it asks, and what has to be answered. */
+struct asker {
     const struct keyset_session *session;
-    const struct said *said;
+    const struct answers *answers;
 };
 
 /* Asks a session that other threads ask, too. */
 static void *ask_beside(void *own)
 {
-    const struct asking *asking = own;
+    const struct asker *asker = own;
     struct keyset_session copy = {0};
     requests.failing = 0;
     for (size_t i = 0; i < ASKED / step; i++) {
-        expect_same(asking->session, asking->said, asking->said->told, "beside other threads");
-        expect(keyset_copy(asking->session, &copy) == KEYSET_ANSWERED, "a copy", "in a thread");
+        expect_same(asker->session, asker->answers, asker->answers->last, "beside other threads");
+        expect(keyset_copy(asker->session, &copy) == KEYSET_ANSWERED, "a copy", "in a thread");
         keyset_close(&copy);
     }
     return NULL;
@@ -246,25 +250,25 @@ static void play_beside(const struct stored *it)
         accept_line(&session, line, length);
         line += length + (line[length] == '\n');
     }
-    struct said said = said_by(&session);
-    struct asking asking = {&session, &said};
+    struct answers answers = answers_of(&session);
+    struct asker asker = {&session, &answers};
     for (size_t i = 0; i < THREADS; i++)
-        expect(pthread_create(&threads[i], NULL, ask_beside, &asking) == 0, "a thread", it->name);
+        expect(pthread_create(&threads[i], NULL, ask_beside, &asker) == 0, "a thread", it->name);
     for (size_t i = 0; i < THREADS; i++)
         expect(pthread_join(threads[i], NULL) == 0, "its end", it->name);
-    forget(&said);
+    forget(&answers);
     keyset_close(&session);
 }
 
 /* ---- texts */
 
-static void expect_text(struct keyset_answered told, const uint8_t *out, const char *wanted)
+static void expect_text(struct keyset_answered outcome, const uint8_t *out, const char *wanted)
 {
-    expect(told.status == KEYSET_ANSWERED && told.line == 0, "answered", wanted);
-    expect(told.length == strlen(wanted) && memcmp(out, wanted, told.length) == 0, "a text",
+    expect(outcome.status == KEYSET_ANSWERED && outcome.line == 0, "answered", wanted);
+    expect(outcome.length == strlen(wanted) && memcmp(out, wanted, outcome.length) == 0, "a text",
            wanted);
-    expect(is_filled(out + told.length, KEYSET_TEXT_ROOM - told.length), "what comes after it",
-           wanted);
+    expect(is_filled(out + outcome.length, KEYSET_TEXT_ROOM - outcome.length),
+           "what comes after it", wanted);
 }
 
 static void expect_texts(void)
@@ -283,8 +287,9 @@ static void expect_texts(void)
     }
     uint8_t *out = filled(KEYSET_TEXT_ROOM);
     expect_text(keyset_version_text(out, KEYSET_TEXT_ROOM), out, KEYSET_RELEASE);
-    struct keyset_answered told = keyset_version_text(NULL, 0);
-    expect(told.status == KEYSET_SHORT && told.length == strlen(KEYSET_RELEASE), "short", "texts");
+    struct keyset_answered outcome = keyset_version_text(NULL, 0);
+    expect(outcome.status == KEYSET_SHORT && outcome.length == strlen(KEYSET_RELEASE), "short",
+           "texts");
     free(out);
 }
 

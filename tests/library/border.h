@@ -5,6 +5,8 @@
 #ifndef BORDER_H
 #define BORDER_H
 
+#include <keyset.h>
+
 #include <stdbool.h>
 #include <stdint.h>
 #include <stdio.h>
@@ -88,6 +90,22 @@ static bool is_filled(const uint8_t *bytes, size_t length)
         if (bytes[i] != FILLER)
             return false;
     return true;
+}
+
+/* ---- what the library answers */
+
+/* Each member has its value: only an answer to a whole script has a line. */
+static inline bool is_answer(struct keyset_answered outcome, uint32_t status, size_t length)
+{
+    return outcome.status == status && outcome.length == length && outcome.line == 0;
+}
+
+/* The room was too short for an answer of the needed length, and nothing is written. */
+static inline void expect_too_short(struct keyset_answered outcome, size_t needed,
+                                    const uint8_t *out, size_t room, const char *name)
+{
+    expect(is_answer(outcome, KEYSET_SHORT, needed), "short", name);
+    expect(is_filled(out, room), "nothing is written if it is short", name);
 }
 
 #endif

@@ -75,16 +75,16 @@ int LLVMFuzzerTestOneInput(const uint8_t *text, size_t length)
     static char script[ROOM];
     static size_t scripts;
     size_t line = first_malformed_line((const char *)text, length);
-    struct keyset_answered told = keyset_answer(text, length, out, sizeof out - 1);
-    if (told.line != line || told.status != (line > 0 ? KEYSET_MALFORMED : KEYSET_ANSWERED))
+    struct keyset_answered outcome = keyset_answer(text, length, out, sizeof out - 1);
+    if (outcome.line != line || outcome.status != (line > 0 ? KEYSET_MALFORMED : KEYSET_ANSWERED))
         abort();
     if (line > 0)
         return 0;
     /* Both end where a text does. */
     memcpy(script, text, length);
     script[length] = '\0';
-    out[told.length] = '\0';
+    out[outcome.length] = '\0';
     if (is_new(script, script + length, (const char *)out) || scripts++ % EVERY == 0)
-        keep(text, length, out, told.length);
+        keep(text, length, out, outcome.length);
     return 0;
 }

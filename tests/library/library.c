@@ -40,26 +40,24 @@ static struct keyset_answered ask(const char *script, size_t length, uint8_t *ou
     requests.made = requests.held = 0;
     requests.failing = failing;
     requests.is_called = true;
-    struct keyset_answered told =
+    struct keyset_answered outcome =
         keyset_answer((const uint8_t *)script, length, out, room);
     requests.is_called = false;
     expect(requests.held == 0, "nothing is kept", "library");
-    return told;
+    return outcome;
 }
 
 static void expect_answer(const struct stored *it, size_t room)
 {
     uint8_t *out = filled(room);
-    struct keyset_answered told = ask(it->script, it->script_length, out, room, 0);
-    expect(told.length == it->answer_length, "the length", it->name);
-    expect(told.line == 0, "no line", it->name);
+    struct keyset_answered outcome = ask(it->script, it->script_length, out, room, 0);
     if (room < it->answer_length) {
-        expect(told.status == KEYSET_SHORT, "short of room", it->name);
-        expect(is_filled(out, room), "nothing is written if it is short", it->name);
+        expect_too_short(outcome, it->answer_length, out, room, it->name);
     } else {
-        expect(told.status == KEYSET_ANSWERED, "answered", it->name);
-        expect(memcmp(out, it->answer, told.length) == 0, "the answer", it->name);
-        expect(is_filled(out + told.length, room - told.length), "what comes after it", it->name);
+        expect(is_answer(outcome, KEYSET_ANSWERED, it->answer_length), "answered", it->name);
+        expect(memcmp(out, it->answer, outcome.length) == 0, "the answer", it->name);
+        expect(is_filled(out + outcome.length, room - outcome.length), "what comes after it",
+               it->name);
     }
     free(out);
 }
@@ -68,9 +66,9 @@ static void expect_malformed(const char *script, size_t length, size_t line)
 {
     uint8_t out[64];
     memset(out, FILLER, sizeof out);
-    struct keyset_answered told = ask(script, length, out, sizeof out, 0);
-    expect(told.status == KEYSET_MALFORMED, "malformed", script);
-    expect(told.line == line && told.length == 0, "its line", script);
+    struct keyset_answered outcome = ask(script, length, out, sizeof out, 0);
+    expect(outcome.status == KEYSET_MALFORMED, "malformed", script);
+    expect(outcome.line == line && outcome.length == 0, "its line", script);
     expect(is_filled(out, sizeof out), "nothing is written if it is malformed", script);
 }
 
@@ -86,10 +84,10 @@ static void expect_as_read(const char *text, size_t length, const char *name)
 {
     static uint8_t out[1 << 20];
     size_t room = ample(length) < sizeof out ? ample(length) : sizeof out;
-    struct keyset_answered told = ask(text, length, out, room, 0);
+    struct keyset_answered outcome = ask(text, length, out, room, 0);
     size_t line = first_malformed_line(text, length);
-    expect(told.line == line, "the malformed line", name);
-    expect(told.status == (line > 0 ? KEYSET_MALFORMED : KEYSET_ANSWERED), "malformed", name);
+    expect(outcome.line == line, "the malformed line", name);
+    expect(outcome.status == (line > 0 ? KEYSET_MALFORMED : KEYSET_ANSWERED), "malformed", name);
 }
 
 /* No roll's name begins another, and their words are lower case. */
@@ -150,9 +148,9 @@ static void expect_rest(const struct stored *it, const char *rest, size_t call)
     memcpy(script, it->script, before);
     memcpy(script + before, next, length - before);
     char *out = (char *)filled(ample(length));
-    struct keyset_answered told = ask(script, length, (uint8_t *)out, ample(length), 0);
-    expect(told.status == KEYSET_ANSWERED, "answered without a call", it->name);
-    out[told.length] = '\0';
+    struct keyset_answered outcome = ask(script, length, (uint8_t *)out, ample(length), 0);
+    expect(outcome.status == KEYSET_ANSWERED, "answered without a call", it->name);
+    out[outcome.length] = '\0';
     const char *wanted = behind_line(out, call - 1), *chain = strstr(wanted, "\nchain ");
     bool is_so = chain != NULL && strncmp(rest, wanted, (size_t)(chain - wanted)) == 0;
     expect(is_so, "the rest", it->name);
@@ -182,15 +180,15 @@ static size_t fail_in_turn(const struct stored *it)
     size_t room = it->script_length + it->answer_length + 1024;
     for (size_t failing = 1;; failing++) {
         uint8_t *out = filled(room);
-        struct keyset_answered told = ask(it->script, it->script_length, out, room, failing);
+        struct keyset_answered outcome = ask(it->script, it->script_length, out, room, failing);
         bool has_failed = requests.made >= failing;
-        if (told.status == KEYSET_OUT_OF_MEMORY) {
-            expect(told.length == 0 && told.line == 0, "no length and no line", it->name);
+        if (outcome.status == KEYSET_OUT_OF_MEMORY) {
+            expect(outcome.length == 0 && outcome.line == 0, "no length and no line", it->name);
             expect(is_filled(out, room), "nothing is written without memory", it->name);
         } else {
-            expect(told.status == KEYSET_ANSWERED, "answered, or out of memory", it->name);
-            out[told.length] = '\0';
-            expect_until_refused(it, (const char *)out, told.length);
+            expect(outcome.status == KEYSET_ANSWERED, "answered, or out of memory", it->name);
+            out[outcome.length] = '\0';
+            expect_until_refused(it, (const char *)out, outcome.length);
         }
         free(out);
         if (!has_failed)

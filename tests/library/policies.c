@@ -50,28 +50,22 @@ static const uint8_t *bytes(const char *text)
 static struct keyset_answered next(const struct row *row, uint8_t *out, size_t room)
 {
     requests.is_called = true;
-    struct keyset_answered told = keyset_next(
+    struct keyset_answered outcome = keyset_next(
         bytes(row->policy), strlen(row->policy), bytes(row->script), strlen(row->script),
         bytes(row->notes), strlen(row->notes), row->seconds, room > 0 ? out : NULL, room);
     requests.is_called = false;
-    return told;
-}
-
-static bool is_answer(struct keyset_answered told, uint32_t status, size_t length)
-{
-    return told.status == status && told.length == length && told.line == 0;
+    return outcome;
 }
 
 static void expect_next(const struct row *row, size_t room)
 {
     size_t needed = strlen(row->text);
     uint8_t *out = filled(room);
-    struct keyset_answered told = next(row, out, room);
+    struct keyset_answered outcome = next(row, out, room);
     if (room < needed) {
-        expect(is_answer(told, KEYSET_SHORT, needed), "short", row->text);
-        expect(is_filled(out, room), "nothing is written if it is short", row->text);
+        expect_too_short(outcome, needed, out, room, row->text);
     } else {
-        expect(is_answer(told, row->status, needed), "the status", row->text);
+        expect(is_answer(outcome, row->status, needed), "the status", row->text);
         expect(memcmp(out, row->text, needed) == 0, "the text", row->text);
         expect(is_filled(out + needed, room - needed), "what comes after it", row->text);
     }
@@ -91,14 +85,14 @@ static size_t fail_next(const struct row *row)
     for (requests.failing = 1; requests.failing <= whole; requests.failing++) {
         requests.made = 0;
         memset(out, FILLER, ROOM);
-        struct keyset_answered told = next(row, out, ROOM);
+        struct keyset_answered outcome = next(row, out, ROOM);
         expect(requests.held == 0, "all is freed", row->text);
-        if (told.status == KEYSET_OUT_OF_MEMORY) {
-            expect(is_answer(told, KEYSET_OUT_OF_MEMORY, 0), "out of memory", row->text);
+        if (outcome.status == KEYSET_OUT_OF_MEMORY) {
+            expect(is_answer(outcome, KEYSET_OUT_OF_MEMORY, 0), "out of memory", row->text);
             expect(is_filled(out, ROOM), "nothing is written", row->text);
             failed++;
         } else {
-            expect(is_answer(told, row->status, needed), "answered", row->text);
+            expect(is_answer(outcome, row->status, needed), "answered", row->text);
             expect(memcmp(out, row->text, needed) == 0, "the text", row->text);
             bool is_list = requests.is_asked_again && requests.made == whole + 1;
             lists += is_list;

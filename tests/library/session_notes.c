@@ -91,24 +91,18 @@ static struct keyset_answered due(struct keyset_session *session, const char *li
                                   size_t room)
 {
     requests.is_called = true;
-    struct keyset_answered told = keyset_due(session, strtoull(line + 4, NULL, 10), out, room);
+    struct keyset_answered outcome = keyset_due(session, strtoull(line + 4, NULL, 10), out, room);
     requests.is_called = false;
-    return told;
-}
-
-/* Each member has its value: no answer of a session has a line. */
-static bool is_answer(struct keyset_answered told, uint32_t status, size_t length)
-{
-    return told.status == status && told.length == length && told.line == 0;
+    return outcome;
 }
 
 static void expect_due(struct keyset_session *session, const char *line, const char *wanted)
 {
     uint8_t *out = filled(ROOM);
-    struct keyset_answered told = due(session, line, out, ROOM);
-    expect(is_answer(told, KEYSET_ANSWERED, strlen(wanted)), "answered", line);
-    expect(memcmp(out, wanted, told.length) == 0, "the answer", line);
-    expect(is_filled(out + told.length, ROOM - told.length), "what comes after it", line);
+    struct keyset_answered outcome = due(session, line, out, ROOM);
+    expect(is_answer(outcome, KEYSET_ANSWERED, strlen(wanted)), "answered", line);
+    expect(memcmp(out, wanted, outcome.length) == 0, "the answer", line);
+    expect(is_filled(out + outcome.length, ROOM - outcome.length), "what comes after it", line);
     free(out);
 }
 
@@ -118,9 +112,8 @@ static void expect_short(struct keyset_session *session, const char *line, const
     size_t needed = strlen(wanted);
     for (size_t room = 0; room < needed; room += step) {
         uint8_t *out = filled(room);
-        struct keyset_answered told = due(session, line, room > 0 ? out : NULL, room);
-        expect(is_answer(told, KEYSET_SHORT, needed), "short", line);
-        expect(is_filled(out, room), "nothing is written if it is short", line);
+        struct keyset_answered outcome = due(session, line, room > 0 ? out : NULL, room);
+        expect_too_short(outcome, needed, out, room, line);
         free(out);
     }
     uint8_t *out = filled(needed);
@@ -132,9 +125,9 @@ static void expect_short(struct keyset_session *session, const char *line, const
 static void call(struct keyset_session *session, const char *line)
 {
     uint8_t out[ROOM];
-    struct keyset_answered told =
+    struct keyset_answered outcome =
         keyset_call(session, (const uint8_t *)line, strlen(line), out, ROOM);
-    expect(told.status == KEYSET_ANSWERED && out[0] == 'o', "an accepted call", line);
+    expect(outcome.status == KEYSET_ANSWERED && out[0] == 'o', "an accepted call", line);
 }
 
 static void open_with(struct keyset_session *session, size_t lines_of_it)
@@ -151,12 +144,12 @@ static size_t fail_due(struct keyset_session *session, const char *line, const c
     uint8_t *out = filled(ROOM);
     for (requests.failing = 1;; requests.failing++) {
         requests.made = 0;
-        struct keyset_answered told = due(session, line, out, ROOM);
+        struct keyset_answered outcome = due(session, line, out, ROOM);
         if (requests.made < requests.failing) {
-            expect(told.status == KEYSET_ANSWERED, "answered in the end", line);
+            expect(outcome.status == KEYSET_ANSWERED, "answered in the end", line);
             break;
         }
-        expect(is_answer(told, KEYSET_OUT_OF_MEMORY, 0), "out of memory", line);
+        expect(is_answer(outcome, KEYSET_OUT_OF_MEMORY, 0), "out of memory", line);
         expect(is_filled(out, ROOM), "nothing is written", line);
     }
     size_t failed = requests.failing - 1;

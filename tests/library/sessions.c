@@ -51,8 +51,8 @@ static void next(struct play *play)
 {
     uint8_t *out = filled(LINE_ROOM);
     size_t length = length_of_line(play->line), needed = length_of_line(play->wanted) + 1;
-    struct keyset_answered told = call(&play->session, play->line, length, out, LINE_ROOM);
-    expect(is_answer(told, KEYSET_ANSWERED, needed), "a line", play->it->name);
+    struct keyset_answered outcome = call(&play->session, play->line, length, out, LINE_ROOM);
+    expect(is_answer(outcome, KEYSET_ANSWERED, needed), "a line", play->it->name);
     expect(memcmp(out, play->wanted, needed) == 0, "its answer", play->it->name);
     expect(is_filled(out + needed, LINE_ROOM - needed), "what comes after it", play->it->name);
     free(out);
@@ -62,7 +62,7 @@ static void next(struct play *play)
 
 static void end(struct play *play)
 {
-    expect_told(keyset_closing, &play->session, play->wanted, play->it->name);
+    expect_answer(keyset_closing, &play->session, play->wanted, play->it->name);
     close_session(&play->session);
 }
 
@@ -70,8 +70,8 @@ static void end(struct play *play)
 static void expect_opened_again(struct keyset_session *session)
 {
     expect(open_line(session, "zone .", 6) == KEYSET_ANSWERED, "opened again", "closed");
-    expect_told(keyset_told, session, "", "opened again");
-    expect_told(keyset_closing, session, "ds=- dnskey=- signers=- zone=-\nchain safe\n",
+    expect_answer(keyset_told, session, "", "opened again");
+    expect_answer(keyset_closing, session, "ds=- dnskey=- signers=- zone=-\nchain safe\n",
                 "opened again");
     close_session(session);
 }
@@ -82,7 +82,7 @@ static size_t play_alone(const struct stored *it)
     size_t lines = 0;
     requests.held = requests.failing = 0;
     expect(begin(&play, it), "opened", it->name);
-    expect_told(keyset_told, &play.session, "", it->name);
+    expect_answer(keyset_told, &play.session, "", it->name);
     expect(open_line(&play.session, "zone .", 6) == KEYSET_IS_OPEN, "opened twice", it->name);
     for (; *play.line != '\0'; lines++) {
         size_t length = length_of_line(play.line), needed = length_of_line(play.wanted) + 1;
@@ -132,7 +132,7 @@ static void expect_unchanged(struct play *play, bool is_refused)
         if (is_refused && QUESTIONS[i] != keyset_status)
             continue;
         char *wanted = answer_of(QUESTIONS[i], &before);
-        expect_told(QUESTIONS[i], &play->session, wanted, "without memory for a line");
+        expect_answer(QUESTIONS[i], &play->session, wanted, "without memory for a line");
         free(wanted);
     }
     expect(keyset_calls(&play->session) == keyset_calls(&before) + is_refused, "its calls",
@@ -170,30 +170,30 @@ static bool play_failing(const struct stored *it, size_t failing)
     while (*play.line != '\0') {
         uint8_t *out = filled(LINE_ROOM);
         size_t length = length_of_line(play.line), needed = length_of_line(play.wanted) + 1;
-        struct keyset_answered told = call(&play.session, play.line, length, out, LINE_ROOM);
+        struct keyset_answered outcome = call(&play.session, play.line, length, out, LINE_ROOM);
         bool fails_now = !has_failed && requests.made >= failing;
         has_failed = has_failed || fails_now;
         if (fails_now)
             requests.failing = 0;
-        if (told.status == KEYSET_OUT_OF_MEMORY || told.status == KEYSET_LOST) {
+        if (outcome.status == KEYSET_OUT_OF_MEMORY || outcome.status == KEYSET_LOST) {
             expect(fails_now, "a request failed", it->name);
-            expect(is_answer(told, told.status, 0), "out of memory", it->name);
+            expect(is_answer(outcome, outcome.status, 0), "out of memory", it->name);
             expect(is_filled(out, LINE_ROOM), "nothing is written", it->name);
-            if (told.status == KEYSET_LOST) {
+            if (outcome.status == KEYSET_LOST) {
                 open_anew(&play);
                 after_failures.lost++;
             } else {
                 expect_unchanged(&play, false);
                 after_failures.kept++;
             }
-        } else if (told.length == strlen(REFUSED) && memcmp(out, REFUSED, told.length) == 0) {
+        } else if (outcome.length == strlen(REFUSED) && memcmp(out, REFUSED, outcome.length) == 0) {
             expect(fails_now, "refused for memory", it->name);
-            expect(is_answer(told, KEYSET_ANSWERED, told.length), "a refusal", it->name);
+            expect(is_answer(outcome, KEYSET_ANSWERED, outcome.length), "a refusal", it->name);
             expect_to_take_memory(&play);
             expect_unchanged(&play, true);
             was_refused = true;
         } else {
-            expect(is_answer(told, KEYSET_ANSWERED, needed), "as stored", it->name);
+            expect(is_answer(outcome, KEYSET_ANSWERED, needed), "as stored", it->name);
             expect(memcmp(out, play.wanted, needed) == 0, "as stored", it->name);
             play.line += length + (play.line[length] == '\n');
             play.wanted += needed;
@@ -224,20 +224,22 @@ static bool fail_one(size_t kind, struct keyset_session *session, size_t failing
     uint8_t *out = filled(ROOM);
     requests.made = requests.held = 0;
     requests.failing = failing;
-    struct keyset_answered told = {.status = 0};
+    struct keyset_answered outcome = {.status = 0};
     if (kind < 3)
-        told = ask(QUESTIONS[kind], session, out, ROOM);
-    uint32_t status = kind < 3 ? told.status : copy(session, &other);
+        outcome = ask(QUESTIONS[kind], session, out, ROOM);
+    uint32_t status = kind < 3 ? outcome.status : copy(session, &other);
     bool has_failed = requests.made >= failing;
     requests.failing = 0;
     if (status == KEYSET_OUT_OF_MEMORY) {
-        expect(has_failed && told.length == 0 && told.line == 0, "out of memory", "a question");
+        expect(has_failed && outcome.length == 0 && outcome.line == 0, "out of memory",
+               "a question");
         expect(kind != 0, "it takes no memory", "keyset_told");
         expect(is_filled(out, ROOM) && !other.is_open, "nothing is done", "a question");
     } else {
         expect(status == KEYSET_ANSWERED, "answered, or out of memory", "a question");
-        expect(kind == 3 || is_answer(told, status, strlen(wanted)), "its members", "a question");
-        expect(kind == 3 || memcmp(out, wanted, told.length) == 0, "the answer", "a question");
+        expect(kind == 3 || is_answer(outcome, status, strlen(wanted)), "its members",
+               "a question");
+        expect(kind == 3 || memcmp(out, wanted, outcome.length) == 0, "the answer", "a question");
         *without += has_failed;
     }
     close_session(&other);
@@ -258,8 +260,8 @@ static size_t fail_questions(struct keyset_session *session)
             failed++;
         expect(without <= (QUESTIONS[kind % 3] == keyset_status && kind < 3 ? 2 : 0), "memory",
                "a question");
-        expect_told(keyset_closing, session, closing, "after questions without memory");
-        expect_told(keyset_status, session, shown, "after questions without memory");
+        expect_answer(keyset_closing, session, closing, "after questions without memory");
+        expect_answer(keyset_status, session, shown, "after questions without memory");
     }
     free(closing);
     free(shown);

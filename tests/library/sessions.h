@@ -38,10 +38,10 @@ static struct keyset_answered call(struct keyset_session *session, const char *l
                                    uint8_t *out, size_t room)
 {
     requests.is_called = true;
-    struct keyset_answered told =
+    struct keyset_answered outcome =
         keyset_call(session, (const uint8_t *)line, length, out, room);
     requests.is_called = false;
-    return told;
+    return outcome;
 }
 
 typedef struct keyset_answered (*question)(const struct keyset_session *, uint8_t *, size_t);
@@ -51,9 +51,9 @@ static struct keyset_answered ask(question asked, struct keyset_session *session
                                   size_t room)
 {
     requests.is_called = true;
-    struct keyset_answered told = asked(session, out, room);
+    struct keyset_answered outcome = asked(session, out, room);
     requests.is_called = false;
-    return told;
+    return outcome;
 }
 
 static uint32_t copy(struct keyset_session *session, struct keyset_session *other)
@@ -74,27 +74,22 @@ static void close_session(struct keyset_session *session)
 
 /* ---- what is expected */
 
-/* Each member has its value: no answer of a session has a line. */
-static bool is_answer(struct keyset_answered told, uint32_t status, size_t length)
-{
-    return told.status == status && told.length == length && told.line == 0;
-}
-
 /* The answer to a question, as a new text. */
 static char *answer_of(question asked, struct keyset_session *session)
 {
     uint8_t *out = filled(ROOM);
-    struct keyset_answered told = ask(asked, session, out, ROOM);
-    expect(told.status == KEYSET_ANSWERED && told.line == 0, "answered", "a question");
-    expect(is_filled(out + told.length, ROOM - told.length), "what comes after it", "a question");
-    out[told.length] = '\0';
+    struct keyset_answered outcome = ask(asked, session, out, ROOM);
+    expect(outcome.status == KEYSET_ANSWERED && outcome.line == 0, "answered", "a question");
+    expect(is_filled(out + outcome.length, ROOM - outcome.length), "what comes after it",
+           "a question");
+    out[outcome.length] = '\0';
     char *text = strdup((const char *)out);
     expect(text != NULL, "memory for a text", "a question");
     free(out);
     return text;
 }
 
-static void expect_told(question asked, struct keyset_session *session, const char *wanted,
+static void expect_answer(question asked, struct keyset_session *session, const char *wanted,
                         const char *name)
 {
     char *text = answer_of(asked, session);
@@ -109,14 +104,13 @@ static void expect_short(question asked, struct keyset_session *session)
     size_t needed = strlen(text);
     for (size_t room = 0; room < needed; room += step) {
         uint8_t *out = filled(room);
-        struct keyset_answered told = ask(asked, session, room > 0 ? out : NULL, room);
-        expect(is_answer(told, KEYSET_SHORT, needed), "short", text);
-        expect(is_filled(out, room), "nothing is written if it is short", text);
+        struct keyset_answered outcome = ask(asked, session, room > 0 ? out : NULL, room);
+        expect_too_short(outcome, needed, out, room, text);
         free(out);
     }
     uint8_t *out = filled(needed);
-    struct keyset_answered told = ask(asked, session, out, needed);
-    expect(is_answer(told, KEYSET_ANSWERED, needed), "exact room", text);
+    struct keyset_answered outcome = ask(asked, session, out, needed);
+    expect(is_answer(outcome, KEYSET_ANSWERED, needed), "exact room", text);
     expect(memcmp(out, text, needed) == 0, "the answer in exact room", text);
     free(out);
     free(text);
@@ -129,11 +123,11 @@ static void expect_closed(struct keyset_session *session)
     memset(out, FILLER, sizeof out);
     struct keyset_session other = {0};
     requests.made = requests.held = requests.failing = 0;
-    struct keyset_answered told = call(session, "delete K1", 9, out, sizeof out);
-    expect(is_answer(told, KEYSET_CLOSED, 0), "a call", "closed");
+    struct keyset_answered outcome = call(session, "delete K1", 9, out, sizeof out);
+    expect(is_answer(outcome, KEYSET_CLOSED, 0), "a call", "closed");
     for (size_t i = 0; i < 3; i++) {
-        told = ask(QUESTIONS[i], session, out, sizeof out);
-        expect(is_answer(told, KEYSET_CLOSED, 0), "a question", "closed");
+        outcome = ask(QUESTIONS[i], session, out, sizeof out);
+        expect(is_answer(outcome, KEYSET_CLOSED, 0), "a question", "closed");
     }
     expect(copy(session, &other) == KEYSET_CLOSED, "copied", "closed");
     expect(!other.is_open && is_filled(out, sizeof out), "nothing is done", "closed");
@@ -148,9 +142,9 @@ static void expect_copy(struct keyset_session *session)
     expect(copy(session, &other) == KEYSET_ANSWERED, "a copy", "copied");
     expect(copy(session, &other) == KEYSET_IS_OPEN, "a second copy", "copied");
     for (size_t i = 0; i < 3; i++) {
-        char *told = answer_of(QUESTIONS[i], session);
-        expect_told(QUESTIONS[i], &other, told, "copied");
-        free(told);
+        char *answer = answer_of(QUESTIONS[i], session);
+        expect_answer(QUESTIONS[i], &other, answer, "copied");
+        free(answer);
     }
     close_session(&other);
 }
@@ -163,14 +157,14 @@ static void expect_malformed(struct keyset_session *session)
         uint8_t out[64];
         memset(out, FILLER, sizeof out);
         size_t length = strlen(MALFORMED[i]), made = requests.made;
-        struct keyset_answered told =
+        struct keyset_answered outcome =
             call(session, length > 0 ? MALFORMED[i] : NULL, length, out, sizeof out);
-        expect(is_answer(told, KEYSET_MALFORMED, 0), "malformed", MALFORMED[i]);
+        expect(is_answer(outcome, KEYSET_MALFORMED, 0), "malformed", MALFORMED[i]);
         expect(requests.made == made, "no request for memory", MALFORMED[i]);
         expect(is_filled(out, sizeof out), "nothing is written", MALFORMED[i]);
     }
-    expect_told(keyset_closing, session, closing, "after malformed lines");
-    expect_told(keyset_told, session, last, "after malformed lines");
+    expect_answer(keyset_closing, session, closing, "after malformed lines");
+    expect_answer(keyset_told, session, last, "after malformed lines");
     free(closing);
     free(last);
 }
@@ -184,16 +178,15 @@ static void expect_short_call(struct keyset_session *session, const char *line, 
         struct keyset_session tried = {0};
         expect(copy(session, &tried) == KEYSET_ANSWERED, "a copy", line);
         uint8_t *out = filled(room);
-        struct keyset_answered told = call(&tried, line, length, room > 0 ? out : NULL, room);
-        expect(is_answer(told, KEYSET_SHORT, needed), "a short call", line);
-        expect(is_filled(out, room), "nothing is written if it is short", line);
+        struct keyset_answered outcome = call(&tried, line, length, room > 0 ? out : NULL, room);
+        expect_too_short(outcome, needed, out, room, line);
         char *again = answer_of(keyset_told, &tried);
         expect(strncmp(again, wanted, needed) == 0 && strlen(again) == needed, "it again", line);
         free(again);
         free(out);
         close_session(&tried);
     }
-    expect_told(keyset_closing, session, before, "after its copies");
+    expect_answer(keyset_closing, session, before, "after its copies");
     free(before);
 }
 

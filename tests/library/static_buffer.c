@@ -15,10 +15,10 @@ struct keyset_answered __wrap_keyset_answer(const uint8_t *script, size_t script
                                             uint8_t *out, size_t out_length)
 {
     static uint8_t kept[1 << 16];
-    struct keyset_answered told =
+    struct keyset_answered outcome =
         __real_keyset_answer(script, script_length, kept, out_length);
     sched_yield();
-    if (told.status == KEYSET_ANSWERED)
-        memcpy(out, kept, told.length);
-    return told;
+    if (outcome.status == KEYSET_ANSWERED)
+        memcpy(out, kept, outcome.length);
+    return outcome;
 }

@@ -133,16 +133,16 @@ fn number(rest: &mut &str) -> Result<Json, Error> {
 
 fn text(rest: &mut &str) -> Result<String, Error> {
     skip(rest, "\"")?;
-    let mut made = String::new();
+    let mut text = String::new();
     loop {
         let next = next(rest)?;
         let read = match next {
-            '"' => return Ok(made),
+            '"' => return Ok(text),
             '\\' => escaped(rest)?,
             _ => next,
         };
-        made.try_reserve(read.len_utf8())?;
-        made.push(read);
+        text.try_reserve(read.len_utf8())?;
+        text.push(read);
     }
 }
 

@@ -349,7 +349,7 @@ impl OpenOptions {
             let answer = match session.call(call) {
                 // The session was made here, so nobody loses it.
                 Err(Error::Lost) => return Err(Error::OutOfMemory),
-                told => told?,
+                answer => answer?,
             };
             let refusal = match answer.strip_prefix("refused: ").map(Error::of_reason) {
                 None => continue,

@@ -9,19 +9,19 @@ use crate::text::{collected, copied};
 use std::str::FromStr;
 
 pub(crate) fn status(text: &str) -> Result<Status, Error> {
-    let told = Json::read(text)?;
+    let members = Json::read(text)?;
     Ok(Status {
-        zone: copied(text_of(&told, "zone")?)?,
-        broken: broken(told.get("chain")),
-        published: published(told.get("published"))?,
-        keys: collected(told.get("keys").list().iter().map(key))?,
-        rolls: collected(told.get("rolls").list().iter().map(roll))?,
-        ended: collected(told.get("ended").list().iter().map(ended))?,
+        zone: copied(text_of(&members, "zone")?)?,
+        broken: broken(members.get("chain")),
+        published: published(members.get("published"))?,
+        keys: collected(members.get("keys").list().iter().map(key))?,
+        rolls: collected(members.get("rolls").list().iter().map(roll))?,
+        ended: collected(members.get("ended").list().iter().map(ended))?,
     })
 }
 
-fn text_of<'a>(told: &'a Json, member: &str) -> Result<&'a str, Error> {
-    told.get(member).text().ok_or(Error::OtherRelease)
+fn text_of<'a>(members: &'a Json, member: &str) -> Result<&'a str, Error> {
+    members.get(member).text().ok_or(Error::OtherRelease)
 }
 
 /// A word as a value.
@@ -40,18 +40,18 @@ fn number<T: TryFrom<u64>>(number: &Json) -> Result<T, Error> {
     T::try_from(number).map_err(|_| Error::OtherRelease)
 }
 
-fn broken(told: &Json) -> Option<Broken> {
+fn broken(members: &Json) -> Option<Broken> {
     Some(Broken {
-        at: told.get("at").number()?,
-        ds: told.get("ds").number()?,
-        dnskey: told.get("dnskey").number()?,
-        zone: told.get("zone").number()?,
+        at: members.get("at").number()?,
+        ds: members.get("ds").number()?,
+        dnskey: members.get("dnskey").number()?,
+        zone: members.get("zone").number()?,
     })
 }
 
-fn published(told: &Json) -> Result<Published, Error> {
+fn published(members: &Json) -> Result<Published, Error> {
     let references = |name| {
-        let references = told.get(name).list().iter();
+        let references = members.get(name).list().iter();
         collected(references.map(|it| copied(it.text().ok_or(Error::OtherRelease)?)))
     };
     Ok(Published {
@@ -62,68 +62,68 @@ fn published(told: &Json) -> Result<Published, Error> {
     })
 }
 
-fn key(told: &Json) -> Result<Key, Error> {
+fn key(members: &Json) -> Result<Key, Error> {
     Ok(Key {
-        reference: copied(text_of(told, "reference")?)?,
-        private: told.get("private").text().map(copied).transpose()?,
-        kind: named(told.get("kind"))?,
-        roles: collected(told.get("roles").list().iter().map(role))?,
-        algorithm: Algorithm(number(told.get("algorithm"))?),
-        tag: number(told.get("tag"))?,
-        decoupled: told.get("decoupled").flag(),
-        stamps: stamps(told),
-        may_come_in: told.get("may_come_in").flag(),
-        may_be_deleted: told.get("may_be_deleted").flag(),
-        old_in: all_named(told.get("old_in"))?,
-        new_in: all_named(told.get("new_in"))?,
+        reference: copied(text_of(members, "reference")?)?,
+        private: members.get("private").text().map(copied).transpose()?,
+        kind: named(members.get("kind"))?,
+        roles: collected(members.get("roles").list().iter().map(role))?,
+        algorithm: Algorithm(number(members.get("algorithm"))?),
+        tag: number(members.get("tag"))?,
+        decoupled: members.get("decoupled").flag(),
+        stamps: stamps(members),
+        may_come_in: members.get("may_come_in").flag(),
+        may_be_deleted: members.get("may_be_deleted").flag(),
+        old_in: all_named(members.get("old_in"))?,
+        new_in: all_named(members.get("new_in"))?,
     })
 }
 
-fn role(told: &Json) -> Result<Role, Error> {
+fn role(members: &Json) -> Result<Role, Error> {
     Ok(Role {
-        role: named(told.get("role"))?,
-        state: named(told.get("state"))?,
-        old: told.get("old").flag(),
-        signer: told.get("signer").flag(),
-        present: told.get("present").flag(),
-        at_parent: told.get("at_parent").flag(),
+        role: named(members.get("role"))?,
+        state: named(members.get("state"))?,
+        old: members.get("old").flag(),
+        signer: members.get("signer").flag(),
+        present: members.get("present").flag(),
+        at_parent: members.get("at_parent").flag(),
     })
 }
 
-fn stamps(told: &Json) -> Stamps {
+fn stamps(members: &Json) -> Stamps {
     Stamps {
-        creation: told.get("creation").number(),
-        published: told.get("published").number(),
-        visible: told.get("visible").number(),
-        ds_visible: told.get("ds_visible").number(),
-        rrsig_visible: told.get("rrsig_visible").number(),
-        withdrawn: told.get("withdrawn").number(),
+        creation: members.get("creation").number(),
+        published: members.get("published").number(),
+        visible: members.get("visible").number(),
+        ds_visible: members.get("ds_visible").number(),
+        rrsig_visible: members.get("rrsig_visible").number(),
+        withdrawn: members.get("withdrawn").number(),
     }
 }
 
-fn roll(told: &Json) -> Result<Roll, Error> {
-    let ttl = told.get("ttl");
+fn roll(members: &Json) -> Result<Roll, Error> {
+    let ttl = members.get("ttl");
     Ok(Roll {
-        roll: named(told.get("roll"))?,
-        phase: named(told.get("phase"))?,
+        roll: named(members.get("roll"))?,
+        phase: named(members.get("phase"))?,
         ttl: ttl.number().map(|_| number(ttl)).transpose()?,
-        next: named(told.get("next"))?,
-        not_before: wait_end(told.get("not_before"))?,
-        waits_for: named(told.get("waits_for"))?,
-        due: all_named(told.get("due"))?,
+        next: named(members.get("next"))?,
+        not_before: wait_end(members.get("not_before"))?,
+        waits_for: named(members.get("waits_for"))?,
+        due: all_named(members.get("due"))?,
     })
 }
 
-fn ended(told: &Json) -> Result<Ended, Error> {
+fn ended(members: &Json) -> Result<Ended, Error> {
     Ok(Ended {
-        roll: named(told.get("roll"))?,
-        asked: all_named(told.get("asked"))?,
+        roll: named(members.get("roll"))?,
+        asked: all_named(members.get("asked"))?,
     })
 }
 
-fn wait_end(told: &Json) -> Result<Option<WaitEnd>, Error> {
-    match told.text() {
-        None => Ok(told.number().map(WaitEnd::At)),
+fn wait_end(moment: &Json) -> Result<Option<WaitEnd>, Error> {
+    match moment.text() {
+        None => Ok(moment.number().map(WaitEnd::At)),
         Some("past-time") => Ok(Some(WaitEnd::PastTime)),
         Some(_) => Err(Error::OtherRelease),
     }

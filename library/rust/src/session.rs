@@ -47,12 +47,12 @@ impl Session {
     pub fn call(&mut self, line: &str) -> Result<String, Error> {
         let mut out = room(ROOM)?;
         // SAFETY: each pointer is that of a slice with its length; only we use the handle.
-        let told = unsafe {
+        let outcome = unsafe {
             let (text, room) = (out.as_mut_ptr(), out.len());
             c::keyset_call(&mut self.handle, line.as_ptr(), line.len(), text, room)
         };
-        match told.status {
-            c::ANSWERED | c::SHORT => self.told(out),
+        match outcome.status {
+            c::ANSWERED | c::SHORT => self.last_answer(out),
             c::MALFORMED => Err(self.malformed()),
             status => Err(Error::of_status(status)),
         }
@@ -69,8 +69,8 @@ impl Session {
         let out = room(ROOM)?;
         // SAFETY: the pointer is that of the line with its length; only we use the handle.
         match unsafe { c::keyset_accept(&mut self.handle, line.as_ptr(), line.len()) } {
-            c::ANSWERED => self.told(out),
-            c::REFUSED => match self.told(out)?.strip_prefix("refused: ") {
+            c::ANSWERED => self.last_answer(out),
+            c::REFUSED => match self.last_answer(out)?.strip_prefix("refused: ") {
                 Some(reason) => Err(Error::of_reason(reason)),
                 None => Err(Error::OtherRelease),
             },
@@ -86,9 +86,9 @@ impl Session {
     }
 
     /// The answer to the last call. A buffer that is there before the call has room for it.
-    fn told(&self, out: Vec<u8>) -> Answer {
-        let told = |handle: *const _, out, room| unsafe { c::keyset_told(handle, out, room) };
-        let mut answer = self.ask_into(out, told)?;
+    fn last_answer(&self, out: Vec<u8>) -> Answer {
+        let again = |handle: *const _, out, room| unsafe { c::keyset_told(handle, out, room) };
+        let mut answer = self.ask_into(out, again)?;
         answer.truncate(answer.trim_end_matches('\n').len());
         Ok(answer)
     }
@@ -180,13 +180,13 @@ impl Session {
     }
 
     /// Asks a question, and once more if its answer is longer than the room for it. A question
-    /// writes nothing into the session, and gets as many bytes as it is told.
+    /// writes nothing into the session, and gets the room that it asks for.
     fn ask_into(&self, mut out: Vec<u8>, question: impl Question) -> Answer {
         loop {
-            let told = question(&self.handle, out.as_mut_ptr(), out.len());
-            match told.status {
-                c::ANSWERED => return text(out, told.length),
-                c::SHORT => out = room(told.length)?,
+            let outcome = question(&self.handle, out.as_mut_ptr(), out.len());
+            match outcome.status {
+                c::ANSWERED => return text(out, outcome.length),
+                c::SHORT => out = room(outcome.length)?,
                 status => return Err(Error::of_status(status)),
             }
         }
@@ -222,14 +222,14 @@ pub fn answer(script: &str) -> Result<String, Error> {
     let mut out = room(ROOM)?;
     loop {
         // SAFETY: each pointer is that of a slice with its length, and only we use `out`.
-        let told = unsafe {
+        let outcome = unsafe {
             let (text, room) = (out.as_mut_ptr(), out.len());
             c::keyset_answer(script.as_ptr(), script.len(), text, room)
         };
-        match told.status {
-            c::ANSWERED => return text(out, told.length),
-            c::SHORT => out = room(told.length)?,
-            c::MALFORMED => return Err(Error::Malformed { line: told.line }),
+        match outcome.status {
+            c::ANSWERED => return text(out, outcome.length),
+            c::SHORT => out = room(outcome.length)?,
+            c::MALFORMED => return Err(Error::Malformed { line: outcome.line }),
             _ => return Err(Error::OutOfMemory),
         }
     }
@@ -245,17 +245,17 @@ pub fn next(policy: &str, script: &str, notes: &str, seconds: u64) -> Result<Str
     let mut out = room(ROOM)?;
     loop {
         // SAFETY: each pointer is that of a slice with its length, and only we use `out`.
-        let told = unsafe {
+        let outcome = unsafe {
             let (policy, script, notes) = (parts(policy), parts(script), parts(notes));
             let (text, room) = (out.as_mut_ptr(), out.len());
             c::keyset_next(
                 policy.0, policy.1, script.0, script.1, notes.0, notes.1, seconds, text, room,
             )
         };
-        match told.status {
-            c::ANSWERED => return text(out, told.length),
-            c::NOT_SAID => return Err(Error::NotSaid(text(out, told.length)?)),
-            c::SHORT => out = room(told.length)?,
+        match outcome.status {
+            c::ANSWERED => return text(out, outcome.length),
+            c::NOT_SAID => return Err(Error::NotSaid(text(out, outcome.length)?)),
+            c::SHORT => out = room(outcome.length)?,
             _ => return Err(Error::OutOfMemory),
         }
     }

@@ -35,13 +35,13 @@ impl fmt::Display for Published {
 }
 
 /// References with commas between them, or `-` for none.
-pub(crate) struct Listed<'a, T>(&'a [T]);
+pub(crate) struct ReferenceList<'a, T>(&'a [T]);
 
-pub(crate) fn listed<T: AsRef<str>>(references: &[T]) -> Listed<'_, T> {
-    Listed(references)
+pub(crate) fn listed<T: AsRef<str>>(references: &[T]) -> ReferenceList<'_, T> {
+    ReferenceList(references)
 }
 
-impl<T: AsRef<str>> fmt::Display for Listed<'_, T> {
+impl<T: AsRef<str>> fmt::Display for ReferenceList<'_, T> {
     fn fmt(&self, f: &mut fmt::Formatter<'_>) -> fmt::Result {
         match self.0 {
             [] => f.write_str("-"),

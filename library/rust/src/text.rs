@@ -3,9 +3,10 @@
 use crate::error::Error;
 use std::fmt::{self, Write};
 
-struct Growing(String);
+/// A text that `write!` appends to.
+struct Appender(String);
 
-impl Write for Growing {
+impl Write for Appender {
     fn write_str(&mut self, more: &str) -> fmt::Result {
         self.0.try_reserve(more.len()).map_err(|_| fmt::Error)?;
         self.0.push_str(more);
@@ -15,9 +16,11 @@ impl Write for Growing {
 
 /// What `format!` makes.
 pub(crate) fn text(arguments: fmt::Arguments<'_>) -> Result<String, Error> {
-    let mut made = Growing(String::new());
-    made.write_fmt(arguments).map_err(|_| Error::OutOfMemory)?;
-    Ok(made.0)
+    let mut appender = Appender(String::new());
+    appender
+        .write_fmt(arguments)
+        .map_err(|_| Error::OutOfMemory)?;
+    Ok(appender.0)
 }
 
 /// A copy of a text.

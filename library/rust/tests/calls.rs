@@ -116,7 +116,7 @@ fn each_refusal_has_its_cause() -> Result<(), Error> {
 }
 
 #[test]
-fn a_malformed_line_is_told() -> Result<(), Error> {
+fn a_malformed_line_is_named() -> Result<(), Error> {
     let mut keys = after(&FIRST[..1])?;
     for line in ["delete", "delete K1\ndelete K1", "delete K1\r"] {
         assert!(matches!(keys.call(line), Err(Error::Malformed { line: 3 })));
@@ -129,17 +129,17 @@ fn a_malformed_line_is_told() -> Result<(), Error> {
 }
 
 #[test]
-fn an_argument_is_told() -> Result<(), Error> {
+fn a_wrong_argument_is_named() -> Result<(), Error> {
     let mut keys = after(&FIRST[..2])?;
     for text in ["", "-", "K 1", "K1,K2", "K\u{e9}", "K1\n"] {
-        for told in [
+        for outcome in [
             keys.delete_key(text),
             keys.start_roll(ROLL, &[], &["K1", text], 0),
             keys.add_key_csk("C1", Some(text), new_key(2)),
         ] {
             assert!(
-                matches!(told, Err(Error::NotAReference)),
-                "{text}: {told:?}"
+                matches!(outcome, Err(Error::NotAReference)),
+                "{text}: {outcome:?}"
             );
         }
     }
@@ -219,9 +219,9 @@ fn notes_say_which_reports_are_due() -> Result<(), Error> {
         (SetKind::Zone, Report::Now { ttl: 7191 }),
     ] {
         keys.note(published(kind))?;
-        let seen = keys.note(everywhere(kind, 9));
+        let outcome = keys.note(everywhere(kind, 9));
         let refusal = NoteRefusal::SeenEarly;
-        assert!(matches!(seen, Err(Error::RefusedNote { refusal: it, .. }) if it == refusal));
+        assert!(matches!(outcome, Err(Error::RefusedNote { refusal: it, .. }) if it == refusal));
         keys.note(everywhere(kind, 30))?;
         let (roll, call) = (ROLL, Next::Report1);
         assert_eq!(keys.due(40)?, [Due { roll, call, report }]);
@@ -373,7 +373,7 @@ fn a_text_that_a_policy_says_nothing_by_is_named() {
         ),
     ] {
         match next(policy, script, notes, 100) {
-            Err(Error::NotSaid(told)) => assert_eq!(told, why),
+            Err(Error::NotSaid(text)) => assert_eq!(text, why),
             other => panic!("{other:?}"),
         }
     }

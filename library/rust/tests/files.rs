@@ -20,7 +20,7 @@ fn write(path: &Path, text: &[u8]) -> Result<(), Error> {
 }
 
 #[test]
-fn a_damaged_file_is_told_by_its_line() -> Result<(), Error> {
+fn a_damaged_file_is_named_by_its_line() -> Result<(), Error> {
     let path = path_of("damaged")?;
     for (text, wanted) in [
         (&b""[..], 1),
@@ -97,7 +97,7 @@ fn writers_side_by_side_lose_no_line() -> Result<(), Error> {
 
 /// A program that doesn't ask for the lock writes to the file, or puts another in its place.
 #[test]
-fn a_changed_file_is_told() -> Result<(), Error> {
+fn a_changed_file_is_noticed() -> Result<(), Error> {
     let path = path_of("changed")?;
     let mut keys = KeySet::create(&path, "example.com")?;
     let first = fs::read_to_string(&path)?;
@@ -117,7 +117,7 @@ fn a_changed_file_is_told() -> Result<(), Error> {
 
 /// A script that has lost a line isn't shown as the zone of another course.
 #[test]
-fn a_lost_line_is_told() -> Result<(), Error> {
+fn a_lost_line_is_noticed() -> Result<(), Error> {
     let path = path_of("lost")?;
     let text = format!(
         "zone example.com\n{}\nstart algorithm-roll - K1,Z1 0\n",

@@ -6,7 +6,7 @@ use std::alloc::{GlobalAlloc, Layout, System};
 use std::cell::Cell;
 use std::ptr;
 
-struct Failing;
+struct FailingAllocator;
 
 thread_local! {
     /// How many requests of this thread are met before one fails; 0 if all are.
@@ -23,7 +23,7 @@ fn fails() -> bool {
 }
 
 // SAFETY: it hands all requests on to the system, or answers that there is no memory.
-unsafe impl GlobalAlloc for Failing {
+unsafe impl GlobalAlloc for FailingAllocator {
     unsafe fn alloc(&self, layout: Layout) -> *mut u8 {
         match fails() {
             true => ptr::null_mut(),
@@ -44,15 +44,15 @@ unsafe impl GlobalAlloc for Failing {
 }
 
 #[global_allocator]
-static ALLOCATOR: Failing = Failing;
+static ALLOCATOR: FailingAllocator = FailingAllocator;
 
 /// Makes a call with each of its requests failing in turn, until none fails.
 fn each_fails<T>(mut call: impl FnMut() -> Result<T, Error>) -> (T, usize) {
     for request in 1.. {
         LEFT.with(|left| left.set(request));
-        let told = call();
+        let outcome = call();
         let is_met = LEFT.with(|left| left.replace(0)) > 0;
-        match told {
+        match outcome {
             Ok(value) if is_met => return (value, request),
             Ok(_) => panic!("request {request} failed, and the call was made"),
             Err(error) => assert!(
@@ -67,7 +67,7 @@ fn each_fails<T>(mut call: impl FnMut() -> Result<T, Error>) -> (T, usize) {
 #[test]
 fn no_memory_is_an_error() {
     let mut requests = 0;
-    let mut count = |told: usize| requests += told;
+    let mut count = |made: usize| requests += made;
     let (mut keys, made) = each_fails(|| KeySet::new("example.com"));
     count(made);
     let key = |tag| NewKey::new(13.into(), tag, 0);

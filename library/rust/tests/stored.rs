@@ -42,15 +42,15 @@ fn a_key_set_answers_each_call() -> Result<(), Error> {
     each_stored(|name, zone, lines, answers| {
         let mut keys = KeySet::new(&zone["zone ".len()..])?;
         for (line, wanted) in lines.iter().zip(answers) {
-            let told = match keys.call(line) {
+            let answer = match keys.call(line) {
                 Ok(accepted) => accepted
                     .actions
                     .iter()
-                    .fold("ok".to_owned(), |told, action| format!("{told} {action}")),
+                    .fold("ok".to_owned(), |text, action| format!("{text} {action}")),
                 Err(error @ Error::Refused(_)) => error.to_string(),
                 Err(error) => return Err(error),
             };
-            assert_eq!(told, *wanted, "{name}: {line}");
+            assert_eq!(answer, *wanted, "{name}: {line}");
         }
         let sets = keys.published()?.to_string();
         assert_eq!(sets, answers[lines.len()], "{name}");

@@ -30,9 +30,9 @@ thread_local! {
 fn disk<T>(change: impl FnOnce(&mut Disk) -> T) -> T {
     DISK.with(|disk| {
         let mut now = disk.get();
-        let told = change(&mut now);
+        let given = change(&mut now);
         disk.set(now);
-        told
+        given
     })
 }
 
@@ -128,9 +128,9 @@ fn a_line_that_is_not_synced_is_not_accepted() -> Result<(), Error> {
                 lengths_before,
             }
         });
-        let told = keys.call(ADDS[0]).expect_err("a fault");
-        assert_eq!(matches!(told, Error::Io(_)), is_cut, "{told:?}");
-        let cause = told.source().and_then(|it| it.downcast_ref::<io::Error>());
+        let error = keys.call(ADDS[0]).expect_err("a fault");
+        assert_eq!(matches!(error, Error::Io(_)), is_cut, "{error:?}");
+        let cause = error.source().and_then(|it| it.downcast_ref::<io::Error>());
         assert_eq!(cause.and_then(|it| it.raw_os_error()), Some(EIO));
         assert_eq!(fs::read_to_string(&path)?, format!("{first}{left}"));
         assert_eq!((keys.script(), keys.calls()), (&first[..], 0));
