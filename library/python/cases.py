@@ -27,7 +27,7 @@ def add(keys: KeySet, number: int) -> Accepted:
     return keys.add_key_zsk(f"Z{number}", algorithm=13, key_tag=number, creation=0)
 
 
-class Kept(unittest.TestCase):
+class FileCase(unittest.TestCase):
     """A test with the path of a script in a folder of its own."""
 
     def setUp(self):

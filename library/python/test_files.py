@@ -10,7 +10,7 @@ import unittest
 from pathlib import Path
 from unittest import mock
 
-from cases import COURSE, Kept
+from cases import COURSE, FileCase
 from keyset import (
     Accepted,
     Damaged,
@@ -32,7 +32,7 @@ from keyset import (
 ROLL = RollType.ALGORITHM_ROLL
 
 
-class Files(Kept):
+class FileMishapTests(FileCase):
     def test_a_file_that_is_replaced_before_the_lock_is_opened_anew(self):
         self.begin().close()
         flock, text = fcntl.flock, self.path.read_text() + COURSE[0] + "\n"

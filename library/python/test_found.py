@@ -24,7 +24,7 @@ BY_LIBRARY, BY_PROGRAMS = ("LibrarySession\n", ""), ("ProgramSession\n", "")
 
 
 @unittest.skipUnless(LIBRARY, "KEYSET_LIBRARY names none")
-class Found(unittest.TestCase):
+class LibraryPlaceTests(unittest.TestCase):
     def setUp(self):
         folder = tempfile.TemporaryDirectory()
         self.addCleanup(folder.cleanup)
@@ -34,16 +34,16 @@ class Found(unittest.TestCase):
 
     def asked(self, text=ASK, **environment):
         """What Python writes, and the last line that it says on standard error."""
-        found = {**os.environ, "PATH": f"{PROGRAMS}:{os.environ['PATH']}"}
-        found = {name: of for name, of in found.items() if not name.startswith("KEYSET_")}
-        found.update(PYTHONPATH=str(self.package.parent), **environment)
+        given = {**os.environ, "PATH": f"{PROGRAMS}:{os.environ['PATH']}"}
+        given = {name: of for name, of in given.items() if not name.startswith("KEYSET_")}
+        given.update(PYTHONPATH=str(self.package.parent), **environment)
         words = [sys.executable, "-B", "-c", text]
-        done = subprocess.run(words, env=found, cwd=self.top, capture_output=True, text=True)
+        done = subprocess.run(words, env=given, cwd=self.top, capture_output=True, text=True)
         return done.stdout, "".join(done.stderr.splitlines()[-1:])
 
     def expect_unavailable(self, says, *words, **environment):
-        told, last = self.asked(*words, **environment)
-        self.assertEqual(told, "")
+        output, last = self.asked(*words, **environment)
+        self.assertEqual(output, "")
         self.assertRegex(last, rf"^keyset\.errors\.Unavailable: .*{says}")
 
     def place(self, *folders):
@@ -83,8 +83,9 @@ class Found(unittest.TestCase):
         self.assertEqual(self.asked(LD_LIBRARY_PATH=self.place("other")), BY_LIBRARY)
 
     def test_programs_answer_and_a_warning_says_so(self):
-        told, last = self.asked(f"{UNKNOWN}import warnings; warnings.simplefilter('error'); {ASK}")
-        self.assertEqual(told, "")
+        text = f"{UNKNOWN}import warnings; warnings.simplefilter('error'); {ASK}"
+        output, last = self.asked(text)
+        self.assertEqual(output, "")
         self.assertRegex(last, "^keyset.engine.Slow: libkeyset isn't there")
         self.assertEqual(self.asked(UNKNOWN + ASK)[0], BY_PROGRAMS[0])
         for asks in ({"KEYSET_LIBRARY": ""}, {"KEYSET_PROGRAMS": str(PROGRAMS)}):
@@ -99,17 +100,17 @@ class Found(unittest.TestCase):
         return str(path.parent)
 
     def test_a_word_is_handed_to_the_program(self):
-        told = "['keyset\\n', 'keyset status\\n', 'keyset notes\\n']\n"
+        output = "['keyset\\n', 'keyset status\\n', 'keyset notes\\n']\n"
         folder = self.place_program("keyset")
         for how in ({"KEYSET_PROGRAMS": folder}, {"PATH": f"{folder}:/bin:/usr/bin"}):
-            self.assertEqual(self.asked(RUN, **how), (told, ""))
+            self.assertEqual(self.asked(RUN, **how), (output, ""))
 
     def test_a_program_of_an_older_release_is_found_by_its_name(self):
-        told = "['keyset\\n', 'keyset_status\\n', 'keyset_notes\\n']\n"
+        output = "['keyset\\n', 'keyset_status\\n', 'keyset_notes\\n']\n"
         for name in ("keyset", "keyset_status", "keyset_notes"):
             folder = self.place_program(name)
         for how in ({"KEYSET_PROGRAMS": folder}, {"PATH": f"{folder}:/bin:/usr/bin"}):
-            self.assertEqual(self.asked(RUN, **how), (told, ""))
+            self.assertEqual(self.asked(RUN, **how), (output, ""))
 
     def test_one_call_needs_the_library(self):
         text = f"{UNKNOWN}import keyset; keyset.answer(b'zone example.com')"

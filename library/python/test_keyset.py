@@ -52,7 +52,7 @@ def after(lines):
     return keys
 
 
-class Calls(unittest.TestCase):
+class CallTests(unittest.TestCase):
     def test_a_roll_goes_on_after_a_crash(self):
         keys = KeySet.resume(after(FIRST[:4]).script + "wait1 algorithm-roll 37")
         self.assertEqual(keys.actions(ROLL), [])
@@ -118,12 +118,13 @@ class Calls(unittest.TestCase):
         schema = json.loads((Path(__file__).parents[2] / "docs/status.schema.json").read_text())
         types = {"key": members.KeyMembers, "role": members.RoleMembers}
         types.update(roll=members.RollMembers, ended=members.EndedMembers)
-        for name, made in types.items():
-            told = schema["$defs"][name]["properties"]
-            self.assertEqual(sorted(made.__annotations__), sorted(told))
-            for member, kind in typing.get_type_hints(made).items():
+        for name, members_type in types.items():
+            properties = schema["$defs"][name]["properties"]
+            self.assertEqual(sorted(members_type.__annotations__), sorted(properties))
+            for member, kind in typing.get_type_hints(members_type).items():
                 if typing.get_origin(kind) is typing.Literal:
-                    self.assertEqual([*typing.get_args(kind)], told[member]["enum"], member)
+                    values = properties[member]["enum"]
+                    self.assertEqual([*typing.get_args(kind)], values, member)
         self.assertEqual(list(members.Status.__annotations__), schema["required"])
         published = schema["properties"]["published"]["required"]
         self.assertEqual(list(members.PublishedMembers.__annotations__), published)
@@ -141,8 +142,8 @@ class Calls(unittest.TestCase):
 
     def test_a_refused_line_counts_only_if_it_is_kept(self):
         session = open_session("zone example.com")
-        told = [session.accept("delete K9"), session.accept(FIRST[0])]
-        self.assertEqual((told, session.calls), (["refused: key not found", "ok"], 1))
+        answers = [session.accept("delete K9"), session.accept(FIRST[0])]
+        self.assertEqual((answers, session.calls), (["refused: key not found", "ok"], 1))
         self.assertEqual((session.call("delete K9"), session.calls), ("refused: key not found", 2))
         with self.assertRaises(Malformed) as malformed:
             session.accept("delete")
@@ -153,12 +154,12 @@ class Calls(unittest.TestCase):
         asked = keys.start_roll(ROLL, new=["K1", "Z1"], now=0)
         self.assertEqual((asked.number, asked[0]), (3, Action.UPDATE_DNSKEY_RRSET))
 
-    def test_a_broken_chain_is_told(self):
+    def test_a_broken_chain_is_noticed(self):
         keys = after([*FIRST, "report2 algorithm-roll 60 3710", "wait2 algorithm-roll 3770"])
         keys.set_stale("K1")
         self.assertEqual((keys.verdict().at, keys.verdict().ds), (8, 5))
 
-    def test_a_malformed_line_is_told(self):
+    def test_a_malformed_line_is_named(self):
         keys = after(FIRST[:1])
         for line in ("delete", "delete K1\ndelete K1", "delete K\ud800"):
             for ask in (keys.call, keys.would):
@@ -229,7 +230,7 @@ class Calls(unittest.TestCase):
                 keys.next(policy, 100)
             self.assertEqual(str(said.exception), f"policy: {text}")
 
-    def test_a_closed_key_set_is_told_as_such(self):
+    def test_a_closed_key_set_says_so(self):
         keys = after(FIRST[:4])
         keys.close()
         keys.close()
@@ -241,21 +242,21 @@ class Calls(unittest.TestCase):
         self.assertEqual(len(keys.lines), 5)
 
     def test_threads_have_sessions_of_their_own(self):
-        told = {}
+        lengths = {}
 
         def play(number):
             keys = after(FIRST[: number % 5 + 1])
-            told[number] = len(keys.lines)
+            lengths[number] = len(keys.lines)
 
         threads = [threading.Thread(target=play, args=(number,)) for number in range(20)]
         for thread in threads:
             thread.start()
         for thread in threads:
             thread.join()
-        self.assertEqual(told, {number: number % 5 + 2 for number in range(20)})
+        self.assertEqual(lengths, {number: number % 5 + 2 for number in range(20)})
 
 
-class Files(unittest.TestCase):
+class FileTests(unittest.TestCase):
     def setUp(self):
         self.folder = tempfile.TemporaryDirectory()
         self.path = Path(self.folder.name) / "example.com.script"
@@ -282,7 +283,7 @@ class Files(unittest.TestCase):
         with self.assertRaises(FileExistsError):
             KeySet.create(self.path, "example.com")
 
-    def test_a_damaged_file_is_told_by_its_line(self):
+    def test_a_damaged_file_is_named_by_its_line(self):
         texts = {"": 1, "zone a\n\n": 2, "zone a\r\n": 1, "zone a\nadd-ksk K\u00e9\n": 2}
         texts["zone a\ndelete K1\ndelete K1\r\n"] = 3
         for text, line in texts.items():

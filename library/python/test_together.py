@@ -11,7 +11,7 @@ import time
 import unittest
 from unittest import mock
 
-from cases import COURSE, Kept, add
+from cases import COURSE, FileCase, add
 from keyset import Accepted, Error, Forked, KeySet, Locked, locked
 from keyset.engine import _has_library
 
@@ -58,7 +58,7 @@ def child(part):
         os._exit(status)
 
 
-class Together(Kept):
+class SharingTests(FileCase):
     def side_by_side(self, part, *more):
         started = [
             FORK.Process(target=part, args=(number, *more)) for number in range(PROCESSES)
@@ -102,13 +102,13 @@ class Together(Kept):
             time.sleep(attempt / 500)
             os.kill(pid, signal.SIGKILL)
             os.waitpid(pid, 0)
-            told = len(os.read(reading, 4096)) + 1
+            returned = len(os.read(reading, 4096)) + 1
             os.close(reading)
             # (A program that the writer had just begun may have the file still.)
             with opened(self.path, cut_torn=True) as keys:
                 tags = [int(line.split(" ")[4]) for line in keys.lines[1:]]
             kept = sum(tag // 1000 == attempt for tag in tags)
-            self.assertIn(kept, (told, told + 1))
+            self.assertIn(kept, (returned, returned + 1))
 
     def test_a_child_of_the_process_is_refused(self):
         keys = self.begin(COURSE[:2])
@@ -207,17 +207,17 @@ class Together(Kept):
         self.assertTrue(is_refused)
 
     def test_a_handler_of_a_signal_makes_no_call_within_a_call(self):
-        keys, told, sync = self.begin(COURSE[:1]), [], os.fsync
+        keys, references, sync = self.begin(COURSE[:1]), [], os.fsync
 
         def interrupted(descriptor):
             with self.assertRaises(Locked):
                 add(keys, 7)
-            told.append(list(keys.keys()))
+            references.append(list(keys.keys()))
             sync(descriptor)
 
         with mock.patch("os.fsync", interrupted):
             keys.call(COURSE[1])
-        self.assertEqual((told, len(keys.lines)), ([["K1"]], 3))
+        self.assertEqual((references, len(keys.lines)), ([["K1"]], 3))
 
     def test_nor_within_a_call_in_memory(self):
         keys = KeySet("example.com")

@@ -48,17 +48,7 @@ if TYPE_CHECKING:
     from .notes import Notes
     from .rolls import RollType
     from .session import Session
-    from .values import (
-        Accepted,
-        Action,
-        Broken,
-        Due,
-        Key,
-        Published,
-        Role,
-        Roll,
-        Todo,
-    )
+    from .values import Accepted, Action, Broken, Due, Key, Published, Role, Roll, Todo
 
 __all__ = [
     "Accepted",

@@ -45,11 +45,9 @@ def run(lines: Sequence[str]) -> List[str]:
     """The answers to a whole script: a line for each call, then the sets and the verdict."""
     if not _has_library():
         return programs.answers(lines)
-    session = open_session(*lines[:1] or [""])
-    replies = [session.call(line) for line in lines[1:]]
-    told = [*replies, *session.closing()]
-    session.close()
-    return told
+    with contextlib.closing(open_session(*lines[:1] or [""])) as session:
+        replies = [session.call(line) for line in lines[1:]]
+        return [*replies, *session.closing()]
 
 
 def refused(lines: Sequence[str]) -> List[Tuple[int, str]]:
@@ -68,10 +66,8 @@ def status(lines: Sequence[str]) -> Status:
     """The status of the zone after a script's last line."""
     if not _has_library():
         return programs.status(lines)
-    session = after(lines)
-    told = session.status()
-    session.close()
-    return told
+    with contextlib.closing(after(lines)) as session:
+        return session.status()
 
 
 def due(lines: Sequence[str], notes: Sequence[str], moment: int) -> Dict[str, Optional[int]]:
@@ -86,17 +82,17 @@ def dues(
     """What is due, as `due` gives it, at places of a script and its notes: after how many lines of
     each, and at which moment. No place may be before the one before it."""
     if not _has_library():
-        for called, noted, moment in places:
-            yield _ttls(programs.due(lines[:called], notes[:noted], moment))
+        for calls_end, notes_end, moment in places:
+            yield _ttls(programs.due(lines[:calls_end], notes[:notes_end], moment))
         return
     with contextlib.closing(after(lines[:1])) as session:
-        calls, facts = 1, 0
-        for called, noted, moment in places:
-            for line in lines[calls:called]:
+        calls_begin, notes_begin = 1, 0
+        for calls_end, notes_end, moment in places:
+            for line in lines[calls_begin:calls_end]:
                 session.call(line)
-            for line in notes[facts:noted]:
+            for line in notes[notes_begin:notes_end]:
                 session.note(line)
-            calls, facts = called, noted
+            calls_begin, notes_begin = calls_end, notes_end
             yield _ttls(session.due(moment))
 
 
@@ -145,10 +141,10 @@ class _After:
         return roles_of(self._session.status())
 
 
-def _ttls(told: str) -> Dict[str, Optional[int]]:
+def _ttls(reports: str) -> Dict[str, Optional[int]]:
     from .values import Due
 
-    return {one.roll.value: one.ttl for one in map(Due.of, told.splitlines())}
+    return {one.roll.value: one.ttl for one in map(Due.of, reports.splitlines())}
 
 
 def after(lines: Sequence[str]) -> Session:

@@ -15,16 +15,7 @@ from .rolls import RollType
 from .members import Status, WaitEnd
 from .notes import Notes, path_of
 from .session import Guard, Session
-from .values import (
-    Accepted,
-    Action,
-    Broken,
-    Due,
-    Key,
-    Published,
-    Roll,
-    Todo,
-)
+from .values import Accepted, Action, Broken, Due, Key, Published, Roll, Todo
 
 
 class KeySet(Calls):
@@ -224,22 +215,22 @@ class KeySet(Calls):
 
     def keys(self) -> dict[str, Key]:
         """The keys by reference."""
-        return {told["reference"]: Key.of(told) for told in self.status()["keys"]}
+        return {key["reference"]: Key.of(key) for key in self.status()["keys"]}
 
     def rolls(self) -> dict[RollType, Roll]:
         """The rolls in progress."""
-        return {RollType(told["roll"]): Roll.of(told) for told in self.status()["rolls"]}
+        return {RollType(roll["roll"]): Roll.of(roll) for roll in self.status()["rolls"]}
 
     def actions(self, roll: RollType) -> list[Action]:
         """What is due in a roll that is in progress; nothing for another."""
-        made = self.rolls().get(roll)
-        return made.due if made else []
+        known = self.rolls().get(roll)
+        return known.due if known else []
 
     def wait_end(self, roll: RollType) -> WaitEnd | None:
         """The first second from which the roll's wait is accepted, if it is in one; `past-time` if
         no call can name it."""
-        made = self.rolls().get(roll)
-        return made.not_before if made else None
+        known = self.rolls().get(roll)
+        return known.not_before if known else None
 
     def _closing(self) -> list[str]:
         with self._guard.held():
@@ -288,7 +279,7 @@ def _replayed(lines: Sequence[str]) -> tuple[Session, list[tuple[int, str]]]:
         raise Malformed(1, "the file is empty")
     session, refused = engine.open_session(lines[0]), []
     for number, line in enumerate(lines[1:], start=2):
-        error = refusal_of(_told(session, line))
+        error = refusal_of(_reply_to(session, line))
         if isinstance(error, OutOfMemory):
             raise error
         if error:
@@ -296,7 +287,7 @@ def _replayed(lines: Sequence[str]) -> tuple[Session, list[tuple[int, str]]]:
     return session, refused
 
 
-def _told(session: Session, line: str) -> str:
+def _reply_to(session: Session, line: str) -> str:
     """The answer of a session that only this module has: so if it is lost, nothing else is."""
     try:
         return session.call(line)
@@ -306,7 +297,7 @@ def _told(session: Session, line: str) -> str:
 
 def _accepted(session: Session, line: str) -> Accepted:
     """Has the session make the call, or raises why it is refused."""
-    reply = _told(session, line)
+    reply = _reply_to(session, line)
     if error := refusal_of(reply):
         raise error
     return Accepted.of(reply, session.calls)

@@ -101,20 +101,20 @@ def _loaded(path: str) -> ctypes.CDLL:
         raise Unavailable(f"the library can't be loaded: {error}") from None
 
 
-def _checked(path: str, made: ctypes.CDLL) -> ctypes.CDLL:
+def _checked(path: str, code: ctypes.CDLL) -> ctypes.CDLL:
     """The library with the types of its functions, if it is of this version."""
     try:
-        made.keyset_version.restype = ctypes.c_uint32
-        version = made.keyset_version()
+        code.keyset_version.restype = ctypes.c_uint32
+        version = code.keyset_version()
         if version == INTERFACE:
-            _declare(made)
-            return made
+            _declare(code)
+            return code
     except AttributeError as error:
         raise Unavailable(f"{path}: it isn't this library, or is an older one: {error}") from None
     raise Unavailable(f"{path}: the library is of version {version}, and not of {INTERFACE}")
 
 
-def _declare(made: ctypes.CDLL) -> None:
+def _declare(code: ctypes.CDLL) -> None:
     text, handle = (ctypes.c_char_p, ctypes.c_size_t), ctypes.POINTER(_Handle)
     answers = {
         "answer": [*text, *text],
@@ -126,15 +126,15 @@ def _declare(made: ctypes.CDLL) -> None:
     }
     statuses = {"open": [*text, handle], "note": [handle, *text], "copy": [handle, handle]}
     # (An older library of this version lacks these.)
-    if hasattr(made, "keyset_accept"):
+    if hasattr(code, "keyset_accept"):
         statuses["accept"] = [handle, *text]
-    if hasattr(made, "keyset_next"):
+    if hasattr(code, "keyset_next"):
         answers["next"] = [*text, *text, *text, ctypes.c_uint64, *text]
     for names, restype in ((answers, _Answered), (statuses, ctypes.c_uint32)):
         for name, takes in names.items():
-            function = getattr(made, f"keyset_{name}")
+            function = getattr(code, f"keyset_{name}")
             function.restype, function.argtypes = restype, takes
-    made.keyset_close.restype, made.keyset_close.argtypes = None, [handle]
+    code.keyset_close.restype, code.keyset_close.argtypes = None, [handle]
 
 
 # Asks the library for a text: with a buffer and its length.
@@ -224,13 +224,13 @@ class LibrarySession(Session):
             return self._asked("due", moment)
 
     def copy(self) -> LibrarySession:
-        made = LibrarySession.__new__(LibrarySession)
+        twin = LibrarySession.__new__(LibrarySession)
         with self._guard.held():
-            made._begin(self._calls, self._notes)
-            status = self._library.keyset_copy(self._by(), made._by())
+            twin._begin(self._calls, self._notes)
+            status = self._library.keyset_copy(self._by(), twin._by())
         if status:
             raise fault(status)
-        return made
+        return twin
 
     def close(self) -> None:
         if self._guard.is_own:
@@ -254,14 +254,14 @@ class LibrarySession(Session):
         room = 4096
         while True:
             out = ctypes.create_string_buffer(room)
-            told = ask(out, room)
-            if told.status == ANSWERED:
-                return out.raw[: told.length].decode()
-            if told.status == MALFORMED:
+            outcome = ask(out, room)
+            if outcome.status == ANSWERED:
+                return out.raw[: outcome.length].decode()
+            if outcome.status == MALFORMED:
                 raise Malformed(self._calls + 2, why_malformed(line))
-            if told.status != SHORT:
-                raise fault(told.status)
-            room, ask = told.length, again
+            if outcome.status != SHORT:
+                raise fault(outcome.status)
+            room, ask = outcome.length, again
 
 
 def _close(close: Callable[[object], None], handle: _Handle, guard: Guard) -> None:
@@ -281,31 +281,31 @@ def answer(script: bytes) -> str:
     ask, room = needed().keyset_answer, 4096
     while True:
         out = ctypes.create_string_buffer(room)
-        told = ask(script, len(script), out, room)
-        if told.status == ANSWERED:
-            return out.raw[: told.length].decode()
-        if told.status == MALFORMED:
-            raise Malformed(told.line)
-        if told.status != SHORT:
-            raise fault(told.status)
-        room = told.length
+        outcome = ask(script, len(script), out, room)
+        if outcome.status == ANSWERED:
+            return out.raw[: outcome.length].decode()
+        if outcome.status == MALFORMED:
+            raise Malformed(outcome.line)
+        if outcome.status != SHORT:
+            raise fault(outcome.status)
+        room = outcome.length
 
 
 def next_line(policy: bytes, script: bytes, notes: bytes, moment: int) -> str:
     """What a policy says to do next at a second since 1970, in the form in which the program
     `keyset next` writes it."""
-    made, room = needed(), 4096
-    if not hasattr(made, "keyset_next"):
+    code, room = needed(), 4096
+    if not hasattr(code, "keyset_next"):
         raise Unavailable("the library is of a release before keyset_next")
     while True:
         out = ctypes.create_string_buffer(room)
         texts = (part for text in (policy, script, notes) for part in (text, len(text)))
-        told = made.keyset_next(*texts, moment, out, room)
-        text = out.raw[: told.length].decode()
-        if told.status == ANSWERED:
+        outcome = code.keyset_next(*texts, moment, out, room)
+        text = out.raw[: outcome.length].decode()
+        if outcome.status == ANSWERED:
             return text
-        if told.status == NOT_SAID:
+        if outcome.status == NOT_SAID:
             raise NotSaid(text)
-        if told.status != SHORT:
-            raise fault(told.status)
-        room = told.length
+        if outcome.status != SHORT:
+            raise fault(outcome.status)
+        room = outcome.length

@@ -103,6 +103,6 @@ class After(Protocol):
     def roles(self) -> List[Tuple[int, RoleMembers]]: ...
 
 
-def roles_of(told: Status) -> List[Tuple[int, RoleMembers]]:
+def roles_of(status: Status) -> List[Tuple[int, RoleMembers]]:
     """The roles of all keys, each with its key's algorithm."""
-    return [(key["algorithm"], role) for key in told["keys"] for role in key["roles"]]
+    return [(key["algorithm"], role) for key in status["keys"] for role in key["roles"]]

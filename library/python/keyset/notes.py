@@ -164,18 +164,18 @@ class Notes:
         if word == "before":
             return
         last = max((_moment(it) for it in lines if it.split(" ")[1] == kind), default=0)
-        made = self._made(_call(line)) if word == "published" else 0
-        for least, says in ((last, f"the notes of {kind} say"), (made, "the script says")):
+        call = self._call_moment(_call(line)) if word == "published" else 0
+        for least, says in ((last, f"the notes of {kind} say"), (call, "the script says")):
             if _moment(line) < least:
                 raise WrongArgument("now", _moment(line), f"{least} or later: {says} so")
 
-    def _made(self, call: int) -> int:
+    def _call_moment(self, call: int) -> int:
         """The greatest moment of the calls up to this one, as far as the script is there."""
         script = self.path and self.path.with_suffix(".script")
         if script is None or not script.is_file():
             return 0
-        made = map(Line, file.Lines(script).lines[1 : call + 1])
-        return max((it.moment or 0 for it in made if it.word in OF_CLOCK), default=0)
+        calls = map(Line, file.Lines(script).lines[1 : call + 1])
+        return max((it.moment or 0 for it in calls if it.word in OF_CLOCK), default=0)
 
 
 class Seen:

@@ -29,16 +29,16 @@ class State:
     roles: List[Tuple[int, RoleMembers]]
 
     @classmethod
-    def of(cls, told: Status, name: Callable[[str], str]) -> State:
-        sets = cast(Dict[str, List[str]], told["published"])
-        return cls({kind: sorted(map(name, keys)) for kind, keys in sets.items()}, roles_of(told))
+    def of(cls, status: Status, name: Callable[[str], str]) -> State:
+        sets = cast(Dict[str, List[str]], status["published"])
+        return cls({kind: sorted(map(name, keys)) for kind, keys in sets.items()}, roles_of(status))
 
 
 # The lines that make a key as it is, with `{0}` for its number.
-Made = Tuple[str, ...]
+KeyLines = Tuple[str, ...]
 
 
-class Unlike(Exception):
+class Mismatch(Exception):
     """A piece can't be asked by itself: lines can't make its keys, or it is answered otherwise."""
 
 
@@ -46,15 +46,15 @@ class Unlike(Exception):
 class Piece:
     """What is so after each line of a piece, and how its keys are made after the last one."""
 
-    told: List[Status]
-    keys: Dict[int, Made]
+    statuses: List[Status]
+    keys: Dict[int, KeyLines]
 
 
 class Pieces:
     """Goes through a script, piece by piece."""
 
     def __init__(self) -> None:
-        self._keys: Dict[str, Made] = {}
+        self._keys: Dict[str, KeyLines] = {}
         self._known: Dict[Tuple[str, ...], Piece] = {}
         self._last = State({kind: [] for kind in ("ds", "dnskey", "signers", "zone")}, [])
 
@@ -73,15 +73,15 @@ class Pieces:
 
     def _states(self, piece: Sequence[Tuple[str, str]]) -> Iterator[State]:
         numbers = Numbers(self._keys)
-        made = [line.format(at) for at, key in enumerate(self._keys.values()) for line in key]
+        before = [line.format(at) for at, key in enumerate(self._keys.values()) for line in key]
         lines = [numbers.plain(line) for line, _ in piece]
-        asked = (*made, "", *lines)
+        asked = (*before, "", *lines)
         if asked not in self._known:
             adds = [*(key[0] for key in self._keys.values()), *numbers.adds]
-            self._known[asked] = _asked([ZONE, *made], lines, [it for _, it in piece], adds)
+            self._known[asked] = _piece_of([ZONE, *before], lines, [it for _, it in piece], adds)
         found = self._known[asked]
-        for told in found.told:
-            self._last = State.of(told, numbers.name)
+        for status in found.statuses:
+            self._last = State.of(status, numbers.name)
             yield self._last
         self._keys = {numbers.name(f"K{at}"): key for at, key in found.keys.items()}
 
@@ -122,21 +122,23 @@ def _add(line: str) -> str:
     return " ".join([word, *(plain.get(name, field) for name, field in named)])
 
 
-def _asked(
-    made: List[str], lines: List[str], replies: List[str], adds: List[str]
+def _piece_of(
+    before: List[str], lines: List[str], replies: List[str], adds: List[str]
 ) -> Piece:
-    """What the programs say of a piece. `Unlike`: they answer it otherwise than in its script."""
-    if len(adds) > MOST or programs.answers([*made, *lines])[len(made) - 1 : -2] != replies:
-        raise Unlike
-    told = [programs.status([*made, *lines[:count]]) for count in range(1, len(lines) + 1)]
-    last = told[-1]
+    """What the programs say of a piece after the lines that make its keys. `Mismatch`: they answer
+    it otherwise than in its script."""
+    if len(adds) > MOST or programs.answers([*before, *lines])[len(before) - 1 : -2] != replies:
+        raise Mismatch
+    counts = range(1, len(lines) + 1)
+    statuses = [programs.status([*before, *lines[:count]]) for count in counts]
+    last = statuses[-1]
     keys = {int(key["reference"][1:]): key for key in last["keys"]}
     left = {at: (adds[at], *_setters(key)) for at, key in keys.items()}
     if not last["rolls"]:
         again = programs.status([ZONE, *(it.format(at) for at, key in left.items() for it in key)])
         if (again["published"], roles_of(again)) != (last["published"], roles_of(last)):
-            raise Unlike
-    return Piece(told, left)
+            raise Mismatch
+    return Piece(statuses, left)
 
 
 def _setters(key: KeyMembers) -> Iterator[str]:
@@ -179,7 +181,7 @@ def follow(lines: Sequence[str]) -> Iterator[State]:
     for piece in cut(lines[1:], programs.answers(lines)[:-2]):
         try:
             found = list(pieces.follow(piece))
-        except Unlike:
+        except Mismatch:
             break
         yield from found
         done += len(piece)

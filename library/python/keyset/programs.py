@@ -76,10 +76,10 @@ class ProgramSession(Session):
 
     def copy(self) -> ProgramSession:
         with self._guard.held():
-            made = ProgramSession.__new__(ProgramSession)
-            made._guard, made._lines = Guard(), list(self._kept())
-            made._notes, made._closing = list(self._notes), list(self._closing)
-            return made
+            twin = ProgramSession.__new__(ProgramSession)
+            twin._guard, twin._lines = Guard(), list(self._kept())
+            twin._notes, twin._closing = list(self._notes), list(self._closing)
+            return twin
 
     def close(self) -> None:
         self._lines = None

@@ -170,32 +170,32 @@ class Key:
     new_in: list[RollType]
 
     @classmethod
-    def of(cls, told: KeyMembers) -> Key:
+    def of(cls, members: KeyMembers) -> Key:
         """Reads a key of the status."""
         return cls(
-            told["reference"],
-            told["kind"],
-            [Role(**role) for role in told["roles"]],
-            told["algorithm"],
-            told["tag"],
-            told["private"],
-            told["decoupled"],
-            stamps_of(told),
-            told["may_come_in"],
-            told["may_be_deleted"],
-            list(map(RollType, told["old_in"])),
-            list(map(RollType, told["new_in"])),
+            members["reference"],
+            members["kind"],
+            [Role(**role) for role in members["roles"]],
+            members["algorithm"],
+            members["tag"],
+            members["private"],
+            members["decoupled"],
+            stamps_of(members),
+            members["may_come_in"],
+            members["may_be_deleted"],
+            list(map(RollType, members["old_in"])),
+            list(map(RollType, members["new_in"])),
         )
 
 
-def stamps_of(told: KeyMembers) -> Stamps:
+def stamps_of(members: KeyMembers) -> Stamps:
     return {
-        "creation": told["creation"],
-        "published": told["published"],
-        "visible": told["visible"],
-        "ds_visible": told["ds_visible"],
-        "rrsig_visible": told["rrsig_visible"],
-        "withdrawn": told["withdrawn"],
+        "creation": members["creation"],
+        "published": members["published"],
+        "visible": members["visible"],
+        "ds_visible": members["ds_visible"],
+        "rrsig_visible": members["rrsig_visible"],
+        "withdrawn": members["withdrawn"],
     }
 
 
@@ -214,14 +214,14 @@ class Roll:
     due: list[Action]
 
     @classmethod
-    def of(cls, told: RollMembers) -> Roll:
+    def of(cls, members: RollMembers) -> Roll:
         """Reads a roll of the status."""
         return cls(
-            RollType(told["roll"]),
-            told["phase"],
-            told["ttl"],
-            told["next"],
-            told["not_before"],
-            told["waits_for"],
-            list(map(Action, told["due"])),
+            RollType(members["roll"]),
+            members["phase"],
+            members["ttl"],
+            members["next"],
+            members["not_before"],
+            members["waits_for"],
+            list(map(Action, members["due"])),
         )
