@@ -7,7 +7,7 @@
 mod first_keys;
 mod memory;
 mod names;
-mod noted;
+mod notes;
 mod replies;
 mod runs;
 mod verdicts;
@@ -30,19 +30,19 @@ fn main(rt: HostRuntime) -> Result<()> {
     let mut input = String::new(rt.alloc());
     rt.stdin().read_to_string(&mut input)?;
     match input.as_bytes() {
-        [] => tell_callers(&rt),
-        [b'z', ..] => whole_sets::tell(&rt, input.as_str()),
-        [letter, script @ ..] => memory::tell(&rt, *letter, script),
+        [] => write_callers(&rt),
+        [b'z', ..] => whole_sets::write(&rt, input.as_str()),
+        [letter, script @ ..] => memory::write_outcome(&rt, *letter, script),
     }
 }
 
-fn tell_callers(rt: &HostRuntime) -> Result<()> {
+fn write_callers(rt: &HostRuntime) -> Result<()> {
     println!(rt; "{}", names::describe(rt.alloc(), "a\\.b.example.com.")?)?;
     println!(rt; "{}", names::describe(rt.alloc(), "a..b")?)?;
     println!(rt; "{:?}", first_keys::bring_in(rt.alloc())?)?;
     println!(rt; "{}", verdicts::judge(rt.alloc(), TOO_SOON)?)?;
     println!(rt; "{}", runs::publish(rt.alloc())?)?;
-    println!(rt; "{}", noted::first_report(rt.alloc())?)?;
+    println!(rt; "{}", notes::first_report(rt.alloc())?)?;
     println!(rt; "{:?}", replies::without_keys(rt.alloc())?)?;
     Ok(())
 }

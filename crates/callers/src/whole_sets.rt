@@ -22,23 +22,23 @@ const ROLLS: &str =
     "ksk-roll ksk-double-ds-roll zsk-roll zsk-double-signature-roll csk-roll algorithm-roll";
 
 /// An empty line stands between two scripts, and between two parts of what is written.
-pub fn tell(rt: &HostRuntime, scripts: &str) -> Result<()> {
+pub fn write(rt: &HostRuntime, scripts: &str) -> Result<()> {
     for script in scripts.split("\n\n") {
         println!(rt; "{}", answers_to(rt.alloc(), script)?)?;
-        tell_record(rt, script)?;
-        tell_sets(rt, script)?;
+        write_record(rt, script)?;
+        write_sets(rt, script)?;
     }
     Ok(())
 }
 
 /// The set after each line.
-fn tell_sets(rt: &HostRuntime, script: &str) -> Result<()> {
+fn write_sets(rt: &HostRuntime, script: &str) -> Result<()> {
     for (end, byte) in script.bytes().enumerate() {
         if byte == b'\n' {
-            tell_set_after(rt, script.get(..end).unwrap_or_default())?;
+            write_set_after(rt, script.get(..end).unwrap_or_default())?;
         }
     }
-    tell_set_after(rt, script)
+    write_set_after(rt, script)
 }
 
 fn answers_to(alloc: Global, script: &str) -> Result<String>
@@ -50,7 +50,7 @@ fn answers_to(alloc: Global, script: &str) -> Result<String>
     Ok(String::from_utf8(output.into_inner())?)
 }
 
-fn tell_record(rt: &HostRuntime, script: &str) -> Result<()> {
+fn write_record(rt: &HostRuntime, script: &str) -> Result<()> {
     let entries = record_script(rt.alloc(), script.as_bytes())?.entries;
     let is_one = audit_window(rt.alloc(), &entries) == Ok(audit(&entries));
     println!(rt; "{} entries, one verdict: {is_one}", entries.len())?;
@@ -62,7 +62,7 @@ fn tell_record(rt: &HostRuntime, script: &str) -> Result<()> {
     Ok(())
 }
 
-fn tell_set_after(rt: &HostRuntime, script: &str) -> Result<()> {
+fn write_set_after(rt: &HostRuntime, script: &str) -> Result<()> {
     let run = record_script(rt.alloc(), script.as_bytes())?;
     let set = run.keyset.try_clone()?;
     println!(rt;
@@ -70,20 +70,20 @@ fn tell_set_after(rt: &HostRuntime, script: &str) -> Result<()> {
         set.keys().len(),
         set.rollstates().len()
     )?;
-    tell_keys(rt, &set)?;
-    tell_rolls(rt, &set)
+    write_keys(rt, &set)?;
+    write_rolls(rt, &set)
 }
 
-fn tell_keys(rt: &HostRuntime, set: &KeySet) -> Result<()> {
+fn write_keys(rt: &HostRuntime, set: &KeySet) -> Result<()> {
     for (reference, key) in set.keys() {
         let copy = key.try_clone()?;
-        tell_key(rt, reference.as_str(), &copy)?;
-        tell_states(rt, reference.as_str(), copy.keytype())?;
+        write_key(rt, reference.as_str(), &copy)?;
+        write_states(rt, reference.as_str(), copy.keytype())?;
     }
     Ok(())
 }
 
-fn tell_key(rt: &HostRuntime, reference: &str, key: &Key) -> Result<()> {
+fn write_key(rt: &HostRuntime, reference: &str, key: &Key) -> Result<()> {
     let (kind, first, second) = roles(key.keytype());
     println!(rt;
         "{reference} {:?} {kind} {first:?} {second:?} {} {} {} {:?}",
@@ -106,32 +106,32 @@ fn roles(keytype: KeyType) -> (&'static str, Flags, Option<Flags>) {
     }
 }
 
-fn tell_states(rt: &HostRuntime, reference: &str, keytype: KeyType) -> Result<()> {
+fn write_states(rt: &HostRuntime, reference: &str, keytype: KeyType) -> Result<()> {
     match keytype {
         KeyType::Ksk(state) | KeyType::Zsk(state) | KeyType::Include(state) => {
-            tell_state(rt, reference, state)
+            write_state(rt, reference, state)
         }
         KeyType::Csk(ksk, zsk) => {
-            tell_state(rt, reference, ksk)?;
-            tell_state(rt, reference, zsk)
+            write_state(rt, reference, ksk)?;
+            write_state(rt, reference, zsk)
         }
     }
 }
 
-fn tell_state(rt: &HostRuntime, reference: &str, state: KeyState) -> Result<()> {
+fn write_state(rt: &HostRuntime, reference: &str, state: KeyState) -> Result<()> {
     println!(rt; "{reference}: {state}")?;
     Ok(())
 }
 
-fn tell_rolls(rt: &HostRuntime, set: &KeySet) -> Result<()> {
+fn write_rolls(rt: &HostRuntime, set: &KeySet) -> Result<()> {
     for name in ROLLS.split(' ') {
-        tell_roll(rt, set, RollType::from_str(name)?)?;
+        write_roll(rt, set, RollType::from_str(name)?)?;
     }
     println!(rt)?;
     Ok(())
 }
 
-fn tell_roll(rt: &HostRuntime, set: &KeySet, roll: RollType) -> Result<()> {
+fn write_roll(rt: &HostRuntime, set: &KeySet, roll: RollType) -> Result<()> {
     println!(rt;
         "{roll:?} {:?} {:?} {:?} {}",
         set.rollstates().get(&roll),

@@ -1,6 +1,6 @@
 //! Names of zones: their texts, their wire bytes, and copies of them.
+use super::failure::Failure;
 use super::requests::Memory;
-use super::wrong::Wrong;
 use dnssec_base::{Name, NameError};
 use std::alloc::Global;
 
@@ -9,10 +9,10 @@ const NAMES: [(&str, &[u8]); 2] = [(".", &[0]), ("a\\.b.c\\032", b"\x03a.b\x02c 
 
 /// Whichever request for memory is refused, the call that made it answers so, and the same call
 /// then gives the name, its copy or its text.
-pub(crate) fn read_copy_and_print(alloc: Global, memory: &mut Memory) -> Result<(), Wrong> {
+pub(crate) fn read_copy_and_print(alloc: Global, memory: &mut Memory) -> Result<(), Failure> {
     for (text, wire) in NAMES {
         if !is_read(alloc, text, wire, memory) {
-            return Err(Wrong::Name(text));
+            return Err(Failure::Name(text));
         }
     }
     Ok(())

@@ -1,8 +1,8 @@
-//! What went otherwise.
+//! What went otherwise than it should.
 use std::fmt;
 
 #[derive(Clone, Copy, Debug)]
-pub(crate) enum Wrong {
+pub(crate) enum Failure {
     /// No calls have this letter.
     Letter,
     /// A name wasn't read, copied or printed as it should be.
@@ -15,16 +15,16 @@ pub(crate) enum Wrong {
     Verdict,
 }
 
-impl fmt::Display for Wrong {
+impl fmt::Display for Failure {
     fn fmt<W: fmt::Write>(&self, f: &mut fmt::Formatter<W>) -> fmt::Result {
         match self {
-            Wrong::Letter => f.write_str("no calls have this letter"),
-            Wrong::Name(text) => write!(f, "the name {text}"),
-            Wrong::Copy => f.write_str("a copy"),
-            Wrong::Record => f.write_str("a record"),
-            Wrong::Verdict => f.write_str("a verdict"),
+            Failure::Letter => f.write_str("no calls have this letter"),
+            Failure::Name(text) => write!(f, "the name {text}"),
+            Failure::Copy => f.write_str("a copy"),
+            Failure::Record => f.write_str("a record"),
+            Failure::Verdict => f.write_str("a verdict"),
         }
     }
 }
 
-impl std::error::Error for Wrong {}
+impl std::error::Error for Failure {}
