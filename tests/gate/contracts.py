@@ -75,11 +75,11 @@ def made():
         defined = definitions(stands_on(crate.name, listed)) | definitions({crate.name})
         for path in sorted(crate.glob("src/**/*.rt")):
             for match in FUNCTION.finditer(path.read_text()):
-                told = [*clauses(match["head"], defined)]
-                if told:
+                contract = [*clauses(match["head"], defined)]
+                if contract:
                     place = proof_of(crate, path, match["name"])
                     proof = [f"    proof: {place}"] if place else []
-                    lines += [f"{match['name']}: {path.relative_to(CRATES)}", *told, *proof]
+                    lines += [f"{match['name']}: {path.relative_to(CRATES)}", *contract, *proof]
     return "\n".join(lines) + "\n"
 
 

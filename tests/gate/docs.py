@@ -90,10 +90,10 @@ def rendered(path, how):
         return [MOMENT.sub("$ ", line) for part in parts for line in part]
     if "answered" not in how:
         return in_range(lines, how)[0]
-    told = (TOP / path).with_suffix(".answers").read_text().splitlines()
-    pairs, is_whole = in_range(list(zip(lines, ["", *told])), how)
+    replies = (TOP / path).with_suffix(".answers").read_text().splitlines()
+    pairs, is_whole = in_range(list(zip(lines, ["", *replies])), how)
     if is_whole:
-        pairs = pairs + [("", line) for line in told[-2:]]
+        pairs = pairs + [("", line) for line in replies[-2:]]
     width = max(len(line) for line, _ in pairs)
     return [f"{line:{width}}  {answer}".rstrip() for line, answer in pairs]
 
@@ -225,16 +225,16 @@ def stored_text(scripts):
     text = STORED.read_text()
     parts = [text[: text.index("\n== example-")]]
     for name, path in scripts.items():
-        told = path.with_suffix(".answers").read_text()
-        parts.append(f"\n== {name}\n{path.read_text()}-- answers\n{told}")
+        replies = path.with_suffix(".answers").read_text()
+        parts.append(f"\n== {name}\n{path.read_text()}-- answers\n{replies}")
     return "".join(parts)
 
 
 def write(scripts):
     """Writes again what is compared, from the scripts and the sources."""
     for path in scripts.values():
-        told = answers(path.read_text().splitlines())
-        path.with_suffix(".answers").write_text("\n".join(told) + "\n")
+        replies = answers(path.read_text().splitlines())
+        path.with_suffix(".answers").write_text("\n".join(replies) + "\n")
     STORED.write_text(stored_text(scripts))
     for path in documents():
         path.write_text("\n".join(Document(path, set(), []).walk()) + "\n")

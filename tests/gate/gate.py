@@ -94,7 +94,7 @@ class Edits(threading.Thread):
             note(f"{crate}: edits tried", self.last[crate])
 
 
-class Beside(threading.Thread):
+class ModuleRun(threading.Thread):
     """A module of tests, by its room and name, that runs beside `rt ci`: by pytest, if it is named
     as pytest wants it."""
 
@@ -124,7 +124,7 @@ class Beside(threading.Thread):
         return f"the test {self.name} has failed\n" if self.test.returncode else None
 
 
-class After(Beside):
+class DelayedRun(ModuleRun):
     """A script of tests that runs after these crates are proved or kept, on what `rt ci` has built
     or restored, and after these scripts have passed."""
 
@@ -193,7 +193,7 @@ def main():
             return 1
         note(name)
     # At low priority: each crate waits for the proofs of those below it.
-    free = [Beside(name, under=["nice"]) for name in FREE]
+    free = [ModuleRun(name, under=["nice"]) for name in FREE]
     for test in free:
         test.start()
     with tempfile.TemporaryDirectory() as folder:
@@ -205,10 +205,10 @@ def prove_and_test(free, folder):
     have passed, `make install` and `make dist` take that library and the program."""
     before, scripts = built.sums(), waiting(folder)
     status, last = prove(scripts)
-    for beside in (*free, *scripts):
-        fault = beside.fault()
+    for run in (*free, *scripts):
+        fault = run.fault()
         # (If a proof that a script needs has failed, the script never begins; `rt ci` says why.)
-        if fault and (beside.ident or status == 0):
+        if fault and (run.ident or status == 0):
             status, last = 1, fault
     if status == 0:
         status, last = compared(last)
@@ -223,19 +223,19 @@ def prove_and_test(free, folder):
 def waiting(folder):
     """The tests that wait for proofs. Some share the library in a folder."""
     # The library takes no proof of `keyset_c`, only of the crates below it.
-    archive = After("library.archive", folder, after=["dnssec_status", "dnssec_policy"])
-    library = After("library.test_library", under=["env", f"LIBRARY={folder}"],
-                    after=["keyset", "archive"])
+    archive = DelayedRun("library.archive", folder, after=["dnssec_status", "dnssec_policy"])
+    library = DelayedRun("library.test_library", under=["env", f"LIBRARY={folder}"],
+                         after=["keyset", "archive"])
     archive.later.append(library)
     return [
-        After("scripts.test_memory", after=["callers", "keyset"]),
-        After("scripts.test_sets", after=["callers"]),
-        After("scripts.test_notes", after=["keyset"]),
-        After("command.transcripts", after=["keyset"]),
-        After("command.test_rolling", after=["keyset"]),
-        After("scripts.test_nexts", after=["keyset"]),
-        After("scripts.test_rolls", after=["keyset"]),
-        After("scripts.test_automatic", after=["keyset"]),
+        DelayedRun("scripts.test_memory", after=["callers", "keyset"]),
+        DelayedRun("scripts.test_sets", after=["callers"]),
+        DelayedRun("scripts.test_notes", after=["keyset"]),
+        DelayedRun("command.transcripts", after=["keyset"]),
+        DelayedRun("command.test_rolling", after=["keyset"]),
+        DelayedRun("scripts.test_nexts", after=["keyset"]),
+        DelayedRun("scripts.test_rolls", after=["keyset"]),
+        DelayedRun("scripts.test_automatic", after=["keyset"]),
         archive,
         library,
     ]

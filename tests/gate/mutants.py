@@ -151,8 +151,8 @@ def main():
         ready = [it for it in mutants if all(map(passed.get, it.seen_by))]
         faults = [f"{test} fails without a change" for test in tests if not passed[test]]
         survived = [*filter(None, pool.map(lambda it: tried(it, variables), ready))]
-    told = (f"survives: {it}\n  {it.survives}" for it in mutants if it.survives)
-    print(*faults, *survived, *told, sep="\n")
+    reasons = (f"survives: {it}\n  {it.survives}" for it in mutants if it.survives)
+    print(*faults, *survived, *reasons, sep="\n")
     if left_out:
         print(f"not tried, as the library isn't built: {len(left_out)} changes of the Rust crate")
     seen = sum(not it.survives for it in ready) - len(survived)

@@ -50,12 +50,12 @@ def printed(log):
         part = line.partition(": ")[0]
         if part in PARTS:
             lines[part].append(line)
-    return {part: "\n".join(told) for part, told in lines.items()}
+    return {part: "\n".join(of_part) for part, of_part in lines.items()}
 
 
-def is_found(wanted, told):
+def is_found(wanted, others):
     """Whether the numbers are among the others, in this order."""
-    rest = iter(told)
+    rest = iter(others)
     return all(number in rest for number in wanted)
 
 
@@ -85,9 +85,9 @@ def compared(row, log, number, wrong):
 
 def differing(row, parts, log):
     """Each word whose numbers these parts haven't printed, with the row's numbers and theirs."""
-    told = counts("\n".join(log[part] for part in parts))
+    found = counts("\n".join(log[part] for part in parts))
     for word, wanted in counts(row["much"]).items():
-        there = told.get(word, [])
+        there = found.get(word, [])
         if not is_found(wanted, there):
             yield word, wanted, there
 
@@ -95,10 +95,10 @@ def differing(row, parts, log):
 def compare(log, wrong):
     """Compares the figures with the output of a gate. Gives them as they should be."""
     head, *rest = FIGURES.read_text().split("\n\n", 1)
-    lines, told = [*head.splitlines(), ""], printed(log)
+    lines, by_part = [*head.splitlines(), ""], printed(log)
     for number, line in enumerate("".join(rest).splitlines(), start=len(lines) + 1):
         row = ROW.fullmatch(line)
-        lines.append(compared(row, told, number, wrong) if row else line)
+        lines.append(compared(row, by_part, number, wrong) if row else line)
     return "\n".join(lines) + "\n"
 
 

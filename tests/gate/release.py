@@ -44,15 +44,15 @@ def frozen_scripts(version):
     parts = (FROZEN / version / "scripts.txt").read_text().split("\n== ")[1:]
     for part in parts:
         name, _, rest = part.partition("\n")
-        script, _, told = rest.partition("-- answers\n")
-        yield name, script, told.rstrip("\n") + "\n"
+        script, _, replies = rest.partition("-- answers\n")
+        yield name, script, replies.rstrip("\n") + "\n"
 
 
 def other_answers(version):
     names = []
-    for name, script, told in frozen_scripts(version):
+    for name, script, replies in frozen_scripts(version):
         names.append(name)
-        if answers(script.splitlines()) != told.splitlines():
+        if answers(script.splitlines()) != replies.splitlines():
             yield f"the tables don't answer {name} as {version} did"
     rows = (FROZEN / version / "sources.txt").read_text().splitlines()
     if [row.partition(":")[0] for row in rows] != names:

@@ -15,7 +15,7 @@ from pathlib import Path
 
 import pytest
 
-from tests.gate.tools import TOP, Wrong, run
+from tests.gate.tools import TOP, Fault, run
 
 PACKAGE = TOP / "library" / "python" / "keyset"
 
@@ -54,7 +54,7 @@ session = open_session("zone example.com")
 session.call("delete K1").upper()
 session.call(b"delete K1")  # bytes for a text
 session.calls + 1
-session.told()  # a question that isn't there
+session.answers()  # a question that isn't there
 status(["zone example.com"])["chain"]["safe"]
 keyset.run(["zone example.com"])[0].upper()
 keyset.runs(["zone example.com"])  # a function that isn't there
@@ -83,9 +83,9 @@ def ran(*words, **how):
     try:
         done = subprocess.run(list(map(str, words)), capture_output=True, text=True, **how)
     except FileNotFoundError:
-        raise Wrong(f"{words[0]} is missing here, and is needed") from None
+        raise Fault(f"{words[0]} is missing here, and is needed") from None
     if done.returncode not in (0, 1) or done.stderr:
-        raise Wrong(f"{words[0]} ends with {done.returncode}: {done.stdout}{done.stderr}")
+        raise Fault(f"{words[0]} ends with {done.returncode}: {done.stdout}{done.stderr}")
     return done.stdout.splitlines()
 
 

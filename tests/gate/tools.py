@@ -32,16 +32,16 @@ def c_flags(folder):
     return [f"-I{folder}/include", f"-L{folder}/lib", "-l:libkeyset.a"]
 
 
-class Wrong(Exception):
-    pass
+class Fault(Exception):
+    """Something isn't as a test expects it."""
 
 
 def status_of(name, test):
     """Prints what a test says, or what is wrong, and gives the status of its program."""
     try:
         print(f"{name}: {test()}")
-    except Wrong as wrong:
-        print(f"{name}: {wrong}")
+    except Fault as fault:
+        print(f"{name}: {fault}")
         return 1
     return 0
 
@@ -60,9 +60,9 @@ def run(*command, **how):
     try:
         ran = subprocess.run(words, capture_output=True, **how)
     except FileNotFoundError:
-        raise Wrong(f"{words[0]} is missing here, and is needed") from None
+        raise Fault(f"{words[0]} is missing here, and is needed") from None
     if ran.returncode:
-        raise Wrong(f"{' '.join(words)}: status {ran.returncode}\n{ran.stderr.decode()}")
+        raise Fault(f"{' '.join(words)}: status {ran.returncode}\n{ran.stderr.decode()}")
     return ran.stdout.decode()
 
 

@@ -15,7 +15,7 @@ import tempfile
 import time
 from pathlib import Path
 
-from tests.gate.tools import TOP, Wrong, run
+from tests.gate.tools import TOP, Fault, run
 
 CC = "aarch64-linux-gnu-gcc"
 QEMU = "qemu-aarch64"
@@ -80,8 +80,8 @@ def main():
     with tempfile.TemporaryDirectory() as room:
         try:
             python = python_of(Path(room))
-        except Wrong as wrong:
-            print(f"arm: {wrong}")
+        except Fault as fault:
+            print(f"arm: {fault}")
             return 1
         slow = {**os.environ, "EVERY": EVERY}
         for env, *words in (

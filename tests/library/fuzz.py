@@ -12,7 +12,7 @@ import tempfile
 from pathlib import Path
 
 from tables import answers
-from tests.gate.tools import Wrong, run, status_of, stored_scripts
+from tests.gate.tools import Fault, run, status_of, stored_scripts
 
 HERE = Path(__file__).parent
 # The second judge is slow on longer scripts.
@@ -25,9 +25,9 @@ def build(folder, program):
     linked = [f"-I{folder}/include", f"-L{folder}/lib", "-l:libkeyset.a"]
     try:
         run("clang", *flags, "-o", program, *sources, *linked)
-    except Wrong as wrong:
-        text = f"{wrong}\nthe fuzzer wants clang's runtime libraries of {flags[2]} here"
-        raise Wrong(text) from None
+    except Fault as fault:
+        text = f"{fault}\nthe fuzzer wants clang's runtime libraries of {flags[2]} here"
+        raise Fault(text) from None
 
 
 def fuzz(folder, room, runs):
@@ -35,19 +35,19 @@ def fuzz(folder, room, runs):
     wouldn't find whole rolls."""
     corpus, words, program = room / "corpus", room / "words", room / "fuzz"
     corpus.mkdir()
-    seen = set()
+    found = set()
     for i, (_, script, _) in enumerate(stored_scripts()):
         (corpus / str(i)).write_text(script)
-        seen.update(word for word in script.split() if re.fullmatch("[A-Za-z0-9-]+", word))
-    words.write_text("".join(f'"{word}"\n' for word in sorted(seen)))
+        found.update(word for word in script.split() if re.fullmatch("[A-Za-z0-9-]+", word))
+    words.write_text("".join(f'"{word}"\n' for word in sorted(found)))
     build(folder, program)
     given = [f"-runs={runs}", f"-dict={words}", "-max_len=4096", "-print_final_stats=1"]
-    told = subprocess.run(
+    done = subprocess.run(
         [program, *given, "-keep_seed=1", corpus], capture_output=True, text=True, cwd=room
     )
-    if told.returncode:
-        raise Wrong(told.stderr)
-    return [line for line in told.stderr.splitlines() if "DONE" in line or "stat:" in line]
+    if done.returncode:
+        raise Fault(done.stderr)
+    return [line for line in done.stderr.splitlines() if "DONE" in line or "stat:" in line]
 
 
 def answered(path):
@@ -68,11 +68,11 @@ def compare(path):
         compared.add(script)
         if answer != "\n".join(answers(lines)) + "\n":
             text = f"the answers differ from those of the tables:\n{script}-- answers\n{answer}"
-            raise Wrong(text)
+            raise Fault(text)
         replies = zip(lines[1:], answer.split("\n"))
         ended += any(line.startswith("done") and reply == "ok" for line, reply in replies)
     if not ended:
-        raise Wrong("no script has a roll that came to its end")
+        raise Fault("no script has a roll that came to its end")
     return f"{len(compared):,} scripts are answered as by the tables, {ended:,} have a whole roll"
 
 

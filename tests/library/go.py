@@ -15,7 +15,7 @@ from pathlib import Path
 
 from artefact import AARCH64, X86_64, Built, version
 from modules import stage_module
-from tests.gate.tools import RUNNER, TOP, Wrong, run, status_of
+from tests.gate.tools import RUNNER, TOP, Fault, run, status_of
 
 SCRIPTS = [TOP / "examples" / f"{name}.script" for name in ("algorithm-roll", "ksk-roll")]
 PROJECT = """\
@@ -48,9 +48,9 @@ def test_project(module, room, under, env):
     run("go", "mod", "init", "project", cwd=project, env=env)
     run("go", "mod", "edit", f"-require=keyset@v{version()}", f"-replace=keyset={module}",
         cwd=project, env=env)
-    told = run("go", "run", *under, ".", cwd=project, env=env)
-    if told != f"{version()}\n":
-        raise Wrong(f"a project in Go is linked to the library of release {told}")
+    output = run("go", "run", *under, ".", cwd=project, env=env)
+    if output != f"{version()}\n":
+        raise Fault(f"a project in Go is linked to the library of release {output}")
 
 
 def test(folder, is_elsewhere, room):
@@ -64,10 +64,10 @@ def test(folder, is_elsewhere, room):
     for races in ([], ["-race"])[: 1 if is_elsewhere else 2]:
         run("go", "test", *races, *under, "./...", cwd=module, env=env)
     for script in SCRIPTS:
-        told = run("go", "run", *under, "./examples/roll", input=script.read_bytes(), cwd=module,
-                   env=env)
-        if told != script.with_suffix(".answers").read_text():
-            raise Wrong(f"the example in Go doesn't answer {script.name} as the program")
+        output = run("go", "run", *under, "./examples/roll", input=script.read_bytes(), cwd=module,
+                     env=env)
+        if output != script.with_suffix(".answers").read_text():
+            raise Fault(f"the example in Go doesn't answer {script.name} as the program")
     test_project(module, room, under, env)
     return f"the module for Go passes its tests, and answers {len(SCRIPTS)} scripts"
 

@@ -20,7 +20,7 @@ from pathlib import Path
 
 from artefact import X86_64, Built
 from tarballs import pack_built
-from tests.gate.tools import CRATES, NOTED, SHOWN, STRICT, TOP, Wrong, run, status_of
+from tests.gate.tools import CRATES, NOTED, SHOWN, STRICT, TOP, Fault, run, status_of
 from tests.library import mishaps
 
 INSTALL = TOP / "packaging" / "install.py"
@@ -63,7 +63,7 @@ def tree(folder):
 
 def expect(is_so, fault):
     if not is_so:
-        raise Wrong(fault)
+        raise Fault(fault)
 
 
 def apart(prefix, libraries="lib", **more):
@@ -75,19 +75,19 @@ def apart(prefix, libraries="lib", **more):
 def build_in_c(prefix, program, libraries="lib"):
     """A caller of the library, built with what `pkg-config` prints, answers the example."""
     environment = apart(prefix, libraries)
-    told = run("pkg-config", "--cflags", "--libs", "keyset", env=environment).split()
+    flags = run("pkg-config", "--cflags", "--libs", "keyset", env=environment).split()
     source = TOP / "library" / "c" / "roll.c"
-    run("cc", *STRICT, "-o", program, source, *told, f"-Wl,-rpath,{prefix}/{libraries}")
+    run("cc", *STRICT, "-o", program, source, *flags, f"-Wl,-rpath,{prefix}/{libraries}")
     answered = run(program, input=EXAMPLE.read_bytes(), env=environment)
     expect(answered == ANSWERS, f"a caller in C answers something else: {answered}")
 
 
 def expect_versions(prefix):
-    told = run("pkg-config", "--modversion", "keyset", env=apart(prefix)).strip()
-    expect(told == VERSION, f"keyset.pc has version {told}")
+    version = run("pkg-config", "--modversion", "keyset", env=apart(prefix)).strip()
+    expect(version == VERSION, f"keyset.pc has version {version}")
     for name in ("vaqsider", "keyset"):
-        told = run(prefix / "bin" / name, "--version", env=apart(prefix)).strip()
-        expect(told == f"{name} {VERSION}", f"{name} says that it is {told}")
+        output = run(prefix / "bin" / name, "--version", env=apart(prefix)).strip()
+        expect(output == f"{name} {VERSION}", f"{name} says that it is {output}")
     header = (prefix / "include" / "keyset.h").read_text()
     expect(f'#define KEYSET_RELEASE "{VERSION}"' in header, "the header is of another release")
     for name in ("libkeyset.a", "libkeyset.so"):

@@ -19,7 +19,7 @@ from inspect import signature
 from pathlib import Path
 
 from tests.gate.tools import (
-    C99, CC, EVERY, NOTED, RUNNER, STORED, STRICT, TOP, WRAPPED, Wrong, c_flags, kit, run,
+    C99, CC, EVERY, NOTED, RUNNER, STORED, STRICT, TOP, WRAPPED, Fault, c_flags, kit, run,
     stored_scripts,
 )
 from tests.library import install, programs, rust, session_notes
@@ -42,14 +42,14 @@ def expect_exports(folder):
         named = [line.split() for line in run(*words, executable=tools).splitlines()]
         exported = {words[2] for words in named if len(words) == 3}
         if exported != EXPORTS:
-            raise Wrong(f"{file} exports {sorted(exported)}")
+            raise Fault(f"{file} exports {sorted(exported)}")
 
 
 def expect_no_links(folder):
     """`make check` refuses a tree that has links."""
     links = [path.name for path in folder.rglob("*") if path.is_symlink()]
     if links:
-        raise Wrong(f"{folder} has links: {links}")
+        raise Fault(f"{folder} has links: {links}")
 
 
 def build_in_c(folder, program, *flags, more=()):
@@ -96,10 +96,10 @@ def under_valgrind(folder, room):
     library = build_in_c(folder, room / "library", "-g")
     names = "sessions", "accepted"
     tests = library, *(build_sessions(folder, room / name, "-g") for name in names)
-    told = [run(*before, test_of, STORED, STEP) for test_of in tests]
-    told.append(run(*before, session_notes.build(folder, room / "notes", "-g"), *NOTED, STEP))
-    told.append(run(*before, build_sessions(folder, room / "policies", "-g"), STEP))
-    return "".join(told).strip()
+    outputs = [run(*before, test_of, STORED, STEP) for test_of in tests]
+    outputs.append(run(*before, session_notes.build(folder, room / "notes", "-g"), *NOTED, STEP))
+    outputs.append(run(*before, build_sessions(folder, room / "policies", "-g"), STEP))
+    return "".join(outputs).strip()
 
 
 def under_asan(folder, room):
@@ -110,11 +110,11 @@ def under_asan(folder, room):
         tests = library, *(build_sessions(folder, room / name, *flags) for name in names)
         notes = session_notes.build(folder, room / "notes", *flags)
         policies = build_sessions(folder, room / "policies", *flags)
-    except Wrong as wrong:
-        text = f"{wrong}\nthe C compiler wants its runtime libraries of {flags[1]} here"
-        raise Wrong(text) from None
-    told = [run(test_of, STORED, STEP) for test_of in tests]
-    return "".join([*told, run(notes, *NOTED, STEP), run(policies, STEP)]).strip()
+    except Fault as fault:
+        text = f"{fault}\nthe C compiler wants its runtime libraries of {flags[1]} here"
+        raise Fault(text) from None
+    outputs = [run(test_of, STORED, STEP) for test_of in tests]
+    return "".join([*outputs, run(notes, *NOTED, STEP), run(policies, STEP)]).strip()
 
 
 def elsewhere(folder, room):
@@ -123,16 +123,16 @@ def elsewhere(folder, room):
     names = "sessions", "accepted"
     tests = [build_in_c(folder, room / "library"),
              *(build_sessions(folder, room / name) for name in names)]
-    told = [run(*RUNNER, test_of, STORED, STEP) for test_of in tests]
+    outputs = [run(*RUNNER, test_of, STORED, STEP) for test_of in tests]
     notes = session_notes.build(folder, room / "notes")
-    told.append(run(*RUNNER, notes, *NOTED, STEP))
-    told.append(run(*RUNNER, build_sessions(folder, room / "policies"), STEP))
+    outputs.append(run(*RUNNER, notes, *NOTED, STEP))
+    outputs.append(run(*RUNNER, build_sessions(folder, room / "policies"), STEP))
     for caller, flags in (("C", c_flags(folder)), ("C by the shared object", shared_flags(folder))):
-        told.append(expect_c_rolls(room, caller, flags) + "\n")
+        outputs.append(expect_c_rolls(room, caller, flags) + "\n")
     program = programs.build(folder, room)
-    told.append(programs.test(program, stored_scripts(), STEP // 6) + "\n")
-    told.append(words.test(program))
-    return "".join(told).strip()
+    outputs.append(programs.test(program, stored_scripts(), STEP // 6) + "\n")
+    outputs.append(words.test(program))
+    return "".join(outputs).strip()
 
 
 CHECKERS = {"valgrind": under_valgrind, "asan": under_asan, "elsewhere": elsewhere}
@@ -144,7 +144,7 @@ def test_static_buffer(folder, room):
     program = build_in_c(folder, room / "static_buffer", *flags, more=more)
     ran = subprocess.run([program, STORED, "0"], capture_output=True, text=True)
     if ran.returncode != 1 or not ran.stderr.endswith(": not as expected: the answer\n"):
-        raise Wrong(f"a library with a static buffer isn't seen: {ran}")
+        raise Fault(f"a library with a static buffer isn't seen: {ran}")
     return "a library with a static buffer fails in threads"
 
 
@@ -156,7 +156,7 @@ def expect_rolls(caller, command, **how):
         script = path.read_bytes()
         played = run(*command, input=script, **how)
         if played.partition(" at=")[0] != by_python.as_program(script)[1].partition(" at=")[0]:
-            raise Wrong(f"{caller} doesn't answer {path.name} as the program")
+            raise Fault(f"{caller} doesn't answer {path.name} as the program")
     return f"the caller in {caller} answers {len(examples)} examples as the program"
 
 
@@ -176,8 +176,8 @@ def test_c_caller_by_shared_object(folder, room):
 def shared_flags(folder):
     """The flags that `pkg-config` has for the shared object, and where a program finds that."""
     made = {**os.environ, "PKG_CONFIG_PATH": str(folder / "lib" / "pkgconfig")}
-    told = run("pkg-config", "--cflags", "--libs", "keyset", env=made)
-    return [*told.split(), f"-Wl,-rpath,{folder}/lib"]
+    flags = run("pkg-config", "--cflags", "--libs", "keyset", env=made)
+    return [*flags.split(), f"-Wl,-rpath,{folder}/lib"]
 
 
 def test_rust_caller(folder, room):
@@ -238,8 +238,8 @@ def main():
     with tempfile.TemporaryDirectory() as room:
         try:
             print({**CHECKERS, "python": in_python}[which](folder, Path(room)))
-        except Wrong as wrong:
-            print(f"library: {wrong}")
+        except Fault as fault:
+            print(f"library: {fault}")
             return 1
     return 0
 

@@ -10,7 +10,7 @@ import shutil
 import subprocess
 import sys
 
-from tests.gate.tools import TOP, Wrong, run
+from tests.gate.tools import TOP, Fault, run
 
 INSTALL = TOP / "packaging" / "install.py"
 LIST = "share/vaqsider/installed"
@@ -60,7 +60,7 @@ class Installer:
 
     def expect_done(self, end):
         if end[0]:
-            raise Wrong(f"{self.name} ends with {end}")
+            raise Fault(f"{self.name} ends with {end}")
 
 
 def installers(library, script):
@@ -75,7 +75,7 @@ def installers(library, script):
 
 def expect(is_so, fault):
     if not is_so:
-        raise Wrong(fault)
+        raise Fault(fault)
 
 
 def drafts(prefix):
@@ -159,8 +159,8 @@ def without_python(script, prefix):
     folder.mkdir()
     for name in COMMANDS:
         (folder / name).symlink_to(shutil.which(name))
-    told = run(script, prefix, env={"PATH": str(folder)})
-    expect("wants python3" in told, f"install.sh says nothing of a lack of Python: {told}")
+    output = run(script, prefix, env={"PATH": str(folder)})
+    expect("wants python3" in output, f"install.sh says nothing of a lack of Python: {output}")
 
 
 def on_a_full_disk(one, prefix, tree, whole):

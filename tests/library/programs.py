@@ -4,7 +4,7 @@ for."""
 
 import subprocess
 
-from tests.gate.tools import C99, CC, NOTED, PROGRAM, RUNNER, STRICT, TOP, Wrong, c_flags, run
+from tests.gate.tools import C99, CC, NOTED, PROGRAM, RUNNER, STRICT, TOP, Fault, c_flags, run
 from tests.scripts import malformed, notes
 
 
@@ -43,6 +43,6 @@ def test(program, stored, step=1):
         wanted = answered([PROGRAM, *words], text)
         given = answered([*RUNNER, program, *words], text)
         if given != wanted:
-            raise Wrong(f"{words} in C answers {text[:300]!r} by {given}, and not by {wanted}")
+            raise Fault(f"{words} in C answers {text[:300]!r} by {given}, and not by {wanted}")
         count += 1
     return f"the program in C answers {count} texts as the proved one"

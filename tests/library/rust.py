@@ -4,7 +4,7 @@ import os
 import subprocess
 from pathlib import Path
 
-from tests.gate.tools import TOP, Wrong, run
+from tests.gate.tools import TOP, Fault, run
 
 CRATE = TOP / "library" / "rust"
 PROJECT = """\
@@ -51,9 +51,9 @@ def test_project(folder, room):
     (project / "src").mkdir(parents=True)
     (project / "Cargo.toml").write_text(PROJECT.format(CRATE))
     (project / "src" / "main.rs").write_text(PROJECT_MAIN)
-    told = run("cargo", "run", *QUIET, cwd=project, env=environment(folder, room))
-    if told != "zone example.com\n":
-        raise Wrong(f"a cargo project says: {told}")
+    output = run("cargo", "run", *QUIET, cwd=project, env=environment(folder, room))
+    if output != "zone example.com\n":
+        raise Fault(f"a cargo project says: {output}")
     return "a cargo project uses the crate by its path"
 
 
@@ -84,10 +84,10 @@ def test_build(folder, room):
         Path("library/out/lib"): "KEYSET_LIB has to be an absolute path",
         of_other_version(room): "is of version 9 of the interface, and this crate wants 3",
     }
-    for library, told in faults.items():
+    for library, fault in faults.items():
         made = {**environment(folder, room), "KEYSET_LIB": str(library)}
         how = {"cwd": CRATE, "env": made, "capture_output": True, "text": True}
         ran = subprocess.run(["cargo", "check", *QUIET], **how)
-        if not ran.returncode or told not in ran.stderr:
-            raise Wrong(f"a build with KEYSET_LIB={library}: {ran.stderr}")
+        if not ran.returncode or fault not in ran.stderr:
+            raise Fault(f"a build with KEYSET_LIB={library}: {ran.stderr}")
     return f"a build of the crate says each of {len(faults)} faults of KEYSET_LIB"

@@ -9,7 +9,7 @@ import subprocess
 from itertools import islice
 
 from tests.gate import release
-from tests.gate.tools import EVERY, PROGRAM, STATUS, TOP, Wrong, stored_scripts
+from tests.gate.tools import EVERY, PROGRAM, STATUS, TOP, Fault, stored_scripts
 from tests.library import sessions
 from tests.scripts import long_scripts, malformed
 
@@ -54,10 +54,10 @@ def python_module(folder):
 def in_session(keyset, zone, lines):
     """What a session answers to these lines, and at the end says of them all."""
     session = keyset.open_session(zone)
-    told = [session.call(line) for line in lines]
-    told += session.closing()
+    answers = [session.call(line) for line in lines]
+    answers += session.closing()
     session.close()
-    return told
+    return answers
 
 
 def in_calls(keyset, zone, lines):
@@ -77,9 +77,9 @@ def test_in_python(keyset):
     for name, script, answer in stored_scripts():
         (zone, *lines), wanted = script.splitlines(), answer.splitlines()
         if in_session(keyset, zone, lines) != wanted:
-            raise Wrong(f"a session in Python doesn't answer {name}")
+            raise Fault(f"a session in Python doesn't answer {name}")
         if list(in_calls(keyset, zone, lines)) != wanted[:-1]:
-            raise Wrong(f"a key set in Python doesn't answer {name}")
+            raise Fault(f"a key set in Python doesn't answer {name}")
         played += len(lines)
     return f"sessions and key sets in Python answer {played} stored lines"
 
@@ -92,9 +92,9 @@ def test_status_program(keyset):
         session = keyset.open_session(zone)
         for line in lines:
             session.call(line)
-        status, written, told = as_program(script.encode(), STATUS)
-        if (status, told) != (0, "") or json.loads(written) != session.status():
-            raise Wrong(f"{name}: keyset status ends with {status}, and writes {written}{told}")
+        status, output, errors = as_program(script.encode(), STATUS)
+        if (status, errors) != (0, "") or json.loads(output) != session.status():
+            raise Fault(f"{name}: keyset status ends with {status}, and writes {output}{errors}")
         session.close()
         scripts += 1
     return f"keyset status writes the status of {scripts} sessions"
@@ -112,12 +112,12 @@ def test_resumed(keyset):
                 due = keys.call(line)
             except keyset.Refused:
                 if keys.script != before:
-                    raise Wrong(f"{path.name}: {line}: refused, and changed the key set") from None
+                    raise Fault(f"{path.name}: {line}: refused, and changed the key set") from None
                 continue
             resumed = keyset.KeySet.resume(before + line[:-1])
-            told = resumed.call(line), resumed.script, resumed.status()
-            if told != (due, keys.script, keys.status()):
-                raise Wrong(f"{path.name}: {line}: another key set goes on")
+            state = resumed.call(line), resumed.script, resumed.status()
+            if state != (due, keys.script, keys.status()):
+                raise Fault(f"{path.name}: {line}: another key set goes on")
             calls += 1
     return f"a key set in Python goes on after each of {calls} calls"
 
@@ -136,9 +136,9 @@ def test_damaged(keyset):
         wanted = as_program(script)
         statuses.append(wanted[0])
         if as_library(keyset, script) != wanted:
-            raise Wrong(f"the library doesn't answer as the program: {script!r}")
+            raise Fault(f"the library doesn't answer as the program: {script!r}")
         if wanted[0] and as_program(script, STATUS) != wanted:
-            raise Wrong(f"keyset status doesn't end as the program: {script!r}")
+            raise Fault(f"keyset status doesn't end as the program: {script!r}")
     malformed = statuses.count(1)
     return f"{len(scripts)} scripts answered as by the program, {malformed} of them malformed"
 
@@ -157,9 +157,9 @@ def test_malformed(keyset):
             ("library", as_library(keyset, script)),
         ):
             if given != wanted:
-                raise Wrong(f"the {answerer} ends with {given}, and {wanted} is right: {script!r}")
+                raise Fault(f"the {answerer} ends with {given}, and {wanted} is right: {script!r}")
         if line and as_program(script, STATUS) != wanted:
-            raise Wrong(f"keyset status doesn't end as the program: {script!r}")
+            raise Fault(f"keyset status doesn't end as the program: {script!r}")
         rows += 1
     return f"{rows} rows of malformed scripts, and beginnings of zone lines"
 
@@ -173,7 +173,7 @@ def as_session(library, script):
     keys = sum(line.startswith("add-") - line.startswith("delete ") for line in accepted)
     answers.append(library.text("closing", handle))
     if len(json.loads(library.text("status", handle))["keys"]) != keys:
-        raise Wrong(f"a status doesn't have {keys} keys")
+        raise Fault(f"a status doesn't have {keys} keys")
     library.close(handle)
     return 0, "".join(answers), ""
 
@@ -190,10 +190,10 @@ def test_long(folder, keyset):
             ("session", as_session(library, script)),
         ):
             if given != (0, answer, ""):
-                status, written, told = given
-                raise Wrong(
-                    f"{name}: the {answerer} ends with status {status} after {len(written)} bytes"
-                    f" of {len(answer)}; {told}"
+                status, output, errors = given
+                raise Fault(
+                    f"{name}: the {answerer} ends with status {status} after {len(output)} bytes"
+                    f" of {len(answer)}; {errors}"
                 )
     return "; ".join(names)
 
@@ -202,13 +202,13 @@ def test_frozen(keyset):
     """The program and the library answer what a release answered."""
     count = 0
     for version in release.frozen():
-        for name, script, told in [*release.frozen_scripts(version)][::EVERY]:
+        for name, script, answers in [*release.frozen_scripts(version)][::EVERY]:
             for answerer, given in (
                 ("program", as_program(script.encode())),
                 ("library", as_library(keyset, script.encode())),
             ):
-                if given != (0, told, ""):
-                    raise Wrong(f"{name}: the {answerer} doesn't answer as release {version} did")
+                if given != (0, answers, ""):
+                    raise Fault(f"{name}: the {answerer} doesn't answer as release {version} did")
             count += 1
     return f"{count} frozen scripts answered as by their releases"
 

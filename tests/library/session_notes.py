@@ -6,7 +6,7 @@ import os
 import sys
 from pathlib import Path
 
-from tests.gate.tools import CC, C99, EVERY, NOTED, STRICT, TOP, WRAPPED, Wrong, c_flags, run
+from tests.gate.tools import CC, C99, EVERY, NOTED, STRICT, TOP, WRAPPED, Fault, c_flags, run
 from tests.library import rust
 from tests.scripts import notes
 
@@ -25,7 +25,7 @@ def answered(text):
     """What keyset notes answers."""
     done = notes.asked(text)
     if done.returncode:
-        raise Wrong(f"keyset notes ends with {done.returncode}: {done.stderr}")
+        raise Fault(f"keyset notes ends with {done.returncode}: {done.stderr}")
     return done.stdout
 
 
@@ -34,7 +34,7 @@ def questions_of_operators():
     wrong = []
     questions, _ = notes.played(notes.some_orders()[: -(-ZONES // EVERY)], wrong)
     if wrong:
-        raise Wrong(wrong[0])
+        raise Fault(wrong[0])
     return questions
 
 
@@ -43,7 +43,7 @@ def test_in_python(keyset, questions):
     new notes. A copy of it gives the same answer."""
     answers = answered(notes.text_of(questions)).split("\n\n")
     if len(answers) != len(questions):
-        raise Wrong(f"{len(questions)} questions have {len(answers)} answers")
+        raise Fault(f"{len(questions)} questions have {len(answers)} answers")
     zones = go_on(keyset, questions, answers)
     for text, fault in notes.ANSWERS.items():
         expect_fault(keyset, text.splitlines(), fault)
@@ -55,37 +55,38 @@ def test_in_python(keyset, questions):
 
 def go_on(keyset, questions, answers):
     """Sessions go on from question to question, with these answers. Gives how many there were."""
-    script, noted, zones = [], [], 0
+    old_script, old_notes, zones = [], [], 0
     for question, wanted in zip(questions, answers):
-        lines, more = question.script.splitlines(), question.notes.splitlines()
-        if not script or lines[: len(script)] != script or more[: len(noted)] != noted:
-            session, script, noted = keyset.open_session(lines[0]), lines[:1], []
+        script, lines = question.script.splitlines(), question.notes.splitlines()
+        goes_on = (script[: len(old_script)], lines[: len(old_notes)]) == (old_script, old_notes)
+        if not old_script or not goes_on:
+            session, old_script, old_notes = keyset.open_session(script[0]), script[:1], []
             zones += 1
-        for line in lines[len(script) :]:
+        for line in script[len(old_script) :]:
             session.call(line)
-        for line in more[len(noted) :]:
+        for line in lines[len(old_notes) :]:
             session.note(line)
-        script, noted = lines, more
+        old_script, old_notes = script, lines
         for one in (session, session.copy()):
             if one.due(question.moment).rstrip("\n") != wanted.rstrip("\n"):
-                raise Wrong(f"a session in Python doesn't answer {wanted}")
+                raise Fault(f"a session in Python doesn't answer {wanted}")
     return zones
 
 
 def expect_fault(keyset, lines, fault):
     """A session takes these notes, or refuses one of them as keyset notes does."""
     zone, *calls = notes.SCRIPT.splitlines()
-    session, told = keyset.open_session(zone), ""
+    session = keyset.open_session(zone)
     for line in calls:
         session.call(line)
     try:
         for line in lines:
             session.note(line)
-        told = session.due(9).rstrip("\n")
+        answer = session.due(9).rstrip("\n")
     except keyset.Malformed as malformed:
-        told = f"notes: line {malformed.line}: {malformed.reason}"
-    if told != fault:
-        raise Wrong(f"a session in Python answers {told!r} to {lines}, and not {fault!r}")
+        answer = f"notes: line {malformed.line}: {malformed.reason}"
+    if answer != fault:
+        raise Fault(f"a session in Python answers {answer!r} to {lines}, and not {fault!r}")
 
 
 def test_callers(folder, room, questions):
@@ -101,5 +102,5 @@ def test_callers(folder, room, questions):
     for text in (NOTED[0].read_text(), notes.text_of(questions)):
         for caller, command in callers.items():
             if run(*command, input=text.encode(), env=made) != answered(text):
-                raise Wrong(f"the caller in {caller} doesn't answer as keyset notes")
+                raise Fault(f"the caller in {caller} doesn't answer as keyset notes")
     return f"the callers in {', '.join(callers)} say which reports are due as keyset notes does"

@@ -18,7 +18,7 @@ from pathlib import Path
 from jsonschema.validators import validator_for
 
 from keyset.rolls import ALGORITHM_ROLL, KSK_ROLL, ROLLS, ZSK_ROLL
-from tests.gate.tools import TOP, Wrong, stored_scripts
+from tests.gate.tools import TOP, Fault, stored_scripts
 
 SCHEMA = json.loads((TOP / "docs" / "status.schema.json").read_text())
 
@@ -69,16 +69,16 @@ class Library:
     def open(self, line):
         handle = Handle()
         if self.code.keyset_open(line, ctypes.c_size_t(len(line)), ctypes.byref(handle)):
-            raise Wrong(f"not opened: {line}")
+            raise Fault(f"not opened: {line}")
         return handle
 
     def text(self, name, handle, *line):
-        told = getattr(self.code, f"keyset_{name}")(
+        outcome = getattr(self.code, f"keyset_{name}")(
             ctypes.byref(handle), *line, self.out, self.room
         )
-        if told.status:
-            raise Wrong(f"{name}: status {told.status}")
-        return ctypes.string_at(self.out, told.length).decode()
+        if outcome.status:
+            raise Fault(f"{name}: status {outcome.status}")
+        return ctypes.string_at(self.out, outcome.length).decode()
 
     def call(self, handle, line):
         line = line.encode()
@@ -88,10 +88,10 @@ class Library:
         """What the session would answer to the line."""
         copy = Handle()
         if self.code.keyset_copy(ctypes.byref(handle), ctypes.byref(copy)):
-            raise Wrong("not copied")
-        told = self.call(copy, line)
+            raise Fault("not copied")
+        answer = self.call(copy, line)
         self.code.keyset_close(ctypes.byref(copy))
-        return told
+        return answer
 
     def close(self, handle):
         self.code.keyset_close(ctypes.byref(handle))
@@ -99,7 +99,7 @@ class Library:
 
 def expect(holds, what):
     if not holds:
-        raise Wrong(what)
+        raise Fault(what)
 
 
 def expect_shape(status):
@@ -130,7 +130,7 @@ def closing_of(status):
     return f"{sets}\nchain broken {found}\n"
 
 
-class Lines:
+class RollHistory:
     """What the accepted lines say of listed keys and of early ends."""
 
     def __init__(self):
@@ -213,49 +213,49 @@ def state_of(role):
     return "active" if role["signer"] and role["present"] and has_ds else "incoming"
 
 
-def expect_key(library, handle, key, lines, counts):
+def expect_key(library, handle, key, history, counts):
     reference = key["reference"]
     deleted = is_ok(library.would(handle, f"delete {reference}"))
     expect(deleted == key["may_be_deleted"], f"delete {reference}")
     counts["deletions"] += deleted
     for role in key["roles"]:
         expect(role["state"] == state_of(role), f"{reference}: its state")
-    expect(key["old_in"] == lines.rolls_of(0, reference), f"{reference}: old in")
-    expect(key["new_in"] == lines.rolls_of(1, reference), f"{reference}: new in")
-    if not lines.listed:
-        told = {library.would(handle, f"start {roll} - {reference} {LATE}") for roll in STARTS}
-        taken = bool(told.difference(NOT_TAKEN))
-        expect(taken == key["may_come_in"], f"start of {reference}: {told}")
+    expect(key["old_in"] == history.rolls_of(0, reference), f"{reference}: old in")
+    expect(key["new_in"] == history.rolls_of(1, reference), f"{reference}: new in")
+    if not history.listed:
+        answers = {library.would(handle, f"start {roll} - {reference} {LATE}") for roll in STARTS}
+        taken = bool(answers.difference(NOT_TAKEN))
+        expect(taken == key["may_come_in"], f"start of {reference}: {answers}")
         counts["starts"] += taken
 
 
-def expect_status(library, handle, lines, counts):
+def expect_status(library, handle, history, counts):
     text = library.text("status", handle)
     expect(text.endswith("}\n") and text.count("\n") == 1, "one line")
     status = json.loads(text)
     expect_shape(status)
     expect(closing_of(status) == library.text("closing", handle), "the closing lines")
     for key in status["keys"]:
-        expect_key(library, handle, key, lines, counts)
-    expect({roll["roll"] for roll in status["rolls"]} == set(lines.listed), "the rolls")
+        expect_key(library, handle, key, history, counts)
+    expect({roll["roll"] for roll in status["rolls"]} == set(history.listed), "the rolls")
     for roll in status["rolls"]:
         expect_roll(library, handle, roll, counts)
-    expect([one["roll"] for one in status["ended"]] == lines.ended, "the early ends")
+    expect([one["roll"] for one in status["ended"]] == history.ended, "the early ends")
     counts["statuses"] += 1
     return status
 
 
 def play(library, script, answers, counts):
-    handle, lines = library.open(script[0].encode()), Lines()
-    due, status = {}, expect_status(library, handle, lines, counts)
+    handle, history = library.open(script[0].encode()), RollHistory()
+    due, status = {}, expect_status(library, handle, history, counts)
     for line, wanted in zip(script[1:], answers):
         answer = library.call(handle, line)
         expect(answer == wanted, f"{line}: {answer}")
         word, *fields = line.split(" ")
         if is_ok(answer):
-            lines.take(line)
+            history.take(line)
             due[fields[0]] = answer.split()[1:]
-        status = expect_status(library, handle, lines, counts)
+        status = expect_status(library, handle, history, counts)
         for one in status["rolls"]:
             expect(one["due"] == due[one["roll"]], f"{line}: what is due")
         for one in status["ended"]:
@@ -272,8 +272,8 @@ def main():
     for name, script, answers in stored_scripts():
         try:
             play(library, script.splitlines(), answers.splitlines(keepends=True), counts)
-        except Wrong as wrong:
-            print(f"{name}: {wrong}")
+        except Fault as fault:
+            print(f"{name}: {fault}")
             return 1
     if not all(counts.values()):
         print(f"too little was tried: {counts}")

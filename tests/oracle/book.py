@@ -26,7 +26,7 @@ BEGIN = re.compile(r"\n\n|\n\s*(?:-|\d+\.) |\||-->")
 WORD = re.compile(r"\w\w+")
 
 
-class Wrong(Exception):
+class RunbookError(Exception):
     """The runbook says something that the game doesn't know, or the key set doesn't ask for."""
 
 
@@ -43,7 +43,7 @@ class Step(NamedTuple):
 
 def known(kinds):
     if unknown := set(kinds) - {*ASKS.values()}:
-        raise Wrong(f"{COURSES.name}: {sorted(unknown)} is not known here")
+        raise RunbookError(f"{COURSES.name}: {sorted(unknown)} is not known here")
     return set(kinds)
 
 
@@ -65,28 +65,28 @@ def courses():
     return json.loads(COURSES.read_text())
 
 
-def runbooks():
+def read_book():
     """The steps of each roll and of the first keys, those of early ends by rolls."""
-    told = courses()
-    book = {name: [step_of(row) for row in rows] for name, rows in told["rolls"].items()}
-    book[EARLY_END] = {roll: step_of(row) for roll, row in told["ended early"].items()}
+    table = courses()
+    book = {name: [step_of(row) for row in rows] for name, rows in table["rolls"].items()}
+    book[EARLY_END] = {roll: step_of(row) for roll, row in table["ended early"].items()}
     missing = {FIRST_KEYS, *ROLLS} - {name for name, steps in book.items() if len(steps) == 3}
     if missing or set(book[EARLY_END]) != set(ROLLS):
-        raise Wrong(f"{COURSES.name}: rows are missing, of {sorted(missing) or EARLY_END}")
+        raise RunbookError(f"{COURSES.name}: rows are missing, of {sorted(missing) or EARLY_END}")
     return book
 
 
 def rules():
     """The rules that the operators' pages say, by their marks."""
-    said = set()
+    marks = set()
     for page in ("OPERATORS", "RUNBOOKS", "EMERGENCY"):
         text = (DOCS / f"{page}.md").read_text()
         for match in MARK.finditer(text):
             *_, rule = BEGIN.split(text[: match.start()])
             if len(WORD.findall(rule)) < 3:
-                raise Wrong(f"{page}: no rule ends with {match[0]}")
-            said.add(match[1])
-    return said
+                raise RunbookError(f"{page}: no rule ends with {match[0]}")
+            marks.add(match[1])
+    return marks
 
 
 def left_out(points):

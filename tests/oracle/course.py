@@ -2,7 +2,7 @@
 
 from keyset.rolls import ALGORITHM_ROLL, CSK_ROLL, KSK_DOUBLE_DS_ROLL, ROLLS, rolls_of
 from tables import KeySet
-from tests.oracle.book import EARLY_END, FIRST_KEYS, UNSIGNED, Wrong
+from tests.oracle.book import EARLY_END, FIRST_KEYS, UNSIGNED, RunbookError
 from tests.oracle.points import (
     ALL_AT_ONCE, BACK_AT_ONCE, CDS_STAYS, CSK_FIRST, EARLY_ENDS, KSK_FIRST, MIXED, NOT_HELD_BACK,
     NOT_IN_USE, ONE_SIDE, PARENT_FIRST, SAME_KEY, UNSIGNED_ONLY,
@@ -26,7 +26,7 @@ class Follower(Operator):
         yield from self.comes_to(steps[0])
         began, actions = self.rounded_down(), self.start(roll, old, new)
         if PARENT_FIRST in self.leaves and "ds" in steps[1].does:
-            self.world.tell(frozenset(name for name in new if name[0] in "KC"))
+            self.world.give_ds(frozenset(name for name in new if name[0] in "KC"))
         since = None
         for half, step in enumerate(steps, 1):
             if since is None:
@@ -102,7 +102,7 @@ class Follower(Operator):
             yield from self.takes_cds_out()
             yield from self.publish({"cds"})
             if not self.world.takes_cds:
-                self.world.tell(self.ds())
+                self.world.give_ds(self.ds())
             yield from self.watch(step._replace(watches={"ds"}), {})
             yield from self.takes_cds_out()
 
@@ -111,7 +111,7 @@ class Follower(Operator):
         self.keyset = KeySet()
         for line in self.script:
             if not self.keyset.call(line).startswith("ok"):
-                raise Wrong(f"{line}: it was accepted before")
+                raise RunbookError(f"{line}: it was accepted before")
 
     def ended_early(self, roll, old, new):
         """A start of the roll, and its early end after a while."""
@@ -120,7 +120,7 @@ class Follower(Operator):
         begun = len(zone)
         yield from self.do(first, self.start(roll, old, new))
         yield from self.pause(6 * SECOND)
-        self.early |= {kept for version in zone[begun:] for kept in version.values() if kept}
+        self.early |= {rrset for version in zone[begun:] for rrset in version.values() if rrset}
         step = self.book[EARLY_END][roll]
         actions = self.call(f"abort {roll}")
         self.leaving -= set(old)

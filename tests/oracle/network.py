@@ -108,8 +108,8 @@ class Network:
 
     def version(self, kind, number, versions):
         sets, value = self.sets(kind, number), self.value(kind, number)
-        ttl = max(self.world.keeps(kept.ttl) for kept in sets)
-        expiration = min(kept.expires // SECOND - 1 for kept in sets) if kind != "ds" else inf
+        ttl = max(self.world.keeps(rrset.ttl) for rrset in sets)
+        expiration = min(rrset.expires // SECOND - 1 for rrset in sets) if kind != "ds" else inf
         return Version(self.position(kind, number, value, versions), ttl, expiration, [])
 
     def position(self, kind, number, value, versions):
@@ -127,8 +127,8 @@ class Network:
             if self.made[n] <= by_then and due(kind, position) == value
         }
         notes = self.operator.notes
-        noted = notes and notes.versions[kind][len(versions)].position
-        return noted if noted in fits else max(fits)
+        by_notes = notes and notes.versions[kind][len(versions)].position
+        return by_notes if by_notes in fits else max(fits)
 
     def held(self, kind, time):
         return [version for version in self.versions[kind] if version.is_held(time)]

@@ -8,7 +8,7 @@ from judge import SPEAKS_OF, base, origin, time
 from tests.oracle.zone import SECOND
 
 
-class Question(NamedTuple):
+class ReportQuestion(NamedTuple):
     """What was due at a report: the script and the notes at that moment; the report's TTL, or None
     if it was not due yet; and the highest TTL by rule 1 of docs/OPERATORS.md as it is played, if it
     was seen at once when each older set had left the servers."""
@@ -22,14 +22,14 @@ class Question(NamedTuple):
     most: Optional[int]
 
 
-class Version:
+class NotedVersion:
     """A version of a kind of sets. `left` is when all servers were seen to give a later one."""
 
     def __init__(self, position, ttl, sets):
         self.position, self.ttl, self.sets, self.left = position, ttl, sets, None
 
 
-class Notes:
+class GameNotes:
     """The notes of one operator, who takes the moments from one machine. If it `reports` by them,
     it makes each report with the TTL that they say, except those that ask for a sum. For DS sets it
     reports at least the TTL of CDS. With `less` it reports this many seconds less."""
@@ -46,7 +46,7 @@ class Notes:
         # wasn't seen everywhere yet.
         self.waits = dict.fromkeys(sources)
         self.versions = {
-            kind: [Version(0, self.ttl(kind, 0), self.sets(kind, 0))] for kind in sources
+            kind: [NotedVersion(0, self.ttl(kind, 0), self.sets(kind, 0))] for kind in sources
         }
         self.lines = ["before " + " ".join(str(self.ttl(kind, 0)) for kind in sources)]
 
@@ -57,7 +57,7 @@ class Notes:
         return [version[each] for each in kinds if version[each]]
 
     def ttl(self, kind, number):
-        return max(self.world.keeps(kept.ttl) for kept in self.sets(kind, number))
+        return max(self.world.keeps(rrset.ttl) for rrset in self.sets(kind, number))
 
     def value(self, kind, number):
         return self.sets(kind, number)[0].value
@@ -73,12 +73,12 @@ class Notes:
         for kind, servers in self.sources.items():
             for number in range(self.looked[kind] + 1, len(servers.versions)):
                 if self.sets(kind, number) != self.sets(kind, number - 1):
-                    self.published(kind, number)
+                    self.note_version(kind, number)
             self.looked[kind] = len(servers.versions) - 1
             if self.waits[kind] is not None and min(servers.at) >= self.waits[kind]:
-                self.seen(kind)
+                self.note_sight(kind)
 
-    def published(self, kind, number):
+    def note_version(self, kind, number):
         """The sets of the last call that asks for them, or those of the version before with another
         TTL. (A parent that reads CDS may take those of a call before the last.)"""
         value, at = self.value(kind, number), self.versions[kind][-1].position
@@ -88,13 +88,13 @@ class Notes:
         # (Nothing is published before call 2, so what was there before call 1 is that of call 1.)
         at = max(1, at)
         ttl, sets = self.ttl(kind, number), self.sets(kind, number)
-        self.versions[kind].append(Version(at, ttl, sets))
+        self.versions[kind].append(NotedVersion(at, ttl, sets))
         self.waits[kind] = number
         # (The call may have been given a later moment, by the clock of another machine.)
         moment = max(self.down(), time(self.operator.keyset.record, at))
         self.lines.append(f"published {kind} {at} {ttl} {moment}")
 
-    def seen(self, kind):
+    def note_sight(self, kind):
         self.waits[kind], moment = None, self.up()
         for version in self.versions[kind][:-1]:
             version.left = moment if version.left is None else version.left
@@ -144,7 +144,7 @@ class Notes:
         """Whether it was seen at once when each older set had left the servers."""
         gone = self.operator.gone
         return all(
-            version.left - max(gone.get(kept, 0) for kept in version.sets) <= self.slack
+            version.left - max(gone.get(rrset, 0) for rrset in version.sets) <= self.slack
             for _, _, older in self.older(roll, second)
             for version in older
         )
@@ -175,7 +175,7 @@ class Notes:
         if ttl_due is not None and self.is_sharp(roll, second):
             most = max(ttl, self.slack)
         script = "\n".join(["zone example.com", *self.operator.script])
-        self.questions.append(Question(
+        self.questions.append(ReportQuestion(
             call, roll, script, "\n".join(self.lines), moment, ttl_due, most
         ))
         return ttl_due

@@ -140,7 +140,7 @@ class Pair:
         other.other = None
         yield from other.publish({"cds"})
         if not self.world.takes_cds:
-            self.world.tell(other.due()["ds"])
+            self.world.give_ds(other.due()["ds"])
         wanted = other.due()["ds"]
         parent = self.world.parent
         while any(parent.versions[at]["ds"].value != wanted for at in parent.at):

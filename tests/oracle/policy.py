@@ -6,7 +6,7 @@ from collections.abc import Sequence
 from dataclasses import dataclass
 from typing import NamedTuple, Optional
 
-from tests.oracle.spread import Facts
+from tests.oracle.spread import NoteHistory
 
 
 @dataclass
@@ -17,7 +17,7 @@ class Renewal:
     once: Optional[int] = None
 
 
-class TooShort(NamedTuple):
+class ShortLifetime(NamedTuple):
     """A lifetime that is shorter than its roll takes."""
 
     role: str
@@ -63,13 +63,13 @@ class Policy:
         first = f"policy {self.algorithm} {' '.join(self.rolls)}"
         return [first, *(f"{word} {number}" for word, number in words)]
 
-    def too_short(self, facts: Facts) -> Optional[TooShort]:
+    def too_short(self, history: NoteHistory) -> Optional[ShortLifetime]:
         """The first lifetime that ends before its roll does, by the highest TTLs of notes."""
         for roll, (role, renewal) in zip(self.rolls, self.renewals.items()):
-            lifetime, takes = renewal.lifetime, facts.roll_takes(roll)
+            lifetime, takes = renewal.lifetime, history.roll_takes(roll)
             if lifetime is not None and lifetime < takes:
                 text = f"a lifetime of {lifetime} seconds is shorter than a {roll} takes: {takes}"
-                return TooShort(role, takes, text)
+                return ShortLifetime(role, takes, text)
         return None
 
 

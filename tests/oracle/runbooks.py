@@ -30,20 +30,20 @@ import random
 
 from tests.oracle.course import Follower
 from tests.oracle.pair import Pair
-from tests.oracle.signer import Stuck
-from tests.oracle.zone import Broken, World
+from tests.oracle.signer import Standstill
+from tests.oracle.zone import CacheFault, World
 
 
-def play(seed, order, book, leaves, noted=None):
+def play(seed, order, book, leaves, make_notes=None):
     """Plays a zone with one signer, or with two if there is no order. Gives its world, its signers,
-    and what broke, if anything did. `noted` makes the notes of one signer."""
+    and what broke, if anything did. `make_notes` makes the notes of one signer."""
     world = World(random.Random(seed), leaves)
     if order is None:
         pair = Pair(world, book, leaves)
         course, signers = pair.course(), pair.signers
     else:
         one = Follower(world, book, leaves)
-        one.notes = noted and noted(one)
+        one.notes = make_notes and make_notes(one)
         course, signers = one.course(order), lambda: [one]
     ever = {}
     try:
@@ -52,6 +52,6 @@ def play(seed, order, book, leaves, noted=None):
             for signer in signers():
                 signer.lives()
             world.tick()
-    except (Broken, Stuck) as fault:
+    except (CacheFault, Standstill) as fault:
         return world, ever, fault
     return world, ever, None

@@ -4,7 +4,7 @@ from collections import Counter
 
 from keyset.rolls import WATCHED
 from tables import SETS, KeySet
-from tests.oracle.book import ASKS, COURSES, Wrong
+from tests.oracle.book import ASKS, COURSES, RunbookError
 from tests.oracle.points import (
     A_SECOND, AT_ONCE, BEFORE_START, CDS_BY_ALL, CDS_BY_SIGNERS, CDS_BY_ZONE, CDS_LEFT, CDS_ON_ONE,
     CDS_STAYS, CDS_UNCHANGED, CDS_UNCOUNTED, DS_OWN, EARLY, EARLY_ENDS, KEYS_UNSEEN, LOWERED,
@@ -13,12 +13,12 @@ from tests.oracle.points import (
 )
 from tests.oracle.zone import SECOND, SLOWEST
 
-# A roll is stuck if it doesn't go on for this many seconds after its last step.
-STUCK = 200
+# For how many seconds at most a roll may stand still after its last step.
+MOST_IDLE = 200
 GONE = "unsigned"
 
 
-class Stuck(Exception):
+class Standstill(Exception):
     """A step never ends."""
 
     how = NO_END
@@ -41,9 +41,9 @@ class Operator:
         if ROUNDED in leaves:
             self.ahead = [0]
         self.margin = 0 if NO_MARGIN in leaves else max(self.ahead) - min(self.ahead)
-        # The moment from which no server gave a set, how far such moments were noted, and the sets
-        # of rolls that were ended early.
-        self.gone, self.noted, self.early = {}, Counter(), set()
+        # The moment from which no server gave a set; by servers, the version before which all have
+        # gone; and the sets of rolls that were ended early.
+        self.gone, self.gone_before, self.early = {}, Counter(), set()
         self.keys = {}  # by algorithm: a KSK and a ZSK, or a CSK
         self.leaving = set()  # old keys of rolls up to their second wait
         self.idle, self.is_steady = 0, False
@@ -66,12 +66,12 @@ class Operator:
         a TTL."""
         for servers in [self.zone, self.world.parent, *([self.other.zone] if self.other else [])]:
             slowest = min(servers.at)
-            for past in range(self.noted[servers], slowest):
-                for _, kept in servers.sets(past):
-                    if kept.last < slowest:
-                        self.gone[kept] = self.rounded_up()
-            self.noted[servers] = slowest
-        kinds = [kind for kind, kept in self.zone.sets(-1) if self.is_due(kept)]
+            for past in range(self.gone_before[servers], slowest):
+                for _, rrset in servers.sets(past):
+                    if rrset.last < slowest:
+                        self.gone[rrset] = self.rounded_up()
+            self.gone_before[servers] = slowest
+        kinds = [kind for kind, rrset in self.zone.sets(-1) if self.is_due(rrset)]
         if self.dice.random() < 0.015:
             kinds.append(self.dice.choice(("dnskey", "zone")))
         if kinds:
@@ -79,15 +79,15 @@ class Operator:
         if self.notes:
             self.notes.look()
 
-    def is_due(self, kept):
+    def is_due(self, rrset):
         """Whether its signatures have to be renewed."""
-        left = kept.expires - self.world.now
-        return left < kept.time + SLOWEST * SECOND and NOT_RENEWED not in self.leaves
+        left = rrset.expires - self.world.now
+        return left < rrset.time + SLOWEST * SECOND and NOT_RENEWED not in self.leaves
 
     def passes(self):
         self.idle += 1
-        if self.idle > STUCK * SECOND:
-            raise Stuck("a step doesn't come to its end")
+        if self.idle > MOST_IDLE * SECOND:
+            raise Standstill("a step doesn't come to its end")
 
     def pause(self, most):
         for _ in range(self.dice.randint(0, most)):
@@ -104,16 +104,16 @@ class Operator:
 
     def again(self, kind):
         """The set that is published, with another TTL and new signatures."""
-        kept = self.kept(kind, self.zone.versions[-1][kind].value)
+        rrset = self.rrset(kind, self.zone.versions[-1][kind].value)
         if NOT_RENEWED in self.leaves:
-            kept.expires = self.zone.versions[-1][kind].expires
-        return kept
+            rrset.expires = self.zone.versions[-1][kind].expires
+        return rrset
 
-    def kept(self, kind, value):
+    def rrset(self, kind, value):
         """A set with some TTL. That of a DNSKEY set doesn't rise when it must not."""
         steady = self.is_steady or (self.other and self.other.is_steady)
         now = self.zone.versions[-1]["dnskey"].ttl if kind == "dnskey" and steady else None
-        return self.world.kept(value, now, kind)
+        return self.world.rrset(value, now, kind)
 
     def before(self, kind, since):
         """The sets of this kind that caches got before the version `since`, or all of them. CDS
@@ -126,7 +126,7 @@ class Operator:
         if kind == "dnskey" and self.other and OTHER_TTL not in self.leaves:
             first = None if since is None else self.seen_from()
             sets += [version["dnskey"] for version in self.other.zone.versions[:first]]
-        return [kept for kept in sets if EARLY_ENDS not in self.leaves or kept not in self.early]
+        return [rrset for rrset in sets if EARLY_ENDS not in self.leaves or rrset not in self.early]
 
     def seen_from(self):
         """The first version of the other since which its DNSKEY set has the keys that sign here."""
@@ -151,12 +151,12 @@ class Operator:
             last = (self.world.parent if kind == "ds" else self.zone).versions[-1][kind]
             return keeps(last.ttl) if last else 0
         if unsigned_only:
-            sets = [kept for kept in sets if kind == "zone" and not kept.value]
+            sets = [rrset for rrset in sets if kind == "zone" and not rrset.value]
         if NOT_KEPT in self.leaves:
-            return max((kept.ttl for kept in sets), default=0)
-        held = (kept for kept in sets
-                if kept not in self.gone or now < self.gone[kept] + keeps(kept.ttl))
-        return max((keeps(kept.ttl) for kept in held), default=0)
+            return max((rrset.ttl for rrset in sets), default=0)
+        held = (rrset for rrset in sets
+                if rrset not in self.gone or now < self.gone[rrset] + keeps(rrset.ttl))
+        return max((keeps(rrset.ttl) for rrset in held), default=0)
 
     # Calls
 
@@ -165,7 +165,7 @@ class Operator:
             self.notes.look()
         answer = self.keyset.call(line)
         if not answer.startswith("ok"):
-            raise Wrong(f"{line}: {answer}")
+            raise RunbookError(f"{line}: {answer}")
         self.script.append(line)
         self.made.append(self.world.now)
         self.idle = 0
@@ -226,7 +226,7 @@ class Operator:
                 self.call(f"set-present {name} {answer} {self.rounded_down()}")
             if wanted != shown:
                 due = self.due()
-                self.zone.publish(dnskey=self.kept("dnskey", (due["dnskey"], due["signers"])))
+                self.zone.publish(dnskey=self.rrset("dnskey", (due["dnskey"], due["signers"])))
             for _ in range(self.dice.randint(1, 3 * SECOND)):
                 yield
 
@@ -277,7 +277,7 @@ class Operator:
             if cds and CDS_UNCHANGED not in self.leaves:
                 beside["cds"] = self.cds(cds.value[0])
             keys = (due["dnskey"], due["signers"]) if part == "dnskey" else due["zone"]
-            return {part: self.kept(part, keys)}
+            return {part: self.rrset(part, keys)}
         keys = self.ds()
         if self.other and self.other.zone.is_asked and CDS_ON_ONE not in self.leaves:
             self.other.zone.publish(cds=self.other.cds(keys))
@@ -292,7 +292,7 @@ class Operator:
         if CDS_BY_ZONE in self.leaves:
             signers = []
         zone = due["zone"] if CDS_BY_SIGNERS not in self.leaves else frozenset()
-        return self.kept("cds", (keys, zone.union(signers)))
+        return self.rrset("cds", (keys, zone.union(signers)))
 
     def takes_cds_out(self):
         """Takes CDS out, and watches until no server gives it. Then the other may change the DS
@@ -318,7 +318,7 @@ class Operator:
         since, world = (yield from self.publish(step.does - {"ds"})), self.world
         # (The first DS set doesn't come by CDS.)
         if "ds" in step.does and not (world.takes_cds and world.parent.versions[-1]["ds"].value):
-            world.tell(self.ds())
+            world.give_ds(self.ds())
         return since
 
     def compare(self, step, actions):
@@ -330,9 +330,11 @@ class Operator:
         asked = {ASKS[action] for action in actions if action in ASKS}
         watched = {WATCHED[action] for action in actions if action in WATCHED}
         if step.does - asked or asked - step.does - as_is:
-            raise Wrong(f"{COURSES.name}: {step.does} is done, and {asked} is asked for")
+            raise RunbookError(f"{COURSES.name}: {step.does} is done, and {asked} is asked for")
         if step.watches - watched - {"cds"} or watched - step.watches - as_is:
-            raise Wrong(f"{COURSES.name}: {step.watches} is watched, and {watched} is asked for")
+            raise RunbookError(
+                f"{COURSES.name}: {step.watches} is watched, and {watched} is asked for"
+            )
 
     def watch(self, step, since):
         """Watches until all servers have what the step says."""

@@ -41,8 +41,8 @@ class Spread:
         return self.position >= base and self.older is None and self.seen <= now
 
 
-class Facts:
-    """The lines of notes, each read once."""
+class NoteHistory:
+    """What the lines of notes say of the sets of each kind. Each line is read once."""
 
     def __init__(self, lines: Iterable[str] = ()) -> None:
         self.before = dict.fromkeys(KINDS, 0)

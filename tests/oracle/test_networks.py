@@ -17,15 +17,15 @@ import pytest
 from judge import has_chain
 from keyset.rolls import ROLLS
 from tests.oracle import runbooks
-from tests.oracle.book import left_out, runbooks as book
+from tests.oracle.book import left_out, read_book
 from tests.oracle.network import KINDS, Network, names
-from tests.oracle.notes import Notes
+from tests.oracle.notes import GameNotes
 from tests.oracle.pair import Pair
 from tests.oracle.points import (
     DS_ALONE, DS_OWN, JOINS_EARLY, KEYS_UNSEEN, LEAVES_EARLY, OTHER_TTL, PAIRS, POINTS, TAKEN_OUT,
 )
-from tests.oracle.signer import Stuck
-from tests.oracle.zone import SECOND, Broken, World
+from tests.oracle.signer import Standstill
+from tests.oracle.zone import SECOND, CacheFault, World
 
 ZONES, TWO = 2, 4
 # Points of the guide for two signers that its definition has.
@@ -46,10 +46,10 @@ def sets(record, ds, dnskey, zone):
     return record[ds].ds, record[dnskey].dnskey, record[dnskey].signers, record[zone].zone
 
 
-def alone(seed, order, told, unsaid):
+def alone(seed, order, book, unsaid):
     """A zone of one signer, whose reports are by notes. Gives instants, choices and faults."""
     _, signers, fault = runbooks.play(
-        seed, order, told, unsaid, lambda one: Notes(one, True)
+        seed, order, book, unsaid, lambda one: GameNotes(one, True)
     )
     [one] = signers
     network, choices, faults = Network(one), 0, [str(fault)] if fault else []
@@ -64,10 +64,10 @@ def alone(seed, order, told, unsaid):
     return len(times), choices, faults
 
 
-def pair(seed, told, unsaid):
+def pair(seed, book, unsaid):
     """A zone of two signers, whose clocks agree and who make no false lines."""
     world = World(random.Random(seed), unsaid)
-    both, fault = Pair(world, told, unsaid), None
+    both, fault = Pair(world, book, unsaid), None
     ever = []
     try:
         for _ in both.course():
@@ -77,7 +77,7 @@ def pair(seed, told, unsaid):
                     signer.ahead, signer.margin, signer.may_slip = [0], 0, False
                 signer.lives()
             world.tick()
-    except (Broken, Stuck) as stopped:
+    except (CacheFault, Standstill) as stopped:
         fault = stopped
     return ever, [str(fault)] if fault else []
 
@@ -92,9 +92,9 @@ def between(signers):
     return networks, sorted(now for now in every if begin <= now < end)
 
 
-def two(seed, told, unsaid):
+def two(seed, book, unsaid):
     """Gives instants, choices and faults of a zone of two signers."""
-    signers, faults = pair(seed, told, unsaid)
+    signers, faults = pair(seed, book, unsaid)
     networks, times = between(signers)
     choices = 0
     for now in times:
@@ -110,11 +110,11 @@ def two(seed, told, unsaid):
     return len(times), choices, faults
 
 
-def until_unmet(point, told, unsaid):
+def until_unmet(point, book, unsaid):
     """How many zones it takes until one doesn't keep the guide's rules as they are defined, if its
     signers leave this point out; None if all do."""
     for seed in range(20):
-        signers, _ = pair(seed, told, unsaid | {point})
+        signers, _ = pair(seed, book, unsaid | {point})
         if len(signers) == 2:
             networks, times = between(signers)
             if times and any(keeps_guide(networks, times)):
@@ -248,7 +248,7 @@ ORDERS = random.Random(1).sample([*permutations(ROLLS)], ZONES)
 @pytest.fixture(scope="module")
 def guides():
     """The book, and the points that the guides don't say."""
-    return book(), left_out(POINTS + PAIRS)
+    return read_book(), left_out(POINTS + PAIRS)
 
 
 @pytest.fixture(scope="module")
@@ -276,15 +276,15 @@ def test_two_signers(zone, guides, networks):
 @pytest.mark.parametrize("point", GUIDE, ids=lambda point: point.name)
 def test_without(point, guides, networks):
     """Within the guide's rules as they are defined no zone is without this point."""
-    told, unsaid = guides
+    book, unsaid = guides
     networks["points"] += 1
-    number = until_unmet(point, told, frozenset(unsaid))
+    number = until_unmet(point, book, frozenset(unsaid))
     assert number is not None
     networks["most"] = max(networks["most"], number)
 
 
-def expect_premises(played, networks):
-    instants, choices, faults = played
+def expect_premises(findings, networks):
+    instants, choices, faults = findings
     networks["instants"] += instants
     networks["choices"] += choices
     assert faults[:3] == []

@@ -9,7 +9,7 @@ import pytest
 
 from judge import chain_line
 from keyset.rolls import ALGORITHM_ROLL, KSK_DOUBLE_DS_ROLL, ROLLS
-from tests.oracle.book import EARLY_END, FIRST_KEYS, left_out, runbooks as book
+from tests.oracle.book import EARLY_END, FIRST_KEYS, left_out, read_book
 from tests.oracle.course import BESIDE, SLIPS
 from tests.oracle.pair import JOINED, LEFT
 from tests.oracle.points import BREAKS, NO_CHAIN, ORDERS, PAIRS, POINTS
@@ -22,7 +22,7 @@ BROKEN, ZONES = 3, 60
 
 @pytest.fixture(scope="module")
 def guides():
-    return book()
+    return read_book()
 
 
 def test_guides_have_each_point():
@@ -73,22 +73,22 @@ def follow(signers, orders, guides, say):
     leaves = left_out(POINTS + PAIRS)
     done, instants, choices, wrong = Counter(), 0, 0, []
     for seed, order in enumerate(orders):
-        world, played, fault = play(seed, order, guides, leaves)
+        world, operators, fault = play(seed, order, guides, leaves)
         # (The verdict takes longer than the game.)
-        lasts = {chain_line(one.keyset.record) for one in played if seed % 40 == 0}
+        lasts = {chain_line(one.keyset.record) for one in operators if seed % 40 == 0}
         if fault or lasts - {"chain safe"}:
-            rolls = " beside ".join(roll for one in played for roll in one.keyset.phases)
+            rolls = " beside ".join(roll for one in operators for roll in one.keyset.phases)
             zone = f"zone {seed}, {' '.join(order or ['two signers'])}"
             wrong.append(f"{zone}: in {rolls or 'no roll'}: {fault or lasts}")
-        for one in played:
+        for one in operators:
             done.update(one.done)
         instants, choices = instants + world.instants, choices + world.choices
-    say(f"runbooks: {signers}: {told(orders, done)}: at {instants} instants {choices} choices of"
+    say(f"runbooks: {signers}: {summary(orders, done)}: at {instants} instants {choices} choices of"
         " sets are as promised")
     assert wrong == []
 
 
-def told(orders, done):
+def summary(orders, done):
     counted = {"beside another": BESIDE, "early ends": EARLY_END, "false lines": SLIPS,
                "times first keys": FIRST_KEYS, "times unsigned": GONE, "joined": JOINED,
                "left": LEFT}

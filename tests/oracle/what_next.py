@@ -12,7 +12,7 @@ from judge import SPEAKS_OF, origin
 from keyset.rolls import ALGORITHM_ROLL, ROLLS
 from tables import Key, KeySet
 from tests.oracle.policy import Policy, Renewal, role_of
-from tests.oracle.spread import KINDS, LONGEST_TTL, Facts
+from tests.oracle.spread import KINDS, LONGEST_TTL, NoteHistory
 
 LAST_SECOND = 2**64 - 1
 AT_REST = "nothing: the zone is as the policy wants it"
@@ -70,12 +70,12 @@ def soonest(todos: Iterable[Todo]) -> Todo:
 @dataclass
 class View:
     """What is known of a zone at a moment: its key set, the positions of the last second waits of
-    its rolls, that of the first call by hand, and the facts of its notes."""
+    its rolls, that of the first call by hand, and the history of its notes."""
 
     set: KeySet
     last: Mapping[str, int]
     by_hand: Optional[int]
-    facts: Facts
+    history: NoteHistory
     now: int
 
     @classmethod
@@ -88,11 +88,11 @@ class View:
             if keyset.call(line).startswith("ok"):
                 by_hand += [number] if is_by_hand else []
                 last |= {name: number} if word == "wait2" else {}
-        return cls(keyset, last, min(by_hand, default=None), Facts(notes), now)
+        return cls(keyset, last, min(by_hand, default=None), NoteHistory(notes), now)
 
     def reach(self, kind: str, base: int) -> Optional[type]:
         """What brings the sets of a position to all servers; None if they are there."""
-        spread = self.facts.spread(kind, base)
+        spread = self.history.spread(kind, base)
         if spread.position < base:
             return Publish
         return None if spread.is_everywhere(base, self.now) else Watch
@@ -129,7 +129,7 @@ def makes_by_hand(keyset: KeySet, word: str, name: str) -> bool:
 
 def due_for(view: View, kind: str, base: int) -> Optional[int]:
     """The TTL with which a report is true, of this kind; None if there is none."""
-    spread = view.facts.spread(kind, base)
+    spread = view.history.spread(kind, base)
     if not spread.is_everywhere(base, view.now):
         return None
     left = max(0, spread.expired - view.now)
@@ -149,7 +149,7 @@ def report_next(view: View, word: str, roll: str) -> Todo:
                 brings = view.reach(kind, base)
                 return brings(kind) if brings else NotBefore(view.now + 1)
             ttl = max(ttl, due)
-    ttl = view.facts.lasting(kinds, ttl)
+    ttl = view.history.lasting(kinds, ttl)
     if ttl > LONGEST_TTL:
         return NotBefore(view.now + 1)
     return Make(f"{word} {roll} {ttl} {view.now}")
@@ -365,8 +365,8 @@ def is_left_over(view: View, key: Key) -> bool:
 # ---- as a text
 
 
-class NotSaid(ValueError):
-    """It isn't said what to do next, and why."""
+class PolicyFault(ValueError):
+    """Why a policy says nothing."""
 
 
 def shown(policy: Policy, todo: Todo) -> str:
@@ -387,6 +387,6 @@ def shown(policy: Policy, todo: Todo) -> str:
 def said(policy: Sequence[str], lines: Sequence[str], notes: Sequence[str], now: int) -> str:
     """What a policy says to do next, after these lines and notes, at a second since 1970."""
     read, view = Policy.read(policy), View.after(lines, notes, now)
-    if fault := read.too_short(view.facts):
-        raise NotSaid(f"policy: {fault.text}")
+    if fault := read.too_short(view.history):
+        raise PolicyFault(f"policy: {fault.text}")
     return shown(read, answer_of(read, view))

@@ -17,7 +17,7 @@ TTLS = (1, 2, 2, 3, 5, 8)
 VALID, SLOWEST = (60, 120), 16
 
 
-class Broken(Exception):
+class CacheFault(Exception):
     """Some caches hold sets that a validator refuses: in which way, and which sets."""
 
     def __init__(self, how, sets):
@@ -25,7 +25,7 @@ class Broken(Exception):
         self.how = how
 
 
-class Kept:
+class Rrset:
     """A set of one kind as servers give it, with the time for which caches keep it, and the moment
     when its signatures expire."""
 
@@ -60,8 +60,8 @@ class Servers:
         self.versions.append({**self.versions[-1], **changed})
         self.times.append(self.world.now)
         number = len(self.versions) - 1
-        for _, kept in self.sets(number):
-            kept.last = number
+        for _, rrset in self.sets(number):
+            rrset.last = number
         for server in range(len(self.at)):
             self.world.later(self.world.delay(), self.arrive, server, number)
         return number
@@ -75,15 +75,15 @@ class Servers:
                 self.gives_no_more(before)
 
     def gives(self, number):
-        for kind, kept in self.sets(number):
-            kept.givers += 1
-            self.world.holds(kind, kept)
+        for kind, rrset in self.sets(number):
+            rrset.givers += 1
+            self.world.holds(kind, rrset)
 
     def gives_no_more(self, number):
-        for _, kept in self.sets(number):
-            kept.givers -= 1
-            if not kept.givers:
-                kept.left = self.world.now
+        for _, rrset in self.sets(number):
+            rrset.givers -= 1
+            if not rrset.givers:
+                rrset.left = self.world.now
 
     def name(self):
         """From now on they are asked."""
@@ -106,7 +106,7 @@ class World:
         self.dice, self.algorithms, self.made = dice, {}, count(1)
         self.now, self.queue, self.order = BEGIN, [], count()
         self.held, self.pairs = {"ds": [], "dnskey": [], "zone": [], "cds": []}, []
-        self.is_new, self.judged, self.told_at = True, {}, BEGIN
+        self.is_new, self.judged, self.given_at = True, {}, BEGIN
         # Some caches keep all sets for a least time, or for some time longer than the TTL.
         self.least, self.more = dice.choice(((0, 0), (0, 0), (4, 0), (0, 3)))
         # How often a server takes long; whether the parent reads CDS.
@@ -117,7 +117,7 @@ class World:
             vars(self).update(WORLDS.get(point, {}))
         # The servers of each signer, and who has the DS set changed just now.
         self.zones, self.changes_ds = [], None
-        self.parent = Servers(self, dice.randint(1, 3), {"ds": self.kept(frozenset())})
+        self.parent = Servers(self, dice.randint(1, 3), {"ds": self.rrset(frozenset())})
         self.later(0, self.scan)
         self.later(0, self.another_ttl)
         self.instants = self.choices = 0
@@ -127,17 +127,17 @@ class World:
     def another_zone(self, is_asked=True):
         """The servers of one more signer. They give the zone unsigned."""
         nothing = frozenset()
-        unsigned = {"dnskey": self.kept((nothing, nothing)), "zone": self.kept(nothing)}
+        unsigned = {"dnskey": self.rrset((nothing, nothing)), "zone": self.rrset(nothing)}
         servers = Servers(self, self.dice.randint(2, 4), {**unsigned, "cds": None}, is_asked)
         self.zones.append(servers)
         return servers
 
-    def kept(self, value, most=None, kind=None):
+    def rrset(self, value, most=None, kind=None):
         """A set with some TTL, which may be at most that of another set."""
         ttls = self.ttls.get(kind, TTLS)
         ttl = self.dice.choice([ttl for ttl in ttls if ttl <= (most or max(ttls))])
         expires = self.now + self.dice.randint(*VALID) * SECOND
-        return Kept(value, ttl, self.lasts(ttl), expires)
+        return Rrset(value, ttl, self.lasts(ttl), expires)
 
     def keeps(self, ttl):
         """How long some cache keeps a set with this TTL."""
@@ -172,28 +172,28 @@ class World:
         present = self.parent.versions[-1]["ds"].value
         signing = signers & version["dnskey"].value[0] & present
         if keys != present and signing and (keys & version["dnskey"].value[1] or not keys):
-            self.parent.publish(ds=self.kept(keys))
+            self.parent.publish(ds=self.rrset(keys))
 
-    def tell(self, keys):
+    def give_ds(self, keys):
         """Gives the parent its DS set by another way than CDS."""
-        self.told_at = max(self.told_at, self.now + self.dice.randint(0, 12 * SECOND))
-        self.later(self.told_at - self.now, lambda: self.parent.publish(ds=self.kept(keys)))
+        self.given_at = max(self.given_at, self.now + self.dice.randint(0, 12 * SECOND))
+        self.later(self.given_at - self.now, lambda: self.parent.publish(ds=self.rrset(keys)))
 
     def another_ttl(self):
         if self.now > BEGIN:
-            self.parent.publish(ds=self.kept(self.parent.versions[-1]["ds"].value))
+            self.parent.publish(ds=self.rrset(self.parent.versions[-1]["ds"].value))
         self.later(self.dice.randint(1, 60 * SECOND), self.another_ttl)
 
-    def holds(self, kind, kept):
-        if kept not in self.held[kind]:
-            self.held[kind].append(kept)
+    def holds(self, kind, rrset):
+        if rrset not in self.held[kind]:
+            self.held[kind].append(rrset)
             if kind != "ds":
-                self.later(max(0, kept.expires - self.now), self.expire, kept)
+                self.later(max(0, rrset.expires - self.now), self.expire, rrset)
         self.is_new = True
 
-    def expire(self, kept):
-        if self.now < kept.end() and any(ds.value for ds in self.held["ds"]):
-            raise Broken(EXPIRED, kept.value)
+    def expire(self, rrset):
+        if self.now < rrset.end() and any(ds.value for ds in self.held["ds"]):
+            raise CacheFault(EXPIRED, rrset.value)
 
     def tick(self):
         self.now += 1
@@ -208,16 +208,16 @@ class World:
     def look(self):
         """Looks at each choice of sets that some cache may hold now."""
         for kind, sets in self.held.items():
-            self.held[kind] = [kept for kept in sets if self.now < kept.end()]
+            self.held[kind] = [rrset for rrset in sets if self.now < rrset.end()]
         now = product(self.held["ds"], self.held["dnskey"])
         checked = [pair for pair in self.pairs if self.is_checked(*pair)]
         self.pairs = [*dict.fromkeys([*checked, *now])]
         self.instants += 1
         for ds, dnskey in self.pairs:
-            for kept in self.held["zone"]:
-                self.judge(self.lacks, ds.value, *dnskey.value, kept.value)
-            for kept in self.held["cds"]:
-                self.judge(self.lacks_cds, ds.value, *dnskey.value, kept.value[1])
+            for rrset in self.held["zone"]:
+                self.judge(self.lacks, ds.value, *dnskey.value, rrset.value)
+            for rrset in self.held["cds"]:
+                self.judge(self.lacks_cds, ds.value, *dnskey.value, rrset.value[1])
 
     def is_checked(self, ds, dnskey):
         """Whether a validator still keeps this DNSKEY set that it has checked by this DS set."""
@@ -230,7 +230,7 @@ class World:
         if (lacks, sets) not in self.judged:
             self.judged[lacks, sets] = lacks(*sets)
         if (how := self.judged[lacks, sets]) and not self.forgiven:
-            raise Broken(how, self.told(*sets))
+            raise CacheFault(how, self.text_of(*sets))
 
     def forgives(self, lines):
         """This many more false lines are acted upon, or fewer."""
@@ -256,7 +256,7 @@ class World:
         """The algorithms of these keys."""
         return {self.algorithms[name] for name in names}
 
-    def told(self, *sets):
+    def text_of(self, *sets):
         named = (",".join(sorted(names)) or "-" for names in sets)
         return " ".join(f"{label}={names}" for label, names in zip(SETS, named))
 

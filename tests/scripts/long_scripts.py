@@ -20,7 +20,7 @@ FEW = 3
 NOTHING = "ds=- dnskey=- signers=- zone=-"
 
 
-class Quick(KeySet):
+class KeySetWithoutRecord(KeySet):
     """The tables without a record, and without the question whether an add is refused: each add
     here has a tag and a reference of its own."""
 
@@ -87,9 +87,9 @@ def text(lines):
     return "\n".join(lines) + "\n"
 
 
-def told(course, count):
+def answers_of(course, count):
     """The answers to a course with this many rounds or keys."""
-    keyset = Quick()
+    keyset = KeySetWithoutRecord()
     lines = [keyset.call(line) for line in list(course(count))[1:]]
     return text([*lines, keyset.published(), answers([*course(FEW)])[-1]])
 
@@ -97,11 +97,11 @@ def told(course, count):
 def scripts():
     """What is long, a script with it, and the answers to that."""
     refused = ["refused: Key tag already present"] * LATE
-    script, answer = text(many_calls(ROUNDS)), told(many_calls, ROUNDS)
+    script, answer = text(many_calls(ROUNDS)), answers_of(many_calls, ROUNDS)
     assert min(len(script), len(answer)) > MEGABYTE, "more rounds are wanted"
     yield f"{len(script):,} bytes answered by {len(answer):,}", script, answer
     script = text(long_lists(LISTED))
-    yield f"lists of {LISTED:,} references", script, told(long_lists, LISTED)
+    yield f"lists of {LISTED:,} references", script, answers_of(long_lists, LISTED)
     script = text(long_line())
     yield f"a line of {max(map(len, long_line())):,} bytes", script, text(answers([*long_line()]))
     answer = text([*["ok"] * TAGS, *refused, NOTHING, "chain safe"])

@@ -9,8 +9,8 @@ from itertools import permutations
 from keyset.rolls import ROLLS
 from tests.gate.tools import NOTES
 from tests.oracle import runbooks
-from tests.oracle.book import left_out, runbooks as book
-from tests.oracle.notes import Notes
+from tests.oracle.book import left_out, read_book
+from tests.oracle.notes import GameNotes
 from tests.oracle.points import PAIRS, POINTS
 
 # A script of three calls, and what is answered to notes beside it and a question.
@@ -110,10 +110,10 @@ def some_orders():
 def played(orders, wrong):
     """The questions of all operators, and how often a version went back to an earlier call. With a
     parent that reads CDS this happens: after an early end it may give the first set again."""
-    questions, back, told, unsaid = [], 0, book(), left_out(POINTS + PAIRS)
+    questions, back, book, unsaid = [], 0, read_book(), left_out(POINTS + PAIRS)
     for seed, order in enumerate(orders):
         world, signers, fault = runbooks.play(
-            seed, order, told, unsaid, lambda one: Notes(one, seed % 2 == 1)
+            seed, order, book, unsaid, lambda one: GameNotes(one, seed % 2 == 1)
         )
         if fault:
             wrong.append(f"notes: zone {seed}: {fault}")

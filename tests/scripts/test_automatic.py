@@ -26,12 +26,12 @@ from typing import Iterator, Optional, Sequence
 from judge import chain_line, has_chain, time as judged_time
 from keyset import programs
 from keyset.rolls import CALLS, ROLLS, rolls_of
-from tests.oracle.notes import Notes, Version, due
+from tests.oracle.notes import GameNotes, NotedVersion, due
 from tests.oracle.policy import Policy
-from tests.oracle.signer import Operator, Stuck
-from tests.oracle.spread import Facts
+from tests.oracle.signer import Operator, Standstill
+from tests.oracle.spread import NoteHistory
 from tests.oracle.what_next import AT_REST, View, answer_of, shown
-from tests.oracle.zone import SECOND, SLOWEST, Broken, World
+from tests.oracle.zone import SECOND, SLOWEST, CacheFault, World
 
 ROLLS_OF_A_ZONE, ROLLS_IN_THE_GATE = 12, 240
 ALGORITHMS = (8, 13, 14, 15)
@@ -40,10 +40,10 @@ EARLY, HALF = "seen on all servers once one gives it", "half of the TTL"
 # How often the program is asked again, though the definition says the same as before.
 AGAIN = 0.1
 # How often the game says how far it has come, in seconds.
-TOLD = 60
+SAY_EVERY = 60
 
 
-class Wrong(Exception):
+class WrongAnswer(Exception):
     """`next` said what it must not say."""
 
 
@@ -52,7 +52,7 @@ def run(word: str, lines: Sequence[str]) -> str:
     text = "".join(f"{line}\n" for line in lines)
     done = subprocess.run(programs.find(word), input=text, capture_output=True, text=True)
     if done.returncode not in (0, 1):
-        raise Wrong(f"status {done.returncode}: {done.stderr}")
+        raise WrongAnswer(f"status {done.returncode}: {done.stderr}")
     return done.stdout.rstrip("\n") if done.returncode == 0 else f"refused: {done.stderr.strip()}"
 
 
@@ -76,18 +76,18 @@ def in_some_order(dice: random.Random, policy: Policy) -> list[str]:
     return [first, *dice.sample(more, len(more))]
 
 
-class TrueNotes(Notes):
-    """Notes of an operator who is told what to publish: a version with the sets that are due now
-    has those of the last call."""
+class TrueNotes(GameNotes):
+    """Notes of an operator to whom `next` says what to publish: a version with the sets that are
+    due now has those of the last call."""
 
-    def published(self, kind, number):
+    def note_version(self, kind, number):
         record = self.operator.keyset.record
         at, value = len(record) - 1, self.value(kind, number)
         if due(kind, record[at]) != value:
-            super().published(kind, number)
+            super().note_version(kind, number)
             return
         ttl, moment = self.ttl(kind, number), max(self.down(), judged_time(record, at))
-        self.versions[kind].append(Version(at, ttl, self.sets(kind, number)))
+        self.versions[kind].append(NotedVersion(at, ttl, self.sets(kind, number)))
         self.waits[kind] = number
         self.lines.append(f"published {kind} {max(1, at)} {ttl} {moment}")
 
@@ -108,55 +108,55 @@ class UntrueNotes(TrueNotes):
         for kind, servers in self.sources.items():
             if self.lie == EARLY and self.waits[kind] is not None:
                 if max(servers.at) >= self.waits[kind]:
-                    self.seen(kind)
+                    self.note_sight(kind)
 
 
-class Network(World):
+class LenientWorld(World):
     """Validators that ask for every algorithm look at sets that caches hold now. For those that
     keep a DNSKEY set which was checked by an older DS set a report needs a sum of TTLs, and `next`
     gives the TTL of the notes. They find a chain."""
 
     def judge(self, lacks, *sets):
-        held = any(kept.value == sets[0] for kept in self.held["ds"])
+        held = any(rrset.value == sets[0] for rrset in self.held["ds"])
         if held or not has_chain(*sets):
             super().judge(lacks, *sets)
 
 
-class Follower(Operator):
+class NextOperator(Operator):
     """Does what `next` says."""
 
     def __init__(self, world: World, lie: Optional[str]) -> None:
         # The clock is right, and the DS set is changed by hand.
         super().__init__(world, {})
         self.ahead, self.margin, world.takes_cds = [0], 0, False
-        self.sent, self.told, self.last = 0, None, ("", 0)
-        self.asked, self.lasts, self.facts = Counter(), {}, Facts()
+        self.lines_read, self.given_ds, self.last = 0, None, ("", 0)
+        self.asked, self.lasts, self.history = Counter(), {}, NoteHistory()
         self.notes = UntrueNotes(self, lie) if lie else TrueNotes(self, reports=False)
 
-    def is_due(self, kept) -> bool:
+    def is_due(self, rrset) -> bool:
         """With a second to spare: the slowest server takes that long to the instant."""
-        return kept.expires - self.world.now < kept.time + (SLOWEST + 1) * SECOND
+        return rrset.expires - self.world.now < rrset.time + (SLOWEST + 1) * SECOND
 
-    def tell(self) -> None:
+    def catch_up(self) -> None:
         """Reads what was noted since the last time."""
         self.notes.look()
-        for line in self.notes.lines[self.sent:]:
-            self.facts.take(line)
-        self.sent = len(self.notes.lines)
+        for line in self.notes.lines[self.lines_read:]:
+            self.history.take(line)
+        self.lines_read = len(self.notes.lines)
 
     def asks(self) -> str:
         """What is said has to be what the definition says. If that says the same as before, and
         nothing was noted, the program is asked only now and then."""
-        self.tell()
+        self.catch_up()
         now = self.rounded_down()
-        view = View(self.keyset, self.lasts, None, self.facts, now)
+        view = View(self.keyset, self.lasts, None, self.history, now)
         wanted = shown(self.policy, answer_of(self.policy, view))
-        if self.last == (wanted, self.sent) and self.dice.random() > AGAIN:
+        if self.last == (wanted, self.lines_read) and self.dice.random() > AGAIN:
             return wanted
-        self.last = wanted, self.sent
+        self.last = wanted, self.lines_read
         said = self.program_says(now)
         if said != wanted:
-            raise Wrong(f"{said}, and by the definition: {wanted}")
+            raise WrongAnswer(f"{said}, and by the definition: {wanted}")
         return said
 
     def program_says(self, now: int) -> str:
@@ -166,7 +166,7 @@ class Follower(Operator):
 
     def course(self, rolls: int) -> Iterator[None]:
         """Plays so many rolls."""
-        self.tell()
+        self.catch_up()
         self.another_policy()
         while sum(self.done.values()) < rolls:
             yield from self.obey(self.asks())
@@ -179,11 +179,11 @@ class Follower(Operator):
 
     def long_enough(self) -> None:
         """A lifetime that is too short by the notes is refused, and made longer."""
-        self.tell()
-        while fault := self.policy.too_short(self.facts):
+        self.catch_up()
+        while fault := self.policy.too_short(self.history):
             said = self.program_says(self.rounded_down())
             if said != f"refused: policy: {fault.text}":
-                raise Wrong(f"{said}, and by the definition: {fault.text}")
+                raise WrongAnswer(f"{said}, and by the definition: {fault.text}")
             self.asked["refused"] += 1
             self.policy.renewals[fault.role].lifetime = fault.takes + self.dice.randint(0, 100)
             self.text = in_some_order(self.dice, self.policy)
@@ -205,7 +205,7 @@ class Follower(Operator):
             self.another_policy()
             yield from self.lets_a_second_pass()
         else:
-            raise Wrong(said)
+            raise WrongAnswer(said)
 
     def makes(self, line: str) -> None:
         """Makes the call, which has to be accepted."""
@@ -223,14 +223,14 @@ class Follower(Operator):
         answers = run("", ["zone example.com", *self.script]).splitlines()
         refused = [answer for answer in answers[:-2] if not answer.startswith("ok")]
         if refused or answers[-1] != "chain safe":
-            raise Wrong(f"{refused}, {answers[-1]}")
+            raise WrongAnswer(f"{refused}, {answers[-1]}")
 
     def publishes(self, kind: str) -> Iterator[None]:
         if kind != "ds":
             yield from self.publish({kind})
-        elif self.told != self.ds():
-            self.told = self.ds()
-            self.world.tell(self.told)
+        elif self.given_ds != self.ds():
+            self.given_ds = self.ds()
+            self.world.give_ds(self.given_ds)
         yield from self.lets_a_second_pass()
 
     def lets_a_second_pass(self) -> Iterator[None]:
@@ -241,7 +241,7 @@ class Follower(Operator):
     def sleeps(self, second: int) -> Iterator[None]:
         """Until then, or a random while."""
         if second <= self.rounded_down():
-            raise Wrong(f"until {second}, which is over")
+            raise WrongAnswer(f"until {second}, which is over")
         early = self.dice.random() < 0.3
         for _ in range((second - self.rounded_down()) * SECOND):
             if self.rounded_down() >= second or (early and self.dice.random() < 0.02):
@@ -255,7 +255,7 @@ class Follower(Operator):
 
 
 @dataclass
-class Played:
+class ZoneResult:
     """What came of a zone, and by which fault it ended, if by one."""
 
     done: Counter
@@ -265,9 +265,9 @@ class Played:
     fault: str = ""
 
 
-def play(zone: int, lie: Optional[str] = None) -> Played:
-    world = Network(random.Random(zone))
-    one, fault = Follower(world, lie), ""
+def play(zone: int, lie: Optional[str] = None) -> ZoneResult:
+    world = LenientWorld(random.Random(zone))
+    one, fault = NextOperator(world, lie), ""
     try:
         for _ in one.course(ROLLS_OF_A_ZONE):
             one.lives()
@@ -275,14 +275,14 @@ def play(zone: int, lie: Optional[str] = None) -> Played:
         one.closes()
         if zone % 40 == 7 and (lasts := chain_line(one.keyset.record)) != "chain safe":
             fault = lasts
-    except (Broken, Stuck) as broken:
-        fault = str(broken)
-    except Wrong as wrong:
-        raise Wrong(f"zone {zone}, {one.policy}: {wrong}") from wrong
-    return Played(one.done, one.asked, world.instants, world.choices, fault)
+    except (CacheFault, Standstill) as end:
+        fault = str(end)
+    except WrongAnswer as wrong:
+        raise WrongAnswer(f"zone {zone}, {one.policy}: {wrong}") from wrong
+    return ZoneResult(one.done, one.asked, world.instants, world.choices, fault)
 
 
-def outcomes(zones: range, jobs: int) -> Iterator[Played]:
+def results(zones: range, jobs: int) -> Iterator[ZoneResult]:
     """Plays zones one after another, or so many at once."""
     if jobs == 1:
         yield from map(play, zones)
@@ -293,24 +293,24 @@ def outcomes(zones: range, jobs: int) -> Iterator[Played]:
 
 def follow(zones: range, jobs: int, wrong: list[str]) -> str:
     """Plays operators who note what is true. Gives a line of counts."""
-    total, played, told = Played(Counter(), Counter(), 0, 0), 0, time.monotonic()
-    for one in outcomes(zones, jobs):
-        played += 1
+    total, count, last_said = ZoneResult(Counter(), Counter(), 0, 0), 0, time.monotonic()
+    for one in results(zones, jobs):
+        count += 1
         total.done += one.done
         total.asked += one.asked
         total.instants += one.instants
         total.choices += one.choices
         if one.fault:
             wrong.append(f"automatic: a zone broke or stopped: {one.fault}")
-        if time.monotonic() - told > TOLD:
-            told = time.monotonic()
-            so_far = f"{played} zones, {sum(total.done.values())} rolls, {len(wrong)} faults"
+        if time.monotonic() - last_said > SAY_EVERY:
+            last_said = time.monotonic()
+            so_far = f"{count} zones, {sum(total.done.values())} rolls, {len(wrong)} faults"
             print(f"automatic, so far: {so_far}", file=sys.stderr, flush=True)
     if missing := [roll for roll in ROLLS if not total.done[roll]]:
         wrong.append(f"automatic: never played: {' '.join(missing)}")
     asked = ", ".join(f"{number} {word}" for word, number in sorted(total.asked.items()))
     return (
-        f"{played} zones, {sum(total.done.values())} rolls by what a policy says ({asked}): at "
+        f"{count} zones, {sum(total.done.values())} rolls by what a policy says ({asked}): at "
         f"{total.instants} instants {total.choices} choices of sets are as promised"
     )
 
@@ -351,7 +351,7 @@ def main() -> int:
     try:
         print(f"automatic: {follow(zones_of(least, first), jobs, wrong)}", flush=True)
         print(f"automatic: {lies(wrong)}")
-    except Wrong as fault:
+    except WrongAnswer as fault:
         wrong.append(f"automatic: {fault}")
     print(*wrong, sep="\n", end="\n" if wrong else "")
     print(f"automatic: {time.monotonic() - began:.0f} s, {'FAILED' if wrong else 'passed'}")

@@ -18,7 +18,7 @@ from pathlib import Path
 
 import pytest
 
-from tests.gate.tools import NOTES, PROGRAM, STATUS, STRICT, Wrong, run, stored_scripts
+from tests.gate.tools import NOTES, PROGRAM, STATUS, STRICT, Fault, run, stored_scripts
 
 
 # The scripts that the works begin with.
@@ -94,10 +94,10 @@ def outcome_of(allocator, command, text, failing):
     is 0."""
     made = {**os.environ, "LD_PRELOAD": str(allocator), "FAILING_REQUEST": str(failing)}
     ran = subprocess.run(command, input=text, capture_output=True, text=True, env=made)
-    told = MADE.fullmatch(ran.stderr)
-    if not told:
-        raise Wrong(f"{command}: request {failing}: status {ran.returncode}\n{ran.stderr}")
-    return Outcome(ran.stdout, told["said"], ran.returncode, int(told["made"]))
+    found = MADE.fullmatch(ran.stderr)
+    if not found:
+        raise Fault(f"{command}: request {failing}: status {ran.returncode}\n{ran.stderr}")
+    return Outcome(ran.stdout, found["said"], ran.returncode, int(found["made"]))
 
 
 def in_turn(allocator, callers, letter, script):
@@ -109,14 +109,14 @@ def in_turn(allocator, callers, letter, script):
     for failing in made:
         outcome = outcome_of(allocator, [callers], letter + script, failing)
         if outcome.made < failing:
-            raise Wrong(f"{work}: request {failing} was not made: {outcome}")
+            raise Fault(f"{work}: request {failing} was not made: {outcome}")
         refused += is_refused(f"{work}: request {failing}", outcome)
     if letter == DEFINITION and made:
-        raise Wrong(f"{work} asks for memory")
+        raise Fault(f"{work} asks for memory")
     if letter == WINDOW and refused < len(made):
-        raise Wrong(f"{work} has a verdict though a request was refused")
+        raise Fault(f"{work} has a verdict though a request was refused")
     if letter != DEFINITION and refused == 0:
-        raise Wrong(f"{work}: no call was refused for lack of memory")
+        raise Fault(f"{work}: no call was refused for lack of memory")
     return len(made)
 
 
@@ -124,7 +124,7 @@ def with_ample(allocator, callers, letter, script):
     """How many requests a work makes if none fails."""
     outcome = outcome_of(allocator, [callers], letter + script, 0)
     if outcome.status or outcome.said or outcome.written != "ample\n":
-        raise Wrong(f"{letter}: it doesn't go well with ample memory: {outcome}")
+        raise Fault(f"{letter}: it doesn't go well with ample memory: {outcome}")
     return outcome.made
 
 
@@ -132,7 +132,7 @@ def is_refused(where, outcome):
     """Whether the program says that a call was refused. It checks by itself that the call is
     accepted when it is made again."""
     if outcome.status or outcome.said or outcome.written not in ("ample\n", "refused\n"):
-        raise Wrong(f"{where}: {outcome}")
+        raise Fault(f"{where}: {outcome}")
     return outcome.written == "refused\n"
 
 
@@ -143,14 +143,14 @@ def in_turn_of_program(allocator, command, text):
     name = " ".join([PROGRAM.name, *command[1:]])
     ample = outcome_of(allocator, command, text, 0)
     if ample.status or ample.said or not ample.written or not ample.made:
-        raise Wrong(f"{name}: it doesn't go well with ample memory: {ample}")
+        raise Fault(f"{name}: it doesn't go well with ample memory: {ample}")
     for failing in range(1, ample.made + 1):
         outcome = outcome_of(allocator, command, text, failing)
         is_refused = outcome.status == 3 and not outcome.written and LACKED.fullmatch(outcome.said)
         is_ample = (outcome.status, outcome.written, outcome.said) == (0, ample.written, "")
         is_of_call = len(command) == 1 and refuses_call(outcome, ample)
         if not (is_refused or is_ample or is_of_call):
-            raise Wrong(f"{name}: request {failing}: {outcome}")
+            raise Fault(f"{name}: request {failing}: {outcome}")
     return ample.made
 
 
@@ -196,4 +196,4 @@ def test_further_question(allocator, program):
     ]
     (short, short_more), (long, long_more) = made
     if short_more - short != long_more - long:
-        raise Wrong(f"keyset notes: a further question runs the script again: {made} requests")
+        raise Fault(f"keyset notes: a further question runs the script again: {made} requests")

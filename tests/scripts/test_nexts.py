@@ -29,7 +29,7 @@ DAYS = [*bad_days.days()]
 
 
 @dataclass(frozen=True)
-class Question:
+class NextQuestion:
     """What is asked: the lines of a policy, a script and its notes, and a second."""
 
     policy: list[str]
@@ -40,7 +40,7 @@ class Question:
     def by_twin(self) -> str:
         try:
             return what_next.said(self.policy, self.lines, self.notes, self.second)
-        except what_next.NotSaid as fault:
+        except what_next.PolicyFault as fault:
             return f"status 1: {fault}"
 
     def by_program(self) -> str:
@@ -103,30 +103,30 @@ def later(dice: random.Random, moment: int, most: int) -> int:
     return min(LAST, moment + dice.choice((0, 1, 30, 100, dice.randint(0, most))))
 
 
-def drawn(dice: random.Random, stored: list[list[str]]) -> Question:
+def drawn(dice: random.Random, stored: list[list[str]]) -> NextQuestion:
     whole = dice.choice(stored)
     lines = whole[: dice.randint(1, len(whole))]
     moments = [int(found[1]) if found else 0 for found in map(MOMENT.fullmatch, lines[1:])]
     reached, most = list(itertools.accumulate(moments, max)), max([100, *moments])
     second = dice.choice((0, most, most + 1, 2 * most, dice.randint(0, 2 * most), LAST))
-    return Question(policy(dice, most), lines, notes(dice, reached, most), min(second, LAST))
+    return NextQuestion(policy(dice, most), lines, notes(dice, reached, most), min(second, LAST))
 
 
 def test_questions(program, say):
     dice, stored = random.Random(62), scripts()
     questions = [drawn(dice, stored) for _ in range(QUESTIONS)]
     with ThreadPoolExecutor(4) as pool:
-        answers = zip(questions, pool.map(Question.by_program, questions))
+        answers = zip(questions, pool.map(NextQuestion.by_program, questions))
         judged = [judged_by_twin(*answer) for answer in answers]
     wrong = [fault for _, fault in judged if fault]
     words = Counter(word for word, _ in judged)
-    told = ", ".join(f"{number} {word}" for word, number in sorted(words.items()))
-    say(f"nexts: {QUESTIONS} questions ({told}), {len(DAYS)} bad days, {len(wrong)} differences")
+    by_word = ", ".join(f"{number} {word}" for word, number in sorted(words.items()))
+    say(f"nexts: {QUESTIONS} questions ({by_word}), {len(DAYS)} bad days, {len(wrong)} differences")
     if wrong:
         pytest.fail("\n".join(wrong[:10]), pytrace=False)
 
 
-def judged_by_twin(question: Question, by_program: str) -> tuple[str, str | None]:
+def judged_by_twin(question: NextQuestion, by_program: str) -> tuple[str, str | None]:
     """What is done next by the twin, in a word, and how it differs from what the program says. (The
     twin takes notes that the program refuses.)"""
     if by_program.startswith("status 1: notes: "):
@@ -139,6 +139,6 @@ def judged_by_twin(question: Question, by_program: str) -> tuple[str, str | None
 @pytest.mark.parametrize("bad_day", DAYS, ids=lambda bad_day: bad_day[0])
 def test_bad_day(bad_day, program):
     _, day, wanted = bad_day
-    question = Question(day.policy, day.script, day.notes, day.now)
+    question = NextQuestion(day.policy, day.script, day.notes, day.now)
     assert question.by_program() == wanted
     assert question.by_twin() == wanted

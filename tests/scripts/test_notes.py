@@ -15,8 +15,8 @@ import pytest
 
 from tests.gate import tools
 from tests.oracle import runbooks
-from tests.oracle.book import left_out, runbooks as book
-from tests.oracle.notes import Notes
+from tests.oracle.book import left_out, read_book
+from tests.oracle.notes import GameNotes
 from tests.oracle.points import PAIRS, POINTS
 from tests.scripts import mistyped, notes
 
@@ -48,9 +48,9 @@ def questions(played):
 def broken_by_less(orders):
     """Operators who report one second less than their notes say, until three of their zones are
     broken. Gives how many zones that took."""
-    broken, told, unsaid = 0, book(), left_out(POINTS + PAIRS)
+    broken, book, unsaid = 0, read_book(), left_out(POINTS + PAIRS)
     for seed, order in enumerate(orders):
-        less = runbooks.play(seed, order, told, unsaid, lambda one: Notes(one, True, less=1))
+        less = runbooks.play(seed, order, book, unsaid, lambda one: GameNotes(one, True, less=1))
         broken += less[2] is not None
         if broken == 3:
             return seed + 1
@@ -62,9 +62,9 @@ def fault_of(text, wanted):
     answered."""
     done = notes.asked(text)
     is_fault = wanted.startswith(("script: ", "notes: "))
-    told = (done.returncode, (done.stderr if is_fault else done.stdout).rstrip())
-    if told != (is_fault, wanted) or (is_fault and done.stdout):
-        return f"{wanted!r} is to be said of {text!r}, and {told} was"
+    end = (done.returncode, (done.stderr if is_fault else done.stdout).rstrip())
+    if end != (is_fault, wanted) or (is_fault and done.stdout):
+        return f"{wanted!r} is to be said of {text!r}, and {end} was"
 
 
 def expect_none(faults):
@@ -120,9 +120,9 @@ def answers_to(questions, asks):
 
 def test_answers(questions, program, say):
     """The answers to all questions are those of both rules."""
-    told = answers_to(questions, (f"due {each.moment}" for each in questions))
-    assert len(told) == len(questions)
-    expect_none(map(against_rules, questions, told))
+    answers = answers_to(questions, (f"due {each.moment}" for each in questions))
+    assert len(answers) == len(questions)
+    expect_none(map(against_rules, questions, answers))
     waits = sum(question.due is None for question in questions)
     sharp = sum(question.most is not None for question in questions)
     say(f"notes: {len(questions)} answers, of which {waits} say not yet, are those of the rule, and"
@@ -132,15 +132,15 @@ def test_answers(questions, program, say):
 def against_rules(question, lines):
     """What of an answer is against the rules."""
     call, roll, *_, due, most = question
-    told = [line for line in lines if roll in line.split()]
+    of_roll = [line for line in lines if roll in line.split()]
     if due is None:
-        is_right = len(told) == 1 and told[0].startswith(f"not yet: {call} {roll} waits for ")
+        is_right = len(of_roll) == 1 and of_roll[0].startswith(f"not yet: {call} {roll} waits for ")
     else:
-        is_right = told == [f"{call} {roll} {due} {question.moment}"]
+        is_right = of_roll == [f"{call} {roll} {due} {question.moment}"]
     if not is_right:
-        return f"{call} {roll} is due with {due}, and answered {told}"
+        return f"{call} {roll} is due with {due}, and answered {of_roll}"
     if most is not None and due > most:
-        return f"{told[0]}, and rule 1 says {most}"
+        return f"{of_roll[0]}, and rule 1 says {most}"
 
 
 def test_mistyped(questions, program, say):
@@ -161,14 +161,14 @@ def test_mistyped(questions, program, say):
 def test_early(questions, program):
     """At each report a second before its step is asked about, and the step's."""
     times = [mistyped.step_time(each.script, each.call, each.roll) for each in questions]
-    told = answers_to(questions, (f"due {at - 1}\ndue {at}" for at in times))
-    assert len(told) == 2 * len(questions)
-    expect_none(map(around_step, questions, times, told[::2], told[1::2]))
+    answers = answers_to(questions, (f"due {at - 1}\ndue {at}" for at in times))
+    assert len(answers) == 2 * len(questions)
+    expect_none(map(around_step, questions, times, answers[::2], answers[1::2]))
 
 
 def around_step(question, at, *answers):
     """What is wrong of the answers a second before a report's step, and at it."""
-    before, then = ([line for line in told if question.roll in line.split()] for told in answers)
+    before, then = ([line for line in lines if question.roll in line.split()] for lines in answers)
     wanted = f"not yet: {question.call} {question.roll} waits until {at}"
     if before != [wanted] or len(then) != 1 or "waits until" in then[0]:
         return f"{before} and {then} are answered around {wanted!r}"

@@ -189,14 +189,14 @@ def wait_end(keyset, roll):
     return min(max((stamp + ttl for stamp in stamps), default=0), 1 << 64) if ttl else 0
 
 
-def told_of_roll(keyset, roll):
+def roll_line(keyset, roll):
     phase, ttl = keyset.phases.get(roll, (None, 0))
     named = PHASES[phase].format(ttl) if phase else None
     due = getattr(ROLLS[roll], DUE[phase]).split() if phase in DUE else []
     return f"{roll_name(roll)} {some(named)} {listed(due)} {some(wait_end(keyset, roll))} true"
 
 
-def told(keyset):
+def key_set_lines(keyset):
     """The whole key set, line by line, as the program prints it, in alphabetical order."""
     lines = [f"{len(keyset.keys)} keys, {len(keyset.phases)} rolls"]
     for name, key in keyset.keys.items():
@@ -209,7 +209,7 @@ def told(keyset):
             f" {key.algorithm} {key.tag} {decoupled} {stamps}"
         )
         lines += [f"{name}: {text_of(state)}" for state in key.states]
-    lines += [told_of_roll(keyset, roll) for roll in ROLLS]
+    lines += [roll_line(keyset, roll) for roll in ROLLS]
     return sorted(lines)
 
 
@@ -246,7 +246,7 @@ def check(name, script, stored, parts):
     for i, line in enumerate(script):
         if i > 0:
             wanted.append(keyset.call(line))
-        if sorted(next(parts).split("\n")) != told(keyset):
+        if sorted(next(parts).split("\n")) != key_set_lines(keyset):
             pytest.fail(f"{name}: the key set differs from that of the tables: {script[: i + 1]}")
     if answers.split("\n")[:-1] != [*wanted, keyset.published()] or stored not in (None, answers):
         pytest.fail(f"{name}: the answers differ from those of the tables: {script}")
@@ -255,8 +255,8 @@ def check(name, script, stored, parts):
         pytest.fail(f"{name}: the record differs from that of the tables: {script}")
 
 
-STORED_SCRIPTS = [(name, script.splitlines(), told.rstrip("\n"))
-                  for name, script, told in stored_scripts()]
+STORED_SCRIPTS = [(name, script.splitlines(), answers.rstrip("\n"))
+                  for name, script, answers in stored_scripts()]
 
 
 @pytest.fixture(scope="module")

@@ -9,7 +9,7 @@ import subprocess
 from dataclasses import dataclass
 from typing import Iterator, Optional
 
-from tests.gate.tools import CRATES, NOTED, PROGRAM, RUNNER, SHOWN, TOP, Wrong
+from tests.gate.tools import CRATES, NOTED, PROGRAM, RUNNER, SHOWN, TOP, Fault
 
 VERSION = f"keyset {(TOP / 'VERSION').read_text().strip()}\n".encode()
 ANSWERS = SHOWN[0].with_suffix(".answers").read_bytes()
@@ -120,7 +120,7 @@ NAMES = {
 
 @dataclass(frozen=True)
 class Row:
-    """What the program is asked, and how it has to end. A name of None: it is told no arguments at
+    """What the program is asked, and how it has to end. A name of None: it is given no arguments at
     all, not even its name."""
 
     arguments: tuple
@@ -187,7 +187,7 @@ def expect_rows(program):
         ended = called(program, row.name, row.arguments, input=row.given)
         if ended != (row.status, row.written, row.said):
             asked = f"{row.name and row.name[:50]!r} {[word[:50] for word in row.arguments]}"
-            raise Wrong(f"{program} called as {asked} ends with {ended}, and not as {row}")
+            raise Fault(f"{program} called as {asked} ends with {ended}, and not as {row}")
         count += 1
     return count
 
@@ -199,14 +199,14 @@ def expect_help(program):
     readme = (CRATES / "keyset" / "README.md").read_text()
     words, ends = WORD.findall(readme), ENDS.findall(readme)
     if (status, said) != (0, b"") or len(words) != 5 or len(ends) != 5:
-        raise Wrong(f"{program} --help ends with {status} and {said}; {words} {ends}")
+        raise Fault(f"{program} --help ends with {status} and {said}; {words} {ends}")
     lines = text.decode().splitlines()
     for word in (*words, *ends):
         if not any(line.startswith(f"  {word} ") for line in lines):
-            raise Wrong(f"{program} --help has no line for {word}")
+            raise Fault(f"{program} --help has no line for {word}")
     for name in (b"keyset_status", b"keyset_notes"):
         if called(program, name, (b"--help",), input=b"rubbish") != (0, text, b""):
-            raise Wrong(f"{program} called as {name} has another help")
+            raise Fault(f"{program} called as {name} has another help")
     return text
 
 
@@ -236,7 +236,7 @@ def expect_devices(program):
                 ended = called(program, b"keyset", arguments, **how,
                                **({} if reads else {"input": given}))
                 if ended != DEVICE:
-                    raise Wrong(f"{program} {arguments}: {device}: {ended}")
+                    raise Fault(f"{program} {arguments}: {device}: {ended}")
     os.close(broken)
     os.close(folder)
     return len(ends)
@@ -246,7 +246,7 @@ def test(program):
     """Tests a program that was built in C beside the proved one. Gives a line."""
     helps = [expect_help(each) for each in (PROGRAM, program)]
     if helps[0] != helps[1]:
-        raise Wrong("the program in C has another help")
+        raise Fault("the program in C has another help")
     counts = [(expect_rows(each), expect_devices(each)) for each in (PROGRAM, program)]
     (count, devices), _ = counts
     return (
