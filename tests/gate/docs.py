@@ -101,13 +101,13 @@ def rendered(path, how):
 class Document:
     """A text with its blocks. `wrong` gathers what differs."""
 
-    def __init__(self, path, known, wrong):
-        self.path, self.known, self.wrong = path, known, wrong
+    def __init__(self, path, known_answers, wrong):
+        self.path, self.known_answers, self.wrong = path, known_answers, wrong
         self.name = str(path.relative_to(TOP))
         self.lines = path.read_text().splitlines()
         self.blocks = self.quoted = 0
         # The answers of the script that was shown last without them.
-        self.shown = None
+        self.shown_answers = None
 
     def fault(self, number, text):
         self.wrong.append(f"{self.name}:{number + 1}: {text}")
@@ -152,9 +152,9 @@ class Document:
         wanted = rendered(path, how)
         if body != wanted:
             self.fault(number, f"the block differs from {path}")
-        self.shown = None
+        self.shown_answers = None
         if path.endswith(".script") and "answered" not in how:
-            self.shown = (TOP / path).with_suffix(".answers").read_text().splitlines()
+            self.shown_answers = (TOP / path).with_suffix(".answers").read_text().splitlines()
         return wanted
 
     def course(self, number, name, body):
@@ -173,12 +173,13 @@ class Document:
 
     def text(self, number, line):
         if line.startswith("#"):
-            self.shown = None
+            self.shown_answers = None
         if line.startswith(OF_ANOTHER):
             return
+        replies = self.known_answers if self.shown_answers is None else self.shown_answers
         for answer in QUOTED.findall(line):
             self.quoted += 1
-            if answer not in (self.known if self.shown is None else self.shown):
+            if answer not in replies:
                 self.fault(number, f"no example has the answer {answer!r}")
 
 

@@ -220,9 +220,9 @@ NAMES = {
 }
 
 
-def line_of(test, given):
+def line_of(test, value_of):
     """The line of a test, which takes what its parameters name."""
-    said = test(**{name: given(name) for name in signature(test).parameters})
+    said = test(**{name: value_of(name) for name in signature(test).parameters})
     return f"{NAMES.get(test, 'library')}: {said}"
 
 

@@ -23,15 +23,15 @@ class Version:
     position: int
     ttl: int
     expiration: float
-    given: list  # of pairs: the first instant, and the first one after
+    spans: list  # of pairs: the first instant, and the first one after
 
     def last(self):
         """The last instant at which a server gave it."""
-        return max((end - 1 for _, end in self.given), default=-inf)
+        return max((end - 1 for _, end in self.spans), default=-inf)
 
     def is_held(self, time):
         """Whether some cache may hold it."""
-        sinces = (min(end - 1, time) for begin, end in self.given if begin <= time)
+        sinces = (min(end - 1, time) for begin, end in self.spans if begin <= time)
         return any(time < since + (self.ttl + 1) * SECOND for since in sinces)
 
 
@@ -60,7 +60,7 @@ class Network:
         self.operator, self.world = operator, operator.world
         self.record, self.zone = operator.keyset.record, operator.zone
         self.ahead = max(operator.ahead)
-        self.made = [0, *(time + self.ahead for time in operator.made[1:])]
+        self.made_at = [0, *(time + self.ahead for time in operator.made_at[1:])]
         # The keys of the operator that had a DS once.
         self.own = frozenset(name for position in self.record for name, _ in position.ds)
         self.servers = {"ds": self.world.parent, "dnskey": self.zone, "zone": self.zone}
@@ -104,7 +104,7 @@ class Network:
         begin = max(begin, servers.asked_from)
         end = min(end, inf if servers.asked_to is None else servers.asked_to)
         if begin < end:
-            version.given.append((begin + self.ahead, end + self.ahead))
+            version.spans.append((begin + self.ahead, end + self.ahead))
 
     def version(self, kind, number, versions):
         sets, value = self.sets(kind, number), self.value(kind, number)
@@ -121,10 +121,10 @@ class Network:
         by_then = self.servers[kind].times[number] + self.ahead
         if self.value(kind, number - 1) == value:
             # (Call 1 publishes nothing: its sets are those of before, which have no call in notes.)
-            return versions[-1].position or int(self.made[1] <= by_then)
+            return versions[-1].position or int(self.made_at[1] <= by_then)
         fits = {
             n for n, position in enumerate(self.record)
-            if self.made[n] <= by_then and due(kind, position) == value
+            if self.made_at[n] <= by_then and due(kind, position) == value
         }
         notes = self.operator.notes
         by_notes = notes and notes.versions[kind][len(versions)].position
@@ -136,14 +136,14 @@ class Network:
     def shown(self, kind, time):
         """The least position whose sets a server gives at a time."""
         return min(version.position for version in self.versions[kind]
-                   for begin, end in version.given if begin <= time < end)
+                   for begin, end in version.spans if begin <= time < end)
 
     def breakpoints(self):
         """The instants at which what caches may hold changes."""
         every = [version for kind in KINDS for version in self.versions[kind]]
-        begins = {begin for version in every for begin, _ in version.given}
+        begins = {begin for version in every for begin, _ in version.spans}
         ends = {end - 1 + (version.ttl + 1) * SECOND for version in every
-                for _, end in version.given if end < inf}
+                for _, end in version.spans if end < inf}
         return sorted(time for time in begins | ends if self.start <= time < self.end)
 
     def all_reports(self):
@@ -157,23 +157,23 @@ class Network:
 
     def reports(self, time):
         """Those of them that were made by this time."""
-        return [report for report in self.ever_reported if self.made[report.at] <= time]
+        return [report for report in self.ever_reported if self.made_at[report.at] <= time]
 
     # The premises. Each gives the faults up to a time.
 
     def is_published(self, position, time):
-        return self.first <= position < len(self.record) and self.made[position] <= time
+        return self.first <= position < len(self.record) and self.made_at[position] <= time
 
     def is_network(self, time):
         """`IsNetworkOf`"""
-        if sorted(self.made) != self.made:
+        if sorted(self.made_at) != self.made_at:
             yield "calls aren't in order"
         for kind in KINDS:
             for version in self.held(kind, self.start):
                 if not self.is_published(version.position, self.start):
                     yield f"{kind}: held at the start, and not published"
             for version in self.versions[kind]:
-                for begin, end in version.given:
+                for begin, end in version.spans:
                     at = max(begin, self.start)
                     if at < min(end, time + 1) and not self.is_published(version.position, at):
                         yield f"{kind}: given at {at}, and not published"
@@ -188,8 +188,8 @@ class Network:
     def none_lies_ahead(self, time):
         """`NoneLiesAhead`"""
         for n, position in enumerate(self.record):
-            if position.moment is not None and self.made[n] <= time:
-                if position.moment * SECOND > self.made[n]:
+            if position.moment is not None and self.made_at[n] <= time:
+                if position.moment * SECOND > self.made_at[n]:
                     yield f"moment {position.moment} lies ahead"
 
     def none_goes_back(self, time):
@@ -197,7 +197,7 @@ class Network:
         for report in self.reports(time):
             for kind, came in report.came.items():
                 given = [version for version in self.versions[kind]
-                         if any(begin <= time for begin, _ in version.given)]
+                         if any(begin <= time for begin, _ in version.spans)]
                 later = [version.position >= came for version in given]
                 if sorted(later) != later:
                     yield f"{kind}: a version goes back over what report {report.at} speaks of"
@@ -219,11 +219,11 @@ class Network:
             version = self.versions[kind][newest[kind]]
             later = self.versions[kind][newest[kind]:]
             if word == "published":
-                first = min((begin for each in later for begin, _ in each.given), default=inf)
+                first = min((begin for each in later for begin, _ in each.spans), default=inf)
                 if (version.position, version.ttl) != tuple(of) or first < moment * SECOND:
                     yield f"{kind}: published at {moment} is false"
             elif any(begin <= moment * SECOND < end
-                     for each in self.versions[kind][: newest[kind]] for begin, end in each.given):
+                     for each in self.versions[kind][: newest[kind]] for begin, end in each.spans):
                 yield f"{kind}: everywhere at {moment} is false"
         asked = {(each.call, each.roll, each.moment): each.due
                  for each in self.operator.notes.questions}

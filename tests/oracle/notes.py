@@ -23,10 +23,10 @@ class ReportQuestion(NamedTuple):
 
 
 class NotedVersion:
-    """A version of a kind of sets. `left` is when all servers were seen to give a later one."""
+    """A version of a kind of sets. All servers were seen to give a later one at `left_at`."""
 
     def __init__(self, position, ttl, sets):
-        self.position, self.ttl, self.sets, self.left = position, ttl, sets, None
+        self.position, self.ttl, self.sets, self.left_at = position, ttl, sets, None
 
 
 class GameNotes:
@@ -97,7 +97,7 @@ class GameNotes:
     def note_sight(self, kind):
         self.waits[kind], moment = None, self.up()
         for version in self.versions[kind][:-1]:
-            version.left = moment if version.left is None else version.left
+            version.left_at = moment if version.left_at is None else version.left_at
         self.lines.append(f"everywhere {kind} {moment}")
 
     def goes_back(self):
@@ -135,16 +135,16 @@ class GameNotes:
         """The TTL of a report, or None if it is not due yet."""
         ttl = 0
         for came, newest, older in self.older(roll, second):
-            if newest.position < came or any(version.left is None for version in older):
+            if newest.position < came or any(version.left_at is None for version in older):
                 return None
-            ttl = max([ttl, *(version.left + version.ttl + 1 - moment for version in older)])
+            ttl = max([ttl, *(version.left_at + version.ttl + 1 - moment for version in older)])
         return ttl
 
     def is_sharp(self, roll, second):
         """Whether it was seen at once when each older set had left the servers."""
         gone = self.operator.gone
         return all(
-            version.left - max(gone.get(rrset, 0) for rrset in version.sets) <= self.slack
+            version.left_at - max(gone.get(rrset, 0) for rrset in version.sets) <= self.slack
             for _, _, older in self.older(roll, second)
             for version in older
         )

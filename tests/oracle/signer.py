@@ -32,7 +32,7 @@ class Operator:
         self.world, self.dice, self.book, self.leaves = world, world.dice, book, leaves
         self.keyset, self.zone, self.other = KeySet(), world.another_zone(is_asked), None
         self.script = []  # the accepted lines
-        self.made = [0]  # when each position of the record was made
+        self.made_at = [0]  # when each position of the record was made
         self.may_slip = True
         self.unsigned_from = None  # when it first began to go unsigned, by a report that isn't true
         self.done = Counter()
@@ -167,12 +167,12 @@ class Operator:
         if not answer.startswith("ok"):
             raise RunbookError(f"{line}: {answer}")
         self.script.append(line)
-        self.made.append(self.world.now)
+        self.made_at.append(self.world.now)
         self.idle = 0
         return answer.split()[1:]
 
     def add(self, kind, algorithm):
-        name = f"{kind[0].upper()}{next(self.world.made)}"
+        name = f"{kind[0].upper()}{next(self.world.key_numbers)}"
         self.world.algorithms[name] = algorithm
         self.call(f"add-{kind} {name} - {algorithm} {name[1:]} {self.rounded_down()} yes")
         return name

@@ -49,7 +49,7 @@ class NoteHistory:
         self.news: dict[str, list[tuple[int, ...]]] = {kind: [] for kind in KINDS}
         self.highest = dict(self.before)
         # By kind and position: how many facts are counted, and what is known by them.
-        self.known: dict[tuple[str, int], tuple[int, Spread]] = {}
+        self.spreads: dict[tuple[str, int], tuple[int, Spread]] = {}
         for line in lines:
             self.take(line)
 
@@ -66,10 +66,10 @@ class NoteHistory:
 
     def spread(self, kind: str, base: int) -> Spread:
         news = self.news[kind]
-        done, spread = self.known.get((kind, base)) or (0, Spread(self.before[kind]))
+        done, spread = self.spreads.get((kind, base)) or (0, Spread(self.before[kind]))
         for fact in news[done:]:
             spread.take(base, *fact)
-        self.known[kind, base] = len(news), spread
+        self.spreads[kind, base] = len(news), spread
         return spread
 
     def lasting(self, kinds: Sequence[str], due: int) -> int:

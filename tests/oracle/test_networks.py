@@ -142,7 +142,7 @@ def have_ds_together(one, other, now):
 def had_since(signer, base, time):
     """The zone keys that the signer's sets have had since this position: `HasHadSince`."""
     return frozenset.intersection(*(
-        keys for keys, made in zip(signer.zone_keys[base:], signer.made[base:]) if made <= time
+        keys for keys, made in zip(signer.zone_keys[base:], signer.made_at[base:]) if made <= time
     ))
 
 
@@ -176,7 +176,7 @@ def keep_key_rules(keeper, signer, time):
                 yield f"joins: the set of {version.position} lacks a key of {base}"
     yield from stays(keeper, signer, begin, time)
     for report in reports:
-        if signer.made[report.base] > report.moment * SECOND:
+        if signer.made_at[report.base] > report.moment * SECOND:
             yield f"after: report {report.at} is of before its step"
         if begin < report.moment * SECOND:
             yield from counted(keeper, signer, report)
@@ -184,9 +184,9 @@ def keep_key_rules(keeper, signer, time):
 
 def stays(keeper, signer, begin, time):
     """The field of this name: an old key leaves only after it has left the other's own set."""
-    for position, made in enumerate(keeper.made[1:], 1):
+    for position, made in enumerate(keeper.made_at[1:], 1):
         if begin < made <= time:
-            now = max(q for q, made_by in enumerate(signer.made) if made_by <= made)
+            now = max(q for q, made_by in enumerate(signer.made_at) if made_by <= made)
             before, then = (names(keeper.record[p].dnskey) for p in (position - 1, position))
             if (before - then) & signer.zone_keys[now]:
                 yield f"stays: call {position} takes a key of the other out"
@@ -198,7 +198,7 @@ def counted(keeper, signer, report):
     for version in keeper.versions["dnskey"]:
         lasts = any(
             begin < moment and report.over() < min(end, moment) - 1 + (version.ttl + 1) * SECOND
-            for begin, end in version.given
+            for begin, end in version.spans
         )
         if lasts and lacks(keeper, version.position, signer, report.base, moment):
             yield f"counted: report {report.at} doesn't count the TTL of {version.position}"
@@ -207,8 +207,8 @@ def counted(keeper, signer, report):
 def under_way(keeper, time):
     """The positions whose DNSKEY sets servers give at a time, or have still to get."""
     least = min((version.position for version in keeper.versions["dnskey"]
-                 for begin, end in version.given if begin <= time < end), default=0)
-    return [p for p in range(least, len(keeper.record)) if keeper.made[p] <= time]
+                 for begin, end in version.spans if begin <= time < end), default=0)
+    return [p for p in range(least, len(keeper.record)) if keeper.made_at[p] <= time]
 
 
 def public_chains(keeper, signer, now):

@@ -31,11 +31,11 @@ class Rrset:
 
     def __init__(self, value, ttl, time, expires):
         self.value, self.ttl, self.time, self.expires = value, ttl, time, expires
-        self.givers, self.left, self.last = 0, None, 0
+        self.givers, self.left_at, self.last = 0, None, 0
 
     def end(self):
         """When it will have left all caches, as far as is known."""
-        return inf if self.givers else self.left + self.time
+        return inf if self.givers else self.left_at + self.time
 
 
 class Servers:
@@ -83,7 +83,7 @@ class Servers:
         for _, rrset in self.sets(number):
             rrset.givers -= 1
             if not rrset.givers:
-                rrset.left = self.world.now
+                rrset.left_at = self.world.now
 
     def name(self):
         """From now on they are asked."""
@@ -103,7 +103,7 @@ class World:
     """The zone, its parent, and what caches may hold."""
 
     def __init__(self, dice, leaves=()):
-        self.dice, self.algorithms, self.made = dice, {}, count(1)
+        self.dice, self.algorithms, self.key_numbers = dice, {}, count(1)
         self.now, self.queue, self.order = BEGIN, [], count()
         self.held, self.pairs = {"ds": [], "dnskey": [], "zone": [], "cds": []}, []
         self.is_new, self.judged, self.given_at = True, {}, BEGIN
@@ -261,6 +261,6 @@ class World:
         return " ".join(f"{label}={names}" for label, names in zip(SETS, named))
 
 
-def hides(signers, known):
+def hides(signers, known_keys):
     """Whether a resolver that looks at only two signatures may see none by a known key."""
-    return len(signers) > 2 and len(signers - known) > 1
+    return len(signers) > 2 and len(signers - known_keys) > 1

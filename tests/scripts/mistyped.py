@@ -37,12 +37,12 @@ def step_time(script: str, call: str, roll: str) -> int:
 
 def refusal(script: str, notes: list[str]) -> Optional[str]:
     """The first line of notes that is refused after this script, and why."""
-    made = times(script)
+    moments = times(script)
     published, seen = dict.fromkeys(KINDS, 0), dict.fromkeys(KINDS, 0)
     for number, (word, kind, *fields) in enumerate(map(str.split, notes[1:]), start=2):
         moment = int(fields[-1])
         if word == "published":
-            cause = _of_version(made, int(fields[0]), moment, published[kind])
+            cause = _of_version(moments, int(fields[0]), moment, published[kind])
             published[kind] = moment
         else:
             cause = _of_sight(moment, published[kind], seen[kind])
@@ -52,10 +52,10 @@ def refusal(script: str, notes: list[str]) -> Optional[str]:
     return None
 
 
-def _of_version(made: list[int], call: int, moment: int, last: int) -> Optional[str]:
-    if not 0 < call <= len(made):
+def _of_version(moments: list[int], call: int, moment: int, last: int) -> Optional[str]:
+    if not 0 < call <= len(moments):
         return "no such call yet"
-    if moment < made[call - 1]:
+    if moment < moments[call - 1]:
         return "published before its call"
     return FALLS if moment < last else None
 

@@ -130,7 +130,7 @@ class NextOperator(Operator):
         super().__init__(world, {})
         self.ahead, self.margin, world.takes_cds = [0], 0, False
         self.lines_read, self.given_ds, self.last = 0, None, ("", 0)
-        self.asked, self.lasts, self.history = Counter(), {}, NoteHistory()
+        self.counts, self.lasts, self.history = Counter(), {}, NoteHistory()
         self.notes = UntrueNotes(self, lie) if lie else TrueNotes(self, reports=False)
 
     def is_due(self, rrset) -> bool:
@@ -160,7 +160,7 @@ class NextOperator(Operator):
         return said
 
     def program_says(self, now: int) -> str:
-        self.asked["asked"] += 1
+        self.counts["asked"] += 1
         script = ["zone example.com", *self.script]
         return run("next", [*self.text, "", *script, "", *self.notes.lines, f"next {now}"])
 
@@ -184,13 +184,13 @@ class NextOperator(Operator):
             said = self.program_says(self.rounded_down())
             if said != f"refused: policy: {fault.text}":
                 raise WrongAnswer(f"{said}, and by the definition: {fault.text}")
-            self.asked["refused"] += 1
+            self.counts["refused"] += 1
             self.policy.renewals[fault.role].lifetime = fault.takes + self.dice.randint(0, 100)
             self.text = in_some_order(self.dice, self.policy)
 
-    def obey(self, said: str) -> Iterator[None]:
-        word, *fields = said.split()
-        self.asked[word] += 1
+    def obey(self, line: str) -> Iterator[None]:
+        word, *fields = line.split()
+        self.counts[word] += 1
         if word == "publish":
             yield from self.publishes(fields[0])
         elif word == "watch":
@@ -200,12 +200,12 @@ class NextOperator(Operator):
         elif word == "until":
             yield from self.sleeps(int(fields[0]))
         elif word in (*CALLS, "delete"):
-            self.makes(said)
-        elif said == AT_REST:
+            self.makes(line)
+        elif line == AT_REST:
             self.another_policy()
             yield from self.lets_a_second_pass()
         else:
-            raise WrongAnswer(said)
+            raise WrongAnswer(line)
 
     def makes(self, line: str) -> None:
         """Makes the call, which has to be accepted."""
@@ -259,7 +259,7 @@ class ZoneResult:
     """What came of a zone, and by which fault it ended, if by one."""
 
     done: Counter
-    asked: Counter
+    counts: Counter
     instants: int
     choices: int
     fault: str = ""
@@ -279,7 +279,7 @@ def play(zone: int, lie: Optional[str] = None) -> ZoneResult:
         fault = str(end)
     except WrongAnswer as wrong:
         raise WrongAnswer(f"zone {zone}, {one.policy}: {wrong}") from wrong
-    return ZoneResult(one.done, one.asked, world.instants, world.choices, fault)
+    return ZoneResult(one.done, one.counts, world.instants, world.choices, fault)
 
 
 def results(zones: range, jobs: int) -> Iterator[ZoneResult]:
@@ -297,7 +297,7 @@ def follow(zones: range, jobs: int, wrong: list[str]) -> str:
     for one in results(zones, jobs):
         count += 1
         total.done += one.done
-        total.asked += one.asked
+        total.counts += one.counts
         total.instants += one.instants
         total.choices += one.choices
         if one.fault:
@@ -308,7 +308,7 @@ def follow(zones: range, jobs: int, wrong: list[str]) -> str:
             print(f"automatic, so far: {so_far}", file=sys.stderr, flush=True)
     if missing := [roll for roll in ROLLS if not total.done[roll]]:
         wrong.append(f"automatic: never played: {' '.join(missing)}")
-    asked = ", ".join(f"{number} {word}" for word, number in sorted(total.asked.items()))
+    asked = ", ".join(f"{number} {word}" for word, number in sorted(total.counts.items()))
     return (
         f"{count} zones, {sum(total.done.values())} rolls by what a policy says ({asked}): at "
         f"{total.instants} instants {total.choices} choices of sets are as promised"

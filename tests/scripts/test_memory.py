@@ -38,7 +38,7 @@ WORKS = {
 # Each work begins with one whose requests don't fail: a record, or only its input.
 BEGINNINGS = {NAMES: INPUT, RECORD: INPUT}
 
-MADE = re.compile(r"(?P<said>.*)requests: (?P<made>\d+)\n", re.DOTALL)
+END = re.compile(r"(?P<errors>.*)requests: (?P<requests>\d+)\n", re.DOTALL)
 
 # A script with a roll that waits for its first reports, and notes.
 BEGUN = """\
@@ -68,10 +68,10 @@ LACKED = re.compile(r"((script|notes): )?out of memory\n")
 class Outcome:
     """What the program wrote and said, how it ended, and how many requests it made."""
 
-    written: str
-    said: str
+    output: str
+    errors: str
     status: int
-    made: int
+    requests: int
 
 
 @pytest.fixture(scope="module")
@@ -92,12 +92,12 @@ def failed(counts, say):
 def outcome_of(allocator, command, text, failing):
     """The outcome of a program on this input if its request of this number fails. None does if it
     is 0."""
-    made = {**os.environ, "LD_PRELOAD": str(allocator), "FAILING_REQUEST": str(failing)}
-    ran = subprocess.run(command, input=text, capture_output=True, text=True, env=made)
-    found = MADE.fullmatch(ran.stderr)
+    variables = {**os.environ, "LD_PRELOAD": str(allocator), "FAILING_REQUEST": str(failing)}
+    ran = subprocess.run(command, input=text, capture_output=True, text=True, env=variables)
+    found = END.fullmatch(ran.stderr)
     if not found:
         raise Fault(f"{command}: request {failing}: status {ran.returncode}\n{ran.stderr}")
-    return Outcome(ran.stdout, found["said"], ran.returncode, int(found["made"]))
+    return Outcome(ran.stdout, found["errors"], ran.returncode, int(found["requests"]))
 
 
 def in_turn(allocator, callers, letter, script):
@@ -108,7 +108,7 @@ def in_turn(allocator, callers, letter, script):
     refused = 0
     for failing in made:
         outcome = outcome_of(allocator, [callers], letter + script, failing)
-        if outcome.made < failing:
+        if outcome.requests < failing:
             raise Fault(f"{work}: request {failing} was not made: {outcome}")
         refused += is_refused(f"{work}: request {failing}", outcome)
     if letter == DEFINITION and made:
@@ -123,17 +123,17 @@ def in_turn(allocator, callers, letter, script):
 def with_ample(allocator, callers, letter, script):
     """How many requests a work makes if none fails."""
     outcome = outcome_of(allocator, [callers], letter + script, 0)
-    if outcome.status or outcome.said or outcome.written != "ample\n":
+    if outcome.status or outcome.errors or outcome.output != "ample\n":
         raise Fault(f"{letter}: it doesn't go well with ample memory: {outcome}")
-    return outcome.made
+    return outcome.requests
 
 
 def is_refused(where, outcome):
     """Whether the program says that a call was refused. It checks by itself that the call is
     accepted when it is made again."""
-    if outcome.status or outcome.said or outcome.written not in ("ample\n", "refused\n"):
+    if outcome.status or outcome.errors or outcome.output not in ("ample\n", "refused\n"):
         raise Fault(f"{where}: {outcome}")
-    return outcome.written == "refused\n"
+    return outcome.output == "refused\n"
 
 
 def in_turn_of_program(allocator, command, text):
@@ -142,22 +142,22 @@ def in_turn_of_program(allocator, command, text):
     failed."""
     name = " ".join([PROGRAM.name, *command[1:]])
     ample = outcome_of(allocator, command, text, 0)
-    if ample.status or ample.said or not ample.written or not ample.made:
+    if ample.status or ample.errors or not ample.output or not ample.requests:
         raise Fault(f"{name}: it doesn't go well with ample memory: {ample}")
-    for failing in range(1, ample.made + 1):
+    for failing in range(1, ample.requests + 1):
         outcome = outcome_of(allocator, command, text, failing)
-        is_refused = outcome.status == 3 and not outcome.written and LACKED.fullmatch(outcome.said)
-        is_ample = (outcome.status, outcome.written, outcome.said) == (0, ample.written, "")
+        is_refused = outcome.status == 3 and not outcome.output and LACKED.fullmatch(outcome.errors)
+        is_ample = (outcome.status, outcome.output, outcome.errors) == (0, ample.output, "")
         is_of_call = len(command) == 1 and refuses_call(outcome, ample)
         if not (is_refused or is_ample or is_of_call):
             raise Fault(f"{name}: request {failing}: {outcome}")
-    return ample.made
+    return ample.requests
 
 
 def refuses_call(outcome, ample):
     """Whether the program answers each call, and refuses one for lack of memory."""
-    lines, wanted = outcome.written.splitlines(), ample.written.splitlines()
-    is_answered = (outcome.status, outcome.said, len(lines)) == (0, "", len(wanted))
+    lines, wanted = outcome.output.splitlines(), ample.output.splitlines()
+    is_answered = (outcome.status, outcome.errors, len(lines)) == (0, "", len(wanted))
     return is_answered and lines.count(OUT_OF_MEMORY) == 1
 
 
@@ -176,22 +176,23 @@ def test_work(name, letter, allocator, callers, failed):
     failed["calls"] += in_turn(allocator, callers, letter, stored_script(name))
 
 
-@pytest.mark.parametrize("asked", ASKED.items(), ids=["answers", "status", "notes"])
-def test_program(asked, allocator, program, failed):
-    failed["program"] += in_turn_of_program(allocator, *asked)
+@pytest.mark.parametrize("question", ASKED.items(), ids=["answers", "status", "notes"])
+def test_program(question, allocator, program, failed):
+    failed["program"] += in_turn_of_program(allocator, *question)
 
 
 @pytest.mark.parametrize("word", UNREAD)
 def test_nothing_read(word, allocator, program):
     """The program makes no request if it reads nothing."""
-    assert outcome_of(allocator, [program, word], "", 0).made == 0
+    assert outcome_of(allocator, [program, word], "", 0).requests == 0
 
 
 def test_further_question(allocator, program):
     """A further question makes as many requests for memory after a long script as after a short
     one."""
     made = [
-        [outcome_of(allocator, NOTES, script + NOTED + more, 0).made for more in ("", "due 91\n")]
+        [outcome_of(allocator, NOTES, script + NOTED + more, 0).requests
+         for more in ("", "due 91\n")]
         for script in (BEGUN, BEGUN + ADDS)
     ]
     (short, short_more), (long, long_more) = made

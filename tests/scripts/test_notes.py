@@ -33,7 +33,7 @@ def orders():
 
 
 @pytest.fixture(scope="module")
-def played(orders):
+def game(orders):
     """The questions of all operators, how often a version went back to an earlier call, and what
     went wrong."""
     wrong = []
@@ -41,8 +41,8 @@ def played(orders):
 
 
 @pytest.fixture(scope="module")
-def questions(played):
-    return played[0]
+def questions(game):
+    return game[0]
 
 
 def broken_by_less(orders):
@@ -73,9 +73,9 @@ def expect_none(faults):
         pytest.fail("\n".join(found[:20]), pytrace=False)
 
 
-def test_zones(orders, played, say):
+def test_zones(orders, game, say):
     """No zone breaks by reports that notes say."""
-    questions, back, wrong = played
+    questions, back, wrong = game
     expect_none(wrong)
     say(f"notes: {len(orders)} zones, {len(questions)} answers; {back} times a parent went back,"
         " over no step")

@@ -119,15 +119,15 @@ NAMES = {
 
 
 @dataclass(frozen=True)
-class Row:
+class Invocation:
     """What the program is asked, and how it has to end. A name of None: it is given no arguments at
     all, not even its name."""
 
     arguments: tuple
-    given: bytes
+    input: bytes
     status: int
-    written: bytes
-    said: bytes
+    output: bytes
+    errors: bytes
     name: Optional[bytes] = b"keyset"
 
 
@@ -136,30 +136,30 @@ def runner_of(program):
     return [] if program == PROGRAM else RUNNER
 
 
-def rows(program) -> Iterator[Row]:
+def rows(program) -> Iterator[Invocation]:
     for arguments, (given, written) in WORDS.items():
-        yield Row(arguments, given, 0, written, b"")
+        yield Invocation(arguments, given, 0, written, b"")
     for arguments, said in REFUSED.items():
-        yield Row(arguments, SCRIPT, USAGE, b"", said)
+        yield Invocation(arguments, SCRIPT, USAGE, b"", said)
     for name, words in NAMES.items():
         given, written = WORDS[words]
-        yield Row((), given, 0, written, b"", name)
+        yield Invocation((), given, 0, written, b"", name)
         # Under each name it says its version. A name that is a word takes no other.
-        yield Row((b"--version",), b"", 0, VERSION, b"", name)
-        yield Row((b"none",), given, USAGE, b"", NO_SUCH, name)
+        yield Invocation((b"--version",), b"", 0, VERSION, b"", name)
+        yield Invocation((b"none",), given, USAGE, b"", NO_SUCH, name)
         if words:
-            yield Row((b"status",), given, USAGE, b"", MORE, name)
-            yield Row((b"--version", b"notes"), given, USAGE, b"", MORE, name)
+            yield Invocation((b"status",), given, USAGE, b"", MORE, name)
+            yield Invocation((b"--version", b"notes"), given, USAGE, b"", MORE, name)
     if not runner_of(program):
-        yield Row((), SCRIPT, 0, ANSWERS, b"", None)
+        yield Invocation((), SCRIPT, 0, ANSWERS, b"", None)
     # Notes with a fault are no script, and a script is no notes.
-    yield Row((b"notes",), SCRIPT, 1, b"", b"notes: line 1: malformed\n")
-    yield Row((b"status",), NOTES, 1, b"", b"line 12: malformed\n")
-    yield Row((b"status",), b"", 1, b"", b"line 1: malformed\n")
+    yield Invocation((b"notes",), SCRIPT, 1, b"", b"notes: line 1: malformed\n")
+    yield Invocation((b"status",), NOTES, 1, b"", b"line 12: malformed\n")
+    yield Invocation((b"status",), b"", 1, b"", b"line 1: malformed\n")
     for text, line in SAID.items():
-        yield Row((b"next",), text.encode(), 0, f"{line}\n".encode(), b"")
+        yield Invocation((b"next",), text.encode(), 0, f"{line}\n".encode(), b"")
     for text, fault in UNSAID.items():
-        yield Row((b"next",), text.encode(), 1, b"", f"{fault}\n".encode())
+        yield Invocation((b"next",), text.encode(), 1, b"", f"{fault}\n".encode())
 
 
 def without_arguments(program):
@@ -184,8 +184,8 @@ def expect_rows(program):
     """The program keeps each row. Gives how many there are."""
     count = 0
     for row in rows(program):
-        ended = called(program, row.name, row.arguments, input=row.given)
-        if ended != (row.status, row.written, row.said):
+        ended = called(program, row.name, row.arguments, input=row.input)
+        if ended != (row.status, row.output, row.errors):
             asked = f"{row.name and row.name[:50]!r} {[word[:50] for word in row.arguments]}"
             raise Fault(f"{program} called as {asked} ends with {ended}, and not as {row}")
         count += 1
