@@ -71,7 +71,7 @@ impl<'a> Source for ByteSource<'a> {
 /// Takes bytes, until a call fails.
 #[derive(Drop)]
 struct ByteSink {
-    taken: Vec<u8>,
+    bytes: Vec<u8>,
     /// How many bytes a call takes at most. 0 counts as 1.
     most: usize,
     /// How many calls are served before they fail.
@@ -90,7 +90,7 @@ impl Sink for ByteSink {
             return Err(DeviceFault);
         };
         let count = buf.len().min(self.most.max(1));
-        if self.taken.extend_from_slice(&buf[..count]).is_err() {
+        if self.bytes.extend_from_slice(&buf[..count]).is_err() {
             self.faults += 1;
             return Err(DeviceFault);
         }
@@ -133,13 +133,13 @@ fn follow(alloc: Global, script: &[u8], devices: Devices) -> (Result<(), ScriptF
         faults: 0,
     };
     let mut output = ByteSink {
-        taken: Vec::new(alloc),
+        bytes: Vec::new(alloc),
         most: devices.most_written,
         served: devices.writes,
         faults: 0,
     };
     let result = run_script(alloc, &mut input, &mut output);
-    (result, output.taken)
+    (result, output.bytes)
 }
 
 /// Scripts, the devices that serve them, how a run ends, and what is written. What was read before

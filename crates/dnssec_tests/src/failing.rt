@@ -69,7 +69,7 @@ impl<'a> Read for FailingReader<'a> {
 /// Takes bytes one by one. One call fails and takes none; the next one goes on.
 #[derive(Drop)]
 struct FailingWriter {
-    taken: Vec<u8>,
+    bytes: Vec<u8>,
     calls: DeviceCalls,
 }
 
@@ -77,7 +77,7 @@ impl Write for FailingWriter {
     fn write(&mut self, buf: &[u8]) -> io::Result<usize> {
         self.calls.make()?;
         let count = buf.len().min(1);
-        self.taken.extend_from_slice(&buf[..count])?;
+        self.bytes.extend_from_slice(&buf[..count])?;
         Ok(count)
     }
 
@@ -100,13 +100,13 @@ fn ends(
         calls: reads,
     });
     let mut output = Std::new(FailingWriter {
-        taken: Vec::new(alloc),
+        bytes: Vec::new(alloc),
         calls: writes,
     });
     let answer = run_script(alloc, &mut input, &mut output);
     answer == *ended
         && [input.faults(), output.faults()] == faults
-        && output.into_inner().taken.as_slice() == written.as_bytes()
+        && output.into_inner().bytes.as_slice() == written.as_bytes()
 }
 
 /// Each read of a script fails once, also that of its end. It is one fault, and nothing is written.
@@ -172,7 +172,7 @@ fn a_reader_goes_on_after_its_fault(rt: HostRuntime) {
 #[test]
 fn a_writer_goes_on_after_its_fault(rt: HostRuntime) {
     let mut output = Std::new(FailingWriter {
-        taken: Vec::new(rt.alloc()),
+        bytes: Vec::new(rt.alloc()),
         calls: DeviceCalls::failing(2, ErrorKind::Other),
     });
     for (answer, faults) in [(Ok(1), 0), (Err(DeviceFault), 1), (Ok(1), 1)] {
@@ -180,5 +180,5 @@ fn a_writer_goes_on_after_its_fault(rt: HostRuntime) {
         assert_eq!(rt; output.write(b"ok"), answer);
         assert_eq!(rt; output.faults(), faults);
     }
-    assert_eq!(rt; output.into_inner().taken.as_slice(), b"oo".as_slice());
+    assert_eq!(rt; output.into_inner().bytes.as_slice(), b"oo".as_slice());
 }

@@ -88,12 +88,12 @@ const FAULTS_OF_NOTES: &[(NoteFault, &str)] = &[
 /// What a value has still to print. Whatever is written is taken, so that an error is the value's
 /// own.
 #[derive(Drop)]
-struct Wanted<'a> {
+struct ExpectedText<'a> {
     left: &'a [u8],
     is_so: bool,
 }
 
-impl<'a> fmt::Write for Wanted<'a> {
+impl<'a> fmt::Write for ExpectedText<'a> {
     fn write_str(&mut self, text: &str) -> fmt::Result {
         match self.left.strip_prefix(text.as_bytes()) {
             Some(rest) => self.left = rest,
@@ -105,7 +105,7 @@ impl<'a> fmt::Write for Wanted<'a> {
 
 /// Whether a value prints this, to a writer that takes all and to a string.
 fn prints(alloc: Global, value: &impl Display, text: &str) -> bool {
-    let mut wanted = Wanted {
+    let mut wanted = ExpectedText {
         left: text.as_bytes(),
         is_so: true,
     };
