@@ -72,7 +72,7 @@ static void expect_opened_again(struct keyset_session *session)
     expect(open_line(session, "zone .", 6) == KEYSET_ANSWERED, "opened again", "closed");
     expect_answer(keyset_told, session, "", "opened again");
     expect_answer(keyset_closing, session, "ds=- dnskey=- signers=- zone=-\nchain safe\n",
-                "opened again");
+                  "opened again");
     close_session(session);
 }
 

@@ -90,7 +90,7 @@ static char *answer_of(question asked, struct keyset_session *session)
 }
 
 static void expect_answer(question asked, struct keyset_session *session, const char *wanted,
-                        const char *name)
+                          const char *name)
 {
     char *text = answer_of(asked, session);
     expect(strcmp(text, wanted) == 0, "the same answer", name);
