@@ -11,8 +11,8 @@ CRATES = TOP / "crates"
 PROGRAM = CRATES / "keyset" / "out" / "keyset"
 STATUS, NOTES = (PROGRAM, "status"), (PROGRAM, "notes")
 # A script with its notes and questions, and what is answered; a script and its status.
-NOTED = [TOP / "examples" / f"lowered-ttl.{name}" for name in ("notes", "reports")]
-SHOWN = [TOP / "examples" / f"algorithm-roll.{name}" for name in ("script", "json")]
+NOTES_EXAMPLE = [TOP / "examples" / f"lowered-ttl.{name}" for name in ("notes", "reports")]
+STATUS_EXAMPLE = [TOP / "examples" / f"algorithm-roll.{name}" for name in ("script", "json")]
 
 # The compiler of C, and what its programs run under: for another architecture than this one.
 CC = os.environ.get("CC", "cc")

@@ -17,7 +17,7 @@
 #include <pthread.h>
 
 #define THREADS 4
-#define ASKED 4000
+#define ROUNDS 4000
 #define ROOM (1 << 16)
 #define LATE "18446744073709551615"
 #define BEFORE "before 60 60 60"
@@ -230,7 +230,7 @@ static void *ask_beside(void *own)
     const struct asker *asker = own;
     struct keyset_session copy = {0};
     requests.failing = 0;
-    for (size_t i = 0; i < ASKED / step; i++) {
+    for (size_t i = 0; i < ROUNDS / step; i++) {
         expect_same(asker->session, asker->answers, asker->answers->last, "beside other threads");
         expect(keyset_copy(asker->session, &copy) == KEYSET_ANSWERED, "a copy", "in a thread");
         keyset_close(&copy);

@@ -20,7 +20,9 @@ from pathlib import Path
 
 from artefact import X86_64, Built
 from tarballs import pack_built
-from tests.gate.tools import CRATES, NOTED, SHOWN, STRICT, TOP, Fault, run, status_of
+from tests.gate.tools import (
+    CRATES, NOTES_EXAMPLE, STATUS_EXAMPLE, STRICT, TOP, Fault, run, status_of,
+)
 from tests.library import mishaps
 
 INSTALL = TOP / "packaging" / "install.py"
@@ -29,7 +31,7 @@ EXAMPLE = TOP / "examples" / "ksk-roll.script"
 ANSWERS = EXAMPLE.with_suffix(".answers").read_text()
 PAGES = ("keyset", "keyset_notes", "keyset_status", "vaqsider")
 # The links to the program, with what they read and write.
-LINKS = {"keyset_notes": NOTED, "keyset_status": SHOWN}
+LINKS = {"keyset_notes": NOTES_EXAMPLE, "keyset_status": STATUS_EXAMPLE}
 LIST = "share/vaqsider/installed"
 
 # The commands of roff that a page may have, and what a backslash may begin in its text.
@@ -68,8 +70,8 @@ def expect(is_so, fault):
 
 def apart(prefix, libraries="lib", **more):
     """An environment in which only `pkg-config` finds what is installed."""
-    found = {"PATH": os.environ["PATH"], "PKG_CONFIG_PATH": f"{prefix}/{libraries}/pkgconfig"}
-    return {**found, "PYTHONDONTWRITEBYTECODE": "1", **more}
+    paths = {"PATH": os.environ["PATH"], "PKG_CONFIG_PATH": f"{prefix}/{libraries}/pkgconfig"}
+    return {**paths, "PYTHONDONTWRITEBYTECODE": "1", **more}
 
 
 def build_in_c(prefix, program, libraries="lib"):
@@ -237,11 +239,11 @@ def expect_older(prefix, library):
 def expect_tarball(room, library, whole):
     """The tarball of a release installs the same files by `install.sh`, over older ones too, and
     removes them. It has the same bytes when it is made again. Gives the path of the script."""
-    made = [room / "dist" / name for name in ("one", "two")]
-    for folder in made:
+    folders = [room / "dist" / name for name in ("one", "two")]
+    for folder in folders:
         folder.mkdir(parents=True)
         pack_built(folder, Built(X86_64, library, CRATES))
-    (first,), (second,) = (list(folder.iterdir()) for folder in made)
+    (first,), (second,) = (list(folder.iterdir()) for folder in folders)
     expect(first.read_bytes() == second.read_bytes(), f"{first.name} has other bytes each time")
     run("tar", "-xzf", first, "-C", room)
     script, prefix = room / first.name.removesuffix(".tar.gz") / "install.sh", room / "by tarball"

@@ -19,7 +19,7 @@ from inspect import signature
 from pathlib import Path
 
 from tests.gate.tools import (
-    C99, CC, EVERY, NOTED, RUNNER, STORED, STRICT, TOP, WRAPPED, Fault, c_flags, kit, run,
+    C99, CC, EVERY, NOTES_EXAMPLE, RUNNER, STORED, STRICT, TOP, WRAPPED, Fault, c_flags, kit, run,
     stored_scripts,
 )
 from tests.library import install, programs, rust, session_notes
@@ -79,7 +79,7 @@ def test_accepted(folder, room):
 
 
 def test_notes(folder, room):
-    return run(session_notes.build(folder, room / "notes"), *NOTED).strip()
+    return run(session_notes.build(folder, room / "notes"), *NOTES_EXAMPLE).strip()
 
 
 def test_policies(folder, room):
@@ -97,7 +97,8 @@ def under_valgrind(folder, room):
     names = "sessions", "accepted"
     tests = library, *(build_sessions(folder, room / name, "-g") for name in names)
     outputs = [run(*before, test_of, STORED, STEP) for test_of in tests]
-    outputs.append(run(*before, session_notes.build(folder, room / "notes", "-g"), *NOTED, STEP))
+    notes = session_notes.build(folder, room / "notes", "-g")
+    outputs.append(run(*before, notes, *NOTES_EXAMPLE, STEP))
     outputs.append(run(*before, build_sessions(folder, room / "policies", "-g"), STEP))
     return "".join(outputs).strip()
 
@@ -114,7 +115,7 @@ def under_asan(folder, room):
         text = f"{fault}\nthe C compiler wants its runtime libraries of {flags[1]} here"
         raise Fault(text) from None
     outputs = [run(test_of, STORED, STEP) for test_of in tests]
-    return "".join([*outputs, run(notes, *NOTED, STEP), run(policies, STEP)]).strip()
+    return "".join([*outputs, run(notes, *NOTES_EXAMPLE, STEP), run(policies, STEP)]).strip()
 
 
 def elsewhere(folder, room):
@@ -125,7 +126,7 @@ def elsewhere(folder, room):
              *(build_sessions(folder, room / name) for name in names)]
     outputs = [run(*RUNNER, test_of, STORED, STEP) for test_of in tests]
     notes = session_notes.build(folder, room / "notes")
-    outputs.append(run(*RUNNER, notes, *NOTED, STEP))
+    outputs.append(run(*RUNNER, notes, *NOTES_EXAMPLE, STEP))
     outputs.append(run(*RUNNER, build_sessions(folder, room / "policies"), STEP))
     for caller, flags in (("C", c_flags(folder)), ("C by the shared object", shared_flags(folder))):
         outputs.append(expect_c_rolls(room, caller, flags) + "\n")
@@ -175,8 +176,8 @@ def test_c_caller_by_shared_object(folder, room):
 
 def shared_flags(folder):
     """The flags that `pkg-config` has for the shared object, and where a program finds that."""
-    made = {**os.environ, "PKG_CONFIG_PATH": str(folder / "lib" / "pkgconfig")}
-    flags = run("pkg-config", "--cflags", "--libs", "keyset", env=made)
+    variables = {**os.environ, "PKG_CONFIG_PATH": str(folder / "lib" / "pkgconfig")}
+    flags = run("pkg-config", "--cflags", "--libs", "keyset", env=variables)
     return [*flags.split(), f"-Wl,-rpath,{folder}/lib"]
 
 
@@ -186,10 +187,11 @@ def test_rust_caller(folder, room):
 
 
 def test_python_caller(folder):
-    made = {**os.environ, "KEYSET_LIBRARY": str(folder / "lib" / "libkeyset.so")}
+    variables = {**os.environ, "KEYSET_LIBRARY": str(folder / "lib" / "libkeyset.so")}
     for path in sorted((LIBRARY / "python").glob("test_*.py")):
-        run(sys.executable, "-B", path, env=made)
-    return expect_rolls("Python", [sys.executable, "-B", LIBRARY / "python" / "roll.py"], env=made)
+        run(sys.executable, "-B", path, env=variables)
+    command = [sys.executable, "-B", LIBRARY / "python" / "roll.py"]
+    return expect_rolls("Python", command, env=variables)
 
 
 def test_program_in_c(program):

@@ -4,17 +4,19 @@ for."""
 
 import subprocess
 
-from tests.gate.tools import C99, CC, NOTED, PROGRAM, RUNNER, STRICT, TOP, Fault, c_flags, run
+from tests.gate.tools import (
+    C99, CC, NOTES_EXAMPLE, PROGRAM, RUNNER, STRICT, TOP, Fault, c_flags, run,
+)
 from tests.scripts import malformed, notes
 
 
 def build(folder, room):
     """Builds the program in C, and gives its path."""
-    made = room / "programs" / "keyset"
-    made.parent.mkdir(exist_ok=True)
+    program = room / "programs" / "keyset"
+    program.parent.mkdir(exist_ok=True)
     sources = sorted((TOP / "library" / "programs").glob("*.c"))
-    run(CC, *STRICT, *C99, "-o", made, *sources, *c_flags(folder))
-    return made
+    run(CC, *STRICT, *C99, "-o", program, *sources, *c_flags(folder))
+    return program
 
 
 def asked_of(stored):
@@ -28,7 +30,7 @@ def asked_of(stored):
         yield ["notes"], f"{notes.SCRIPT}\n\n{text}\ndue 9".encode()
     for text in notes.INPUTS:
         yield ["notes"], text.encode()
-    yield ["notes"], NOTED[0].read_bytes()
+    yield ["notes"], NOTES_EXAMPLE[0].read_bytes()
 
 
 def answered(command, text):

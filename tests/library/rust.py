@@ -59,11 +59,11 @@ def test_project(folder, room):
 
 def test_package(folder, room):
     """All other tests, in a package of the crate."""
-    made = environment(folder, room)
-    run("cargo", "package", *QUIET, "--allow-dirty", "--no-verify", cwd=CRATE, env=made)
+    variables = environment(folder, room)
+    run("cargo", "package", *QUIET, "--allow-dirty", "--no-verify", cwd=CRATE, env=variables)
     (package,) = (room / "rust" / "package").glob("keyset-*.crate")
     run("tar", "-xzf", package, "-C", room)
-    run("cargo", "test", *QUIET, cwd=room / package.stem, env=made)
+    run("cargo", "test", *QUIET, cwd=room / package.stem, env=variables)
     return "the package of the crate passes its tests"
 
 
@@ -85,8 +85,8 @@ def test_build(folder, room):
         of_other_version(room): "is of version 9 of the interface, and this crate wants 3",
     }
     for library, fault in faults.items():
-        made = {**environment(folder, room), "KEYSET_LIB": str(library)}
-        how = {"cwd": CRATE, "env": made, "capture_output": True, "text": True}
+        variables = {**environment(folder, room), "KEYSET_LIB": str(library)}
+        how = {"cwd": CRATE, "env": variables, "capture_output": True, "text": True}
         ran = subprocess.run(["cargo", "check", *QUIET], **how)
         if not ran.returncode or fault not in ran.stderr:
             raise Fault(f"a build with KEYSET_LIB={library}: {ran.stderr}")

@@ -6,7 +6,9 @@ import os
 import sys
 from pathlib import Path
 
-from tests.gate.tools import CC, C99, EVERY, NOTED, STRICT, TOP, WRAPPED, Fault, c_flags, run
+from tests.gate.tools import (
+    C99, CC, EVERY, NOTES_EXAMPLE, STRICT, TOP, WRAPPED, Fault, c_flags, run,
+)
 from tests.library import rust
 from tests.scripts import notes
 
@@ -93,14 +95,14 @@ def test_callers(folder, room, questions):
     """The three callers that say which reports are due."""
     rust.build_examples(folder, room)
     run(CC, *STRICT, *C99, "-o", room / "due", LIBRARY / "c" / "due.c", *c_flags(folder))
-    made = {**os.environ, "KEYSET_LIBRARY": str(folder / "lib" / "libkeyset.so")}
+    variables = {**os.environ, "KEYSET_LIBRARY": str(folder / "lib" / "libkeyset.so")}
     callers = {
         "C": [room / "due"],
         "Rust": [room / "rust" / "debug" / "examples" / "due"],
         "Python": [sys.executable, "-B", LIBRARY / "python" / "due.py"],
     }
-    for text in (NOTED[0].read_text(), notes.text_of(questions)):
+    for text in (NOTES_EXAMPLE[0].read_text(), notes.text_of(questions)):
         for caller, command in callers.items():
-            if run(*command, input=text.encode(), env=made) != answered(text):
+            if run(*command, input=text.encode(), env=variables) != answered(text):
                 raise Fault(f"the caller in {caller} doesn't answer as keyset notes")
     return f"the callers in {', '.join(callers)} say which reports are due as keyset notes does"

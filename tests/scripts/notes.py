@@ -46,46 +46,47 @@ ANSWERS = {
         NOT_YET,
 }
 UNTIL = "not yet: report1 algorithm-roll waits until {}"
-# What is answered to whole inputs that aren't a script, an empty line, notes and a question.
-NOTED = f"{SCRIPT}\n\nbefore 1 1 1"
-SEEN = "\n".join(f"published {kind} 3 5 7\neverywhere {kind} 8" for kind in ("dnskey", "zone"))
+# The beginning of an input, and notes of a version that all servers give.
+BEGINNING = f"{SCRIPT}\n\nbefore 1 1 1"
+SIGHTS = "\n".join(f"published {kind} 3 5 7\neverywhere {kind} 8" for kind in ("dnskey", "zone"))
 LATE = SCRIPT.removesuffix("7") + "18446744073709551615"
+# What is answered to whole inputs that aren't a script, an empty line, notes and a question.
 INPUTS = {
     "": "script: line 1: malformed",
     "zone\n\nbefore 1 1 1\ndue 9": "script: line 1: malformed",
-    f"\n{NOTED}\ndue 9": "script: line 1: malformed",
+    f"\n{BEGINNING}\ndue 9": "script: line 1: malformed",
     "\n" * 9: "script: line 1: malformed",
-    f"{NOTED}\ndue 9\n\n\nbefore 1 1 1\ndue 9": "script: line 1: malformed",
+    f"{BEGINNING}\ndue 9\n\n\nbefore 1 1 1\ndue 9": "script: line 1: malformed",
     f"{SCRIPT}\nrubbish\n\nbefore 1 1 1\ndue 9": "script: line 5: malformed",
     f"{SCRIPT}\nrubbish": "script: line 5: malformed",
     SCRIPT: "notes: line 1: malformed",
     f"{SCRIPT}\n\ndue 9": "notes: line 1: malformed",
-    NOTED: "notes: line 2: malformed",
-    f"{NOTED}\n\n{NOTED}\ndue 9": "notes: line 2: malformed",
-    f"{NOTED}\nrubbish": "notes: line 2: malformed",
-    f"{NOTED}\ndue 5x": "notes: line 2: malformed",
-    f"{NOTED}\ndue 5 ": "notes: line 2: malformed",
-    f"{NOTED}\ndue": "notes: line 2: malformed",
-    f"{NOTED}\ndue 18446744073709551616": "notes: line 2: malformed",
+    BEGINNING: "notes: line 2: malformed",
+    f"{BEGINNING}\n\n{BEGINNING}\ndue 9": "notes: line 2: malformed",
+    f"{BEGINNING}\nrubbish": "notes: line 2: malformed",
+    f"{BEGINNING}\ndue 5x": "notes: line 2: malformed",
+    f"{BEGINNING}\ndue 5 ": "notes: line 2: malformed",
+    f"{BEGINNING}\ndue": "notes: line 2: malformed",
+    f"{BEGINNING}\ndue 18446744073709551616": "notes: line 2: malformed",
     # A line is counted with the questions above it, and read after the last question too.
-    f"{NOTED}\ndue 9\ndue 9\nrubbish": "notes: line 4: malformed",
-    f"{NOTED}\ndue 9\ndue 9\npublished ds 4 5 9\ndue 9": "notes: line 4: no such call yet",
-    f"{NOTED}\ndue 9\neverywhere ds 9\neverywhere ds 8":
+    f"{BEGINNING}\ndue 9\ndue 9\nrubbish": "notes: line 4: malformed",
+    f"{BEGINNING}\ndue 9\ndue 9\npublished ds 4 5 9\ndue 9": "notes: line 4: no such call yet",
+    f"{BEGINNING}\ndue 9\neverywhere ds 9\neverywhere ds 8":
         "notes: line 4: moment before the last one",
-    f"{NOTED}\ndue 9\neverywhere ds 9": NOT_YET,
-    f"{NOTED}\ndue 9\n\n": NOT_YET,
+    f"{BEGINNING}\ndue 9\neverywhere ds 9": NOT_YET,
+    f"{BEGINNING}\ndue 9\n\n": NOT_YET,
     # An answer without a line stands before the next one too.
-    f"zone example.com\n\nbefore 1 1 1\ndue 9\n\n{NOTED}\ndue 9": f"\n{NOT_YET}",
+    f"zone example.com\n\nbefore 1 1 1\ndue 9\n\n{BEGINNING}\ndue 9": f"\n{NOT_YET}",
     # Each question is answered by the notes above it.
-    f"{NOTED}\ndue 9\npublished ds 3 1 9\npublished dnskey 3 1 9\npublished zone 3 1 9"
+    f"{BEGINNING}\ndue 9\npublished ds 3 1 9\npublished dnskey 3 1 9\npublished zone 3 1 9"
     "\neverywhere ds 9\neverywhere dnskey 9\neverywhere zone 9\ndue 9":
         f"{NOT_YET}\n\nreport1 algorithm-roll 2 9",
-    f"{NOTED}\ndue 18446744073709551615": NOT_YET,
+    f"{BEGINNING}\ndue 18446744073709551615": NOT_YET,
     # No report is before its step, whatever the notes say.
-    f"{NOTED}\ndue 7": NOT_YET,
-    f"{NOTED}\ndue 6": UNTIL.format(7),
-    f"{SCRIPT}\n\nbefore 1 1 1\n{SEEN}\ndue 0": UNTIL.format(7),
-    f"{SCRIPT}\n\nbefore 1 1 1\n{SEEN}\ndue 8": "report1 algorithm-roll 2 8",
+    f"{BEGINNING}\ndue 7": NOT_YET,
+    f"{BEGINNING}\ndue 6": UNTIL.format(7),
+    f"{SCRIPT}\n\nbefore 1 1 1\n{SIGHTS}\ndue 0": UNTIL.format(7),
+    f"{SCRIPT}\n\nbefore 1 1 1\n{SIGHTS}\ndue 8": "report1 algorithm-roll 2 8",
     # The greatest moment counts: that of a later call, also of a refused one, and not that of a
     # stamp; up to the last second of all.
     f"{SCRIPT}\nset-present K1 yes 9\n\nbefore 1 1 1\npublished ds 4 5 8\ndue 9":

@@ -41,13 +41,13 @@ BEGINNINGS = {NAMES: INPUT, RECORD: INPUT}
 END = re.compile(r"(?P<errors>.*)requests: (?P<requests>\d+)\n", re.DOTALL)
 
 # A script with a roll that waits for its first reports, and notes.
-BEGUN = """\
+ROLL_SCRIPT = """\
 zone example.com
 add-ksk K1 - 13 1 0 yes
 add-zsk Z1 - 13 2 0 yes
 start algorithm-roll - K1,Z1 0
 """
-NOTED = """
+ROLL_NOTES = """
 before 1 1 1
 published dnskey 3 5 9
 everywhere dnskey 10
@@ -55,7 +55,7 @@ due 90
 """
 ADDS = "".join(f"add-zsk A{tag} - 13 {tag} 0 yes\n" for tag in range(3, 99))
 # The program with its words, and what it is asked.
-ASKED = {(PROGRAM,): BEGUN, STATUS: BEGUN, NOTES: BEGUN + NOTED}
+INPUTS = {(PROGRAM,): ROLL_SCRIPT, STATUS: ROLL_SCRIPT, NOTES: ROLL_SCRIPT + ROLL_NOTES}
 # Words with which it reads nothing.
 UNREAD = ("--version", "--help", "none")
 # How it refuses a call for lack of memory.
@@ -76,9 +76,9 @@ class Outcome:
 
 @pytest.fixture(scope="module")
 def allocator(tmp_path_factory):
-    made = tmp_path_factory.mktemp("memory") / "memory.so"
-    run("cc", *STRICT, "-shared", "-fPIC", "-o", made, Path(__file__).with_name("memory.c"))
-    return made
+    library = tmp_path_factory.mktemp("memory") / "memory.so"
+    run("cc", *STRICT, "-shared", "-fPIC", "-o", library, Path(__file__).with_name("memory.c"))
+    return library
 
 
 @pytest.fixture(scope="module")
@@ -176,7 +176,7 @@ def test_work(name, letter, allocator, callers, failed):
     failed["calls"] += in_turn(allocator, callers, letter, stored_script(name))
 
 
-@pytest.mark.parametrize("question", ASKED.items(), ids=["answers", "status", "notes"])
+@pytest.mark.parametrize("question", INPUTS.items(), ids=["answers", "status", "notes"])
 def test_program(question, allocator, program, failed):
     failed["program"] += in_turn_of_program(allocator, *question)
 
@@ -191,9 +191,9 @@ def test_further_question(allocator, program):
     """A further question makes as many requests for memory after a long script as after a short
     one."""
     made = [
-        [outcome_of(allocator, NOTES, script + NOTED + more, 0).requests
+        [outcome_of(allocator, NOTES, script + ROLL_NOTES + more, 0).requests
          for more in ("", "due 91\n")]
-        for script in (BEGUN, BEGUN + ADDS)
+        for script in (ROLL_SCRIPT, ROLL_SCRIPT + ADDS)
     ]
     (short, short_more), (long, long_more) = made
     if short_more - short != long_more - long:

@@ -9,16 +9,16 @@ import subprocess
 from dataclasses import dataclass
 from typing import Iterator, Optional
 
-from tests.gate.tools import CRATES, NOTED, PROGRAM, RUNNER, SHOWN, TOP, Fault
+from tests.gate.tools import CRATES, NOTES_EXAMPLE, PROGRAM, RUNNER, STATUS_EXAMPLE, TOP, Fault
 
 VERSION = f"keyset {(TOP / 'VERSION').read_text().strip()}\n".encode()
-ANSWERS = SHOWN[0].with_suffix(".answers").read_bytes()
-SCRIPT, STATUS = (path.read_bytes() for path in SHOWN)
-NOTES, REPORTS = (path.read_bytes() for path in NOTED)
+ANSWERS = STATUS_EXAMPLE[0].with_suffix(".answers").read_bytes()
+SCRIPT, STATUS = (path.read_bytes() for path in STATUS_EXAMPLE)
+NOTES, REPORTS = (path.read_bytes() for path in NOTES_EXAMPLE)
 
 # A policy, a script and notes, whose last line asks.
 POLICY, ZONE, BEFORE = "policy 13 ksk-roll zsk-roll\n", "zone example.com\n", "before 60 60 60\n"
-ASKED = f"{POLICY}\n{ZONE}add-ksk K1 - 13 1 0 yes\n\n{BEFORE}next 100\n".encode()
+NEXT_INPUT = f"{POLICY}\n{ZONE}add-ksk K1 - 13 1 0 yes\n\n{BEFORE}next 100\n".encode()
 # What `next` says of other texts.
 SAID = {
     f"{POLICY}\n{ZONE}\n{BEFORE}next 100": "key ksk 13",
@@ -62,7 +62,7 @@ WORDS = {
     (): (SCRIPT, ANSWERS),
     (b"status",): (SCRIPT, STATUS),
     (b"notes",): (NOTES, REPORTS),
-    (b"next",): (ASKED, b"key zsk 13\n"),
+    (b"next",): (NEXT_INPUT, b"key zsk 13\n"),
     (b"--version",): (b"", VERSION),
 }
 # Arguments that ask for nothing. None of them is read as a word that it begins with or that is
