@@ -137,19 +137,19 @@ def runner_of(program):
 
 
 def rows(program) -> Iterator[Invocation]:
-    for arguments, (given, written) in WORDS.items():
-        yield Invocation(arguments, given, 0, written, b"")
-    for arguments, said in REFUSED.items():
-        yield Invocation(arguments, SCRIPT, USAGE, b"", said)
+    for arguments, (text, output) in WORDS.items():
+        yield Invocation(arguments, text, 0, output, b"")
+    for arguments, errors in REFUSED.items():
+        yield Invocation(arguments, SCRIPT, USAGE, b"", errors)
     for name, words in NAMES.items():
-        given, written = WORDS[words]
-        yield Invocation((), given, 0, written, b"", name)
+        text, output = WORDS[words]
+        yield Invocation((), text, 0, output, b"", name)
         # Under each name it says its version. A name that is a word takes no other.
         yield Invocation((b"--version",), b"", 0, VERSION, b"", name)
-        yield Invocation((b"none",), given, USAGE, b"", NO_SUCH, name)
+        yield Invocation((b"none",), text, USAGE, b"", NO_SUCH, name)
         if words:
-            yield Invocation((b"status",), given, USAGE, b"", MORE, name)
-            yield Invocation((b"--version", b"notes"), given, USAGE, b"", MORE, name)
+            yield Invocation((b"status",), text, USAGE, b"", MORE, name)
+            yield Invocation((b"--version", b"notes"), text, USAGE, b"", MORE, name)
     if not runner_of(program):
         yield Invocation((), SCRIPT, 0, ANSWERS, b"", None)
     # Notes with a fault are no script, and a script is no notes.
@@ -195,11 +195,11 @@ def expect_rows(program):
 def expect_help(program):
     """The help names each word and each status that the README has. It is the same under each name,
     and reads nothing."""
-    status, text, said = called(program, b"keyset", (b"--help",), stdin=subprocess.DEVNULL)
+    status, text, errors = called(program, b"keyset", (b"--help",), stdin=subprocess.DEVNULL)
     readme = (CRATES / "keyset" / "README.md").read_text()
     words, ends = WORD.findall(readme), ENDS.findall(readme)
-    if (status, said) != (0, b"") or len(words) != 5 or len(ends) != 5:
-        raise Fault(f"{program} --help ends with {status} and {said}; {words} {ends}")
+    if (status, errors) != (0, b"") or len(words) != 5 or len(ends) != 5:
+        raise Fault(f"{program} --help ends with {status} and {errors}; {words} {ends}")
     lines = text.decode().splitlines()
     for word in (*words, *ends):
         if not any(line.startswith(f"  {word} ") for line in lines):
@@ -229,12 +229,12 @@ def expect_devices(program):
             "a folder": {"stdin": folder},
         }
         for device, how in ends.items():
-            for arguments, (given, written) in {**WORDS, (b"--help",): (b"", b"")}.items():
+            for arguments, (text, _) in {**WORDS, (b"--help",): (b"", b"")}.items():
                 reads = "stdin" in how
-                if reads and not given:
+                if reads and not text:
                     continue
                 ended = called(program, b"keyset", arguments, **how,
-                               **({} if reads else {"input": given}))
+                               **({} if reads else {"input": text}))
                 if ended != DEVICE:
                     raise Fault(f"{program} {arguments}: {device}: {ended}")
     os.close(broken)
