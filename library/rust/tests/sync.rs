@@ -30,9 +30,9 @@ thread_local! {
 fn disk<T>(change: impl FnOnce(&mut Disk) -> T) -> T {
     DISK.with(|disk| {
         let mut now = disk.get();
-        let given = change(&mut now);
+        let result = change(&mut now);
         disk.set(now);
-        given
+        result
     })
 }
 
