@@ -268,12 +268,12 @@ def session_rows(bench, only, faults):
             last = []
             for count in LINES if re.search(only, name) else ():
                 text = make(count)
-                told = subprocess.run([program, call], input=text.encode(), capture_output=True,
-                                      check=True).stdout.split()
-                times = [f"{float(each) / 1000:.1f}" for each in told[1:]]
-                last.append(float(told[2]))
+                measured = subprocess.run([program, call], input=text.encode(),
+                                          capture_output=True, check=True).stdout.split()
+                times = [f"{float(each) / 1000:.1f}" for each in measured[1:]]
+                last.append(float(measured[2]))
                 lines = f"{text.count(chr(10)) - 1:,}"
-                yield [f"`keyset_{call}`: {name}", lines, f"{int(told[0]):,}", *times]
+                yield [f"`keyset_{call}`: {name}", lines, f"{int(measured[0]):,}", *times]
             if last:
                 text = f"a line takes {last[-1] / last[0]:.1f} times as long after {lines} lines"
                 faults.expect(last[-1] <= SLOWER * last[0], f"keyset_{call}: {name}", text)

@@ -184,20 +184,20 @@ def measure(program, course, keys):
             taken, answers, _ = run([program], course, keys, rounds, mode)
             least[mode] = taken if before is None else min(taken, before)
             if mode == "calls":
-                told = answers
-    told = tuple(number // rounds for number in told)
-    calls = sum(told)
+                counts = answers
+    counts = tuple(number // rounds for number in counts)
+    calls = sum(counts)
     nanos = (least["calls"] - least["idle"]) * 1e9 / (rounds * calls)
     instructions = None
     if shutil.which(COUNT[0]):
         counted = max(1, rounds // FEWER)
         instructions = count(program, course, keys, counted) / (counted * calls)
-    return told, instructions, nanos
+    return counts, instructions, nanos
 
 
-def words_of(told):
+def words_of(counts):
     """How the calls of a round are answered."""
-    named = zip(told, ("accepted", "refused"))
+    named = zip(counts, ("accepted", "refused"))
     return ", ".join(f"{number:,} {answer}" for number, answer in named if number)
 
 
@@ -217,10 +217,10 @@ def compare(programs):
     print(f"| {' | '.join(heads)} |\n|{'---|' * len(heads)}", flush=True)
     for title, course, keys in ROWS:
         measured = [measure(program, course, keys) for program in programs]
-        told = {one[0] for one in measured}
-        if len(told) != 1:
-            sys.exit(f"{title}: the original answers something else: {told}")
-        row = [title, words_of(told.pop())]
+        counts = {one[0] for one in measured}
+        if len(counts) != 1:
+            sys.exit(f"{title}: the original answers something else: {counts}")
+        row = [title, words_of(counts.pop())]
         row += cells([one[1] for one in measured]) + cells([one[2] for one in measured])
         print(f"| {' | '.join(row)} |", flush=True)
 

@@ -16,7 +16,7 @@ int main(int count, char **words)
 {
     struct rusage used;
     int status;
-    FILE *told;
+    FILE *figures;
     pid_t child;
 
     if (count < 4)
@@ -34,12 +34,12 @@ int main(int count, char **words)
         return 71;
     if (!WIFEXITED(status))
         return 70;
-    told = fopen(words[1], "w");
-    if (!told)
+    figures = fopen(words[1], "w");
+    if (!figures)
         return 70;
-    fprintf(told, "%f %ld\n",
+    fprintf(figures, "%f %ld\n",
             used.ru_utime.tv_sec + used.ru_stime.tv_sec
                 + (used.ru_utime.tv_usec + used.ru_stime.tv_usec) / 1e6,
             used.ru_maxrss);
-    return fclose(told) ? 70 : WEXITSTATUS(status);
+    return fclose(figures) ? 70 : WEXITSTATUS(status);
 }

@@ -143,10 +143,10 @@ class Bench:
     def run(self, program, given, wanted=0):
         """The processor seconds of a run, and its greatest memory in MB; both without end if it
         took too long; or None if the script has an `abort`, which the program lacks."""
-        told = self.path("told")
+        figures = self.path("figures")
         with open(given) as text, open(self.answers, "w") as written:
             status = subprocess.run(
-                [self.measure, told, str(MOST_SECONDS), program], stdin=text, stdout=written,
+                [self.measure, figures, str(MOST_SECONDS), program], stdin=text, stdout=written,
                 stderr=subprocess.DEVNULL, check=False,
             ).returncode
         if status == NO_ABORT:
@@ -155,7 +155,7 @@ class Bench:
             return math.inf, math.inf
         if status != wanted:
             sys.exit(f"{program}: status {status}")
-        with open(told) as file:
+        with open(figures) as file:
             seconds, memory = file.read().split()
         return float(seconds), int(memory) / 1024
 
@@ -178,9 +178,9 @@ class Bench:
     def outcome(self):
         """How many calls the last run accepted, and what it says of the chain."""
         with open(self.answers) as file:
-            told = file.read().splitlines()
-        accepted = sum(line == "ok" or line.startswith("ok ") for line in told)
-        return accepted, told[-1].split()[1] if told else ""
+            output = file.read().splitlines()
+        accepted = sum(line == "ok" or line.startswith("ok ") for line in output)
+        return accepted, output[-1].split()[1] if output else ""
 
     @staticmethod
     def instructions(program, given):

@@ -127,8 +127,8 @@ class Operator:
 
     async def wait(self, roll):
         """Returns the call of a roll's wait, once the wait is over."""
-        (told,) = json.loads(await self.type("status", self.script, "--json"))
-        going = next(it for it in told["rolls"] if it["roll"] == roll)
+        (zone_status,) = json.loads(await self.type("status", self.script, "--json"))
+        going = next(it for it in zone_status["rolls"] if it["roll"] == roll)
         await asyncio.sleep(max(0, going["not_before"] - time.time()))
         return f"{going['next']} {roll} now"
 

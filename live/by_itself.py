@@ -64,7 +64,7 @@ renew-before 5min"""
 # What runs the command with a clock that is wrong by so many seconds.
 WRONG = ("import sys, time; right, by = time.time, int(sys.argv.pop(1)); "
          "time.time = lambda: right() + by; from vaqsider.cli import main; sys.exit(main())")
-ON_DS = f"#!/bin/sh\nread -r told\nsleep {SLOW}\nprintf '%s\\n' \"$told\" >>told\n"
+ON_DS = f"#!/bin/sh\nread -r line\nsleep {SLOW}\nprintf '%s\\n' \"$line\" >>registrar\n"
 ON_EVENT = "#!/bin/sh\ncat >>events\n"
 
 
@@ -75,14 +75,16 @@ class Wanted:
 
     rolls: str
     lifetimes: dict
-    is_told: bool = False
+    is_by_registrar: bool = False
     signer: Optional[type] = None
     seconds: int = SECONDS
     later: tuple = ()
 
     def text(self, rolls, **places):
         lines = [rolls, *(f"{role}-lifetime {of}s" for role, of in self.lifetimes.items())]
-        parent = f"parent hook\non-ds {places['folder']}/on-ds" if self.is_told else "parent cds"
+        parent = "parent cds"
+        if self.is_by_registrar:
+            parent = f"parent hook\non-ds {places['folder']}/on-ds"
         keygen = " ".join([*KEYGEN, *(self.signer.times_of_keys if self.signer else ())])
         return POLICY.format(
             rolls="\n".join(lines), parent=parent, clock=CLOCK, keygen=keygen, **places)
@@ -106,7 +108,7 @@ WANTED = {
 
 class Unattended(Running):
     """Nobody: a timer runs ticks. The primary loads what they have written, and the parent does
-    what it reads or is told."""
+    what it reads, or what its registrar gets."""
 
     def __init__(self, zone, wanted):
         super().__init__(zone)
@@ -183,12 +185,12 @@ class Unattended(Running):
             cwd=self.folder, env=self.environment(), stdin=asyncio.subprocess.DEVNULL,
             stdout=asyncio.subprocess.PIPE, stderr=asyncio.subprocess.STDOUT,
             start_new_session=True)
-        told = asyncio.ensure_future(process.communicate())
+        ended = asyncio.ensure_future(process.communicate())
         self.counts["ticks"] += 1
         if self.dice.random() < 0.15:
-            await asyncio.wait((told,), timeout=self.dice.uniform(0.1, 3))
+            await asyncio.wait((ended,), timeout=self.dice.uniform(0.1, 3))
             self.kill(process)
-        out, _ = await told
+        out, _ = await ended
         if process.returncode >= NEEDED:
             raise Failed(f"a tick ends with {process.returncode}: {out.decode()}")
 
@@ -260,7 +262,7 @@ class Unattended(Running):
         """It looks now and then, and is at work for a while on what is new."""
         while not self.is_over():
             await asyncio.sleep(self.dice.uniform(0.5, 4))
-            wanted = self.told() if self.wanted.is_told else await self.read()
+            wanted = self.registrar_ds() if self.wanted.is_by_registrar else await self.read()
             if wanted and wanted != self.zone.ds():
                 await asyncio.sleep(self.dice.choice((0, 1, 2, 20)))
                 is_first = not self.zone.ds()
@@ -269,9 +271,9 @@ class Unattended(Running):
                 if is_first:
                     self.zone.is_secure()
 
-    def told(self):
-        """The DS set that the registrar was told last."""
-        file = self.folder / "told"
+    def registrar_ds(self):
+        """The DS set that the registrar got last."""
+        file = self.folder / "registrar"
         lines = file.read_text().splitlines() if file.exists() else []
         return {it.partition(" DS ")[2].lower() for it in json.loads(lines[-1])["ds"]} if lines \
             else set()
@@ -328,7 +330,7 @@ async def failing(world, until, dice, counts):
     while time.monotonic() < until:
         await asyncio.sleep(dice.uniform(15, 40))
         name = names[dice.choice(list(names))]
-        # (NSD would not outlive that it is told of a new version while it starts.)
+        # (NSD would not outlive a notice of a new version while it starts.)
         await (crashes(world, name) if name.startswith("knot") else stands_still(world, name))
         counts["failures of servers"] += 1
 
@@ -368,8 +370,8 @@ def scene(name):
             parts.append(failing(zone.world, operator.until, operator.dice, operator.counts))
         await side_by_side(*parts)
         await operator.check()
-        told = ", ".join(f"{count} {what}" for what, count in sorted(operator.counts.items()))
-        print(f"    {zone.name} {told}", flush=True)
+        counts = ", ".join(f"{count} {what}" for what, count in sorted(operator.counts.items()))
+        print(f"    {zone.name} {counts}", flush=True)
 
     return played
 

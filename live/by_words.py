@@ -146,7 +146,7 @@ async def words(zone):
 
 
 class Watchful(Person):
-    """Ticks run, and tell a person what needs one."""
+    """Ticks run, and say to a person what needs one."""
 
     async def begin(self, *policy):
         for name in ("on-ds", "on-event"):
@@ -164,23 +164,23 @@ class Watchful(Person):
     async def ticks(self, is_so):
         return await self.until(is_so, *self.tick, ends=(OK, DUE, WARNING))
 
-    async def is_told(self, event, says):
-        """Ticks run until the person is told of this event, with a text that says it."""
+    async def hears(self, event, says):
+        """Ticks run until the person hears of this event, with a text that says it."""
         known, since = len(self.kept("on-event")), time.time()
         await self.ticks(lambda _: len(self.kept("on-event")) > known)
-        (told,) = self.kept("on-event")[known:]
-        is_right = told.keys() == {"event", "zone", "text", "moment"} and told["event"] == event \
-            and told["zone"] == self.zone.name.rstrip(".") and says in told["text"] \
-            and since - 1 <= told["moment"] <= time.time()
-        expect(is_right, f"instead of {event}, {says}, a person is told {told}")
+        (heard,) = self.kept("on-event")[known:]
+        is_right = heard.keys() == {"event", "zone", "text", "moment"} \
+            and heard["event"] == event and heard["zone"] == self.zone.name.rstrip(".") \
+            and says in heard["text"] and since - 1 <= heard["moment"] <= time.time()
+        expect(is_right, f"instead of {event}, {says}, a person hears {heard}")
 
     async def hands_over(self):
-        """The registrar does what it was told last, and the roll that waits for it goes on."""
+        """The registrar does what it got last, and the roll that waits for it goes on."""
         await self.gives_ds([it.partition(" DS ")[2] for it in self.kept("on-ds")[-1]["ds"]])
 
 
 async def events(zone):
-    """A person is told, once each, that the parent lacks the DS set, that a server lacks a version,
+    """A person hears, once each, that the parent lacks the DS set, that a server lacks a version,
     that a roll can't be signed, that the signer fails and that signatures run low; and mends it."""
     person = Watchful(zone)
     await person.begin()
@@ -189,15 +189,15 @@ async def events(zone):
     await key_is_away(person)
     await signer_fails(person)
     found = [it["event"] for it in person.kept("on-event")]
-    expect(len(found) == 5, f"a person was told of {found}")
+    expect(len(found) == 5, f"a person has heard of {found}")
     await person.looks()
 
 
 async def parent_lacks(person):
-    """The registrar is told once, and does nothing for long."""
-    await person.is_told("parent lacks", "DS none, not ")
-    told = person.kept("on-ds")
-    expect(len(told) == 1 and told[0].keys() == {"zone", "ds", "call"}, f"on-ds gets {told}")
+    """The registrar gets the set once, and does nothing for long."""
+    await person.hears("parent lacks", "DS none, not ")
+    lines = person.kept("on-ds")
+    expect(len(lines) == 1 and lines[0].keys() == {"zone", "ds", "call"}, f"on-ds gets {lines}")
     await person.hands_over()
     await person.ticks(person.is_over("algorithm-roll"))
 
@@ -206,7 +206,7 @@ async def server_stays_behind(person):
     """A server gets no new version in a ZSK roll."""
     *person.servers, late = person.zone.servers
     person.says(f"zsk-once {int(time.time())}")
-    await person.is_told("stuck", late)
+    await person.hears("stuck", late)
     person.servers, person.served = person.zone.servers, 0
     person.give()
     await person.ticks(person.is_over("zsk-roll"))
@@ -218,7 +218,7 @@ async def key_is_away(person):
     key = (person.folder / line.split(" ")[1]).with_suffix(".private")
     away = shutil.move(key, person.folder / "away")
     person.says(f"ksk-once {int(time.time())}")
-    await person.is_told("refused", "can't do a ksk-roll")
+    await person.hears("refused", "can't do a ksk-roll")
     shutil.move(away, key)
     await person.ticks(lambda _: len(person.kept("on-ds")) == 2)
     await person.hands_over()
@@ -235,8 +235,8 @@ async def signer_fails(person):
     (failing / "ldns-signzone").write_text(FAILS)
     (failing / "ldns-signzone").chmod(0o755)
     person.path = str(failing)
-    await person.is_told("needs a person", "ldns-signzone")
-    await person.is_told("signatures run low", "signatures expire at")
+    await person.hears("needs a person", "ldns-signzone")
+    await person.hears("signatures run low", "signatures expire at")
     person.path, person.valid = "", USUAL
     person.says()
     await person.until(lambda said: "published" in said, *person.tick)

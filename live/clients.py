@@ -151,7 +151,7 @@ class Clients:
         _, flags = struct.unpack_from("!HH", answer)
         rcode = flags & 0xF
         if rcode != question.rcode:
-            return self.fault(resolver, question, asked, told(answer))
+            return self.fault(resolver, question, asked, status_of(answer))
         if question.has_address and ADDRESS not in answer:
             return self.fault(resolver, question, asked, "another address")
         if flags & AD:
@@ -173,7 +173,7 @@ def records(answer):
     )
 
 
-def told(answer):
+def status_of(answer):
     """The status of an answer, with its extended errors."""
     try:
         message = dns.message.from_wire(answer)

@@ -62,8 +62,8 @@ async def wrong_digest(zone):
     await zone.world.parent.change(zone.name, wrong, TTL)
     await zone.world.parent.watch(zone.name)
     await operator.act("--no-cds")
-    told = await operator.watch("--call", seconds=5, ends=(DUE,))
-    expect("DS" in told, f"the wrong digest isn't said: {told}")
+    output = await operator.watch("--call", seconds=5, ends=(DUE,))
+    expect("DS" in output, f"the wrong digest isn't said: {output}")
     await zone.world.parent.change(zone.name, right, TTL)
     await operator.watch("--call")
     await operator.step(await operator.wait("ksk-double-ds-roll"))
@@ -126,8 +126,8 @@ async def signatures_expired(zone):
     expires = time.time() + SHORT
     await is_everywhere(zone)
     await operator.watch("--state")
-    told = await operator.type("check", operator.script, ends=(DUE,))
-    expect("signatures expire at" in told, f"the end of the signatures isn't said: {told}")
+    output = await operator.type("check", operator.script, ends=(DUE,))
+    expect("signatures expire at" in output, f"the end of the signatures isn't said: {output}")
     await operator.act()
     await is_everywhere(zone)
     await operator.watch("--state")
@@ -147,8 +147,8 @@ async def comes_back_old(zone):
     await operator.watch("--state")
     zone.world.fleet.publish(zone.servers[:1], zone.name, old)
     await is_everywhere(zone)
-    told = await operator.watch("--state", ends=(BROKEN,))
-    expect(zone.servers[0] in told, f"the server isn't named: {told}")
+    output = await operator.watch("--state", ends=(BROKEN,))
+    expect(zone.servers[0] in output, f"the server isn't named: {output}")
     await asyncio.sleep(10)
 
 
@@ -173,8 +173,8 @@ async def without_address(zone):
     operator.servers = [server for server in zone.servers if server != CHILD["B"][0]]
     await operator.call(f"start zsk-roll {zsk} {new} now")
     await operator.act()
-    told = await operator.watch("--call", seconds=5, ends=(DUE,))
-    expect(f"{operator.not_found}: " in told, f"the server isn't named: {told}")
+    output = await operator.watch("--call", seconds=5, ends=(DUE,))
+    expect(f"{operator.not_found}: " in output, f"the server isn't named: {output}")
     operator.not_found, operator.servers = "", zone.servers
     await operator.act()
     await operator.watch("--call")
@@ -218,8 +218,8 @@ async def wrong_key(zone):
     await is_everywhere(zone)
     says = f"{liar}: DNSKEY {tag_of(new)} isn't that of {new}"
     for how in (["--call"], ["--state"]):
-        told = await operator.watch(*how, seconds=3, ends=(DUE,))
-        expect(says in told, f"the wrong key isn't said: {told}")
+        output = await operator.watch(*how, seconds=3, ends=(DUE,))
+        expect(says in output, f"the wrong key isn't said: {output}")
     await operator.act()
     await operator.watch("--call")
     await operator.step(await operator.wait("zsk-roll"))
@@ -230,8 +230,8 @@ async def both(operator):
     """Acts twice at once, on the zone as it is. One waits for the other, or ends. Each version has
     a serial of its own, and that with the last one is in place, whole."""
     act = [*operator.words_of_act(), "--serial", "increment"]
-    told = await asyncio.gather(*(operator.type(*act, ends=(OK, LOCKED)) for _ in range(2)))
-    serials = [json.loads(text)["serial"] for text in told if text]
+    outputs = await asyncio.gather(*(operator.type(*act, ends=(OK, LOCKED)) for _ in range(2)))
+    serials = [json.loads(text)["serial"] for text in outputs if text]
     await run(operator.folder, "dnssec-verify", "-q", "-o", operator.zone.name, operator.signed)
     text = operator.signed.read_text()
     made = dns.zone.from_text(text, operator.zone.name, relativize=False)

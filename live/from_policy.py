@@ -32,7 +32,7 @@ zone "{zone}" {{
 
 
 class Policy(Bind):
-    """BIND, which signs by a policy and can be told that the parent has the DS."""
+    """BIND, which signs by a policy and takes a word that the parent has the DS."""
 
     def begin(self):
         self.control = free_port()
@@ -49,7 +49,7 @@ class Policy(Bind):
             name, "named", "-g", "-n", "1", "-c", str(self.folder / "conf"))
 
     async def has_ds(self):
-        """The operator tells it so, as dnssec-policy wants it."""
+        """The operator says so, as dnssec-policy wants it."""
         await run(self.folder, "rndc", "-c", "rndc.conf", "dnssec", "-checkds", "published",
                   self.zone.name)
 

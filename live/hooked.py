@@ -22,32 +22,33 @@ class Hooked:
         self.folder, self.letters, self.zone = folder, letters, zone
         self.state = folder / "state.json"
 
-    def told(self):
+    def read(self):
         """The keys that it has to use, and the serial of what it gives."""
         return json.loads(self.state.read_text())
 
     def now(self):
-        keys = self.told()["keys"]
+        keys = self.read()["keys"]
         return {kind: [it["record"] for it in keys if it[kind]] for kind in KINDS}
 
     def publish(self, keys):
-        self.put({"keys": keys, "serial": self.told()["serial"]})
+        self.put({"keys": keys, "serial": self.read()["serial"]})
         self.renew()
 
     def renew(self):
         """Signs anew. The state with the higher serial comes last."""
-        told = self.told()
-        serial, keys = told["serial"] + 1, told["keys"]
+        state = self.read()
+        serial, keys = state["serial"] + 1, state["keys"]
         of = {kind: tuple(self.key(it) for it in keys if it[kind]) for kind in KINDS}
         version = Version(serial, TTL, TTL, of["dnskey"], of["signers"], of["zone"], of["zone"],
                           of["cds"] or None, of["signers"])
         signing = Signing(self.folder, self.zone, self.letters, f"{os.getpid()}-")
         self.replace(self.folder / "zone.signed", asyncio.run(signing.text(version)))
-        self.put({**told, "serial": serial})
+        self.put({**state, "serial": serial})
 
-    def key(self, told):
-        path = str(Path(told["file"]).with_suffix(""))
-        return Key(told["key"], "", told["algorithm"], told["tag"], path, self.zone, told["record"])
+    def key(self, entry):
+        path = str(Path(entry["file"]).with_suffix(""))
+        algorithm, tag, record = entry["algorithm"], entry["tag"], entry["record"]
+        return Key(entry["key"], "", algorithm, tag, path, self.zone, record)
 
     def put(self, value):
         self.replace(self.state, json.dumps(value))

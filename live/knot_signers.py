@@ -149,8 +149,8 @@ class KnotByPkcs11(Knot):
         """A key that is made there, with times that never come."""
         kinds = ["ksk=yes", "zsk=no"] if flag else ["ksk=no", "zsk=yes"]
         far = [f"{it}={FAR}" for it in ("publish", "active")]
-        told = await self.keymgr("generate", f"algorithm={algorithm}", *kinds, *far)
-        record = await self.keymgr("dnskey", told.split()[-1])
+        number = await self.keymgr("generate", f"algorithm={algorithm}", *kinds, *far)
+        record = await self.keymgr("dnskey", number.split()[-1])
         return self.write_key(record.partition(" DNSKEY ")[2].strip())
 
     def source_options(self):

@@ -31,12 +31,12 @@ class Ceremony:
         operator, asked = self.operator, self.folder / "asked.json"
         await operator.type("ceremony", operator.script, "--span", QUARTER,
                             "--dnskey-ttl", TTL, "--out", asked, *how)
-        told = json.loads(asked.read_text())
-        for it in told["signatures"]:
+        requests = json.loads(asked.read_text())
+        for it in requests["signatures"]:
             it["signature"] = self.signed(base64.b64decode(it["signs"]))
-        asked.write_text(json.dumps(told))
+        asked.write_text(json.dumps(requests))
         await operator.type("ceremony", operator.script, "--take", asked)
-        return told["signatures"]
+        return requests["signatures"]
 
     def signed(self, data):
         """What the key makes of bytes: two numbers, as a signature has them (RFC 6605, section
@@ -83,9 +83,9 @@ async def refused(operator, old, new, *first):
     """A roll that no ceremony has signed: the plan refuses it, and says why."""
     new = first[-1].partition(" ")[2] if first else new
     words = ["plan", operator.script, "zsk-roll", old, new, *operator.signer.options(), *first]
-    status, told = await operator.typed(*words)
-    expect(status == DUE and "has signed no such DNSKEY set" in told,
-           f"a plan without a ceremony ends with {status}: {told}")
+    status, output = await operator.typed(*words)
+    expect(status == DUE and "has signed no such DNSKEY set" in output,
+           f"a plan without a ceremony ends with {status}: {output}")
 
 
 async def serves(operator, asked):

@@ -179,11 +179,11 @@ class OpenDnssec(OfFiles):
     async def shows(self, what, how):
         """Waits until the list of its keys shows this, and gives that."""
         for _ in range(PATIENCE * 2):
-            told = await self.enforcer("key", "list", how)
-            if found := re.search(what, told, re.DOTALL | re.MULTILINE):
+            output = await self.enforcer("key", "list", how)
+            if found := re.search(what, output, re.DOTALL | re.MULTILINE):
                 return found
             await asyncio.sleep(0.5)
-        raise Failed(f"the enforcer doesn't show {what}: {told}")
+        raise Failed(f"the enforcer doesn't show {what}: {output}")
 
     async def has_ds(self):
         """Its operator says so, once the enforcer waits for that."""

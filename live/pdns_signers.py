@@ -116,8 +116,8 @@ class PdnsOfItsOwnKeys(Pdns):
         return self.write_key(record)
 
     async def records(self):
-        told = await self.util("show-zone", self.zone.name)
-        return set(re.findall(r"DNSKEY = \S+ IN DNSKEY ([^;]+?)\s*;", told))
+        output = await self.util("show-zone", self.zone.name)
+        return set(re.findall(r"DNSKEY = \S+ IN DNSKEY ([^;]+?)\s*;", output))
 
 
 class PdnsByApi(Pdns):

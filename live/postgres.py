@@ -72,8 +72,9 @@ class Postgres:
         how = ["-q", "-X", "-A", "-t", "-h", self.folder, "-U", NAME, "-d", NAME]
         words = [tool("psql"), *how, "-c",
                  f"SELECT coalesce(json_agg(it), '[]') FROM ({query}) it"]
-        told = subprocess.check_output([*self.words, *map(str, words)], cwd=self.folder, text=True)
-        return [tuple(it.values()) for it in json.loads(told)]
+        words = [*self.words, *map(str, words)]
+        output = subprocess.check_output(words, cwd=self.folder, text=True)
+        return [tuple(it.values()) for it in json.loads(output)]
 
     def run(self, *words):
         subprocess.run([*self.words, *map(str, words)], check=True, cwd=self.folder,

@@ -77,11 +77,11 @@ class Running(Operator):
 
     async def watch(self, *how, ends=(OK,), **more):
         is_named = self.signer is not None and self.signer.name == Named.name
-        told = await super().watch(*how, ends=(*ends, DUE) if is_named else ends, **more)
-        wrong = [it for it in told.splitlines() if LACK.match(it) and BESIDE not in it]
+        output = await super().watch(*how, ends=(*ends, DUE) if is_named else ends, **more)
+        wrong = [it for it in output.splitlines() if LACK.match(it) and BESIDE not in it]
         if wrong and DUE not in ends:
-            raise Failed(f"watch says {told}")
-        return told
+            raise Failed(f"watch says {output}")
+        return output
 
     async def broken_off(self, *how):
         """Acts that are broken off: before each command of the signer, or before any of them."""
@@ -135,10 +135,10 @@ class Running(Operator):
         """Compares with the status what the command says of the signer's database, what is in it,
         and what the signer gives; and CDS with what the act said of it."""
         said = await self.type(*self.words_of_act()[:-1], "--dry-run")
-        told = {word: [line.partition(": ")[2] for line in said.splitlines()
+        sets = {word: [line.partition(": ")[2] for line in said.splitlines()
                        if line.startswith(f"{word}: ")] for word in ("now", "then")}
-        if told["now"] != told["then"]:
-            raise Failed(f"the database of {self.signer.name}: {told}")
+        if sets["now"] != sets["then"]:
+            raise Failed(f"the database of {self.signer.name}: {sets}")
         (status,) = json.loads(await self.type("status", self.script, "--json"))
         due = {kind: {tag_of(it) for it in names} for kind, names in status["published"].items()}
         del due["ds"]
@@ -244,12 +244,12 @@ async def again(operator):
     """Another script takes the zone over, as it is in the signer's database, or as servers give it.
     Then a key rolls by it."""
     await is_everywhere(operator)
-    (told,) = json.loads(await operator.type("status", operator.script, "--json"))
+    (zone_status,) = json.loads(await operator.type("status", operator.script, "--json"))
     operator.script = operator.folder / "again.script"
     if operator.signer.source:
         await come(operator, words_of_import(operator))
     else:
-        await by_hand(operator, told)
+        await by_hand(operator, zone_status)
     await operator.act()
     await is_right(operator)
     if operator.signer.rolls_to_csk:
@@ -257,10 +257,10 @@ async def again(operator):
     await replace_one(operator, "zsk-roll")
 
 
-async def by_hand(operator, told):
+async def by_hand(operator, zone_status):
     """The keys of the status come in by `init`."""
-    used = sorted({name for kind in ("signers", "zone") for name in told["published"][kind]})
-    is_csk = told["published"]["signers"] == told["published"]["zone"]
+    used = sorted({name for kind in ("signers", "zone") for name in zone_status["published"][kind]})
+    is_csk = zone_status["published"]["signers"] == zone_status["published"]["zone"]
     await operator.type("init", operator.zone.name, *used, *["--csk"] * is_csk, "--signed",
                         "--script", operator.script, "--before", DS_TTL, TTL, TTL,
                         *operator.named())
@@ -286,8 +286,8 @@ async def come(operator, words):
 def took(operator, **seconds):
     """Keeps what a takeover took."""
     path = operator.folder / "takeover.json"
-    told = json.loads(path.read_text()) if path.exists() else {}
-    path.write_text(json.dumps({**told, **seconds}))
+    times = json.loads(path.read_text()) if path.exists() else {}
+    path.write_text(json.dumps({**times, **seconds}))
 
 
 async def is_everywhere(operator):
@@ -310,9 +310,9 @@ def words_of_import(operator, bind=None):
 
 
 async def replace_one(operator, roll):
-    (told,) = json.loads(await operator.type("status", operator.script, "--json"))
+    (zone_status,) = json.loads(await operator.type("status", operator.script, "--json"))
     kind, flag = ("zsk", ZSK) if roll == "zsk-roll" else ("ksk", KSK)
-    old = next(it["reference"] for it in told["keys"] if it["kind"] == kind)
+    old = next(it["reference"] for it in zone_status["keys"] if it["kind"] == kind)
     await operator.replace(roll, old, flag)
 
 

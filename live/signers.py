@@ -93,7 +93,7 @@ class Signer:
         self.zone.world.processes.start(name, *words)
 
     def failing(self):
-        """A folder with tools that fail when they are told to."""
+        """A folder with tools that fail once a file there says so."""
         made = self.folder / "failing"
         made.mkdir(exist_ok=True)
         for tool in self.tools:

@@ -58,7 +58,7 @@ DIFFERENCES = [
     ("A missing stamp is a refusal, and comes before any wait", {}, ENDED),
 ]
 # This one shows in the list of the answers that the original could give.
-LONGEST = "Wait tells the longest time that is left"
+LONGEST = "Wait says the longest time that is left"
 # And this one shows in the call itself.
 EARLY_END = "Rolls can be ended early"
 
@@ -141,14 +141,14 @@ def is_meant(answer, refused):
 
 
 class Comparison:
-    """A comparison of the original's answers with the port's, line by line. `seen` has the intended
-    differences by their words, `same` says how many answers were compared. After the first
+    """A comparison of the original's answers with the port's, line by line. `differences` has the
+    intended ones by their words, `same` says how many answers were compared. After the first
     difference the two don't go `together` any more."""
 
     def __init__(self, there):
-        self.seen = {LONGEST for line in there if line.startswith("#") and ENDED not in line}
+        self.differences = {LONGEST for line in there if line.startswith("#") and ENDED not in line}
         self.there = [line for line in there if not line.startswith("#")]
-        self.told = iter(self.there)
+        self.originals = iter(self.there)
         self.keyset, self.together, self.same = KeySet(), True, 0
 
     def of_line(self, line, here):
@@ -156,11 +156,11 @@ class Comparison:
         difference = intended(self.keyset, line) if self.together else None
         answer = self.keyset.call(line)
         is_asked = self.together and not is_early_end(line)
-        original = next(self.told) if is_asked else None
+        original = next(self.originals) if is_asked else None
         if difference:
             words, refused = difference
             self.together = False
-            self.seen.add(words)
+            self.differences.add(words)
             if is_asked and not is_meant(original, refused):
                 return f"{line}\n  original: {original}\n  meant to be: {refused}"
         elif is_asked and original != here:
@@ -192,10 +192,10 @@ def compare(original, port, script):
     both = Comparison(lines)
     here, status = run(port, script)
     if status != 0 or len(here) != len(script) + 1:
-        return both.seen, 0, f"the port ends with status {status} after {len(here)} answers"
+        return both.differences, 0, f"the port ends with status {status} after {len(here)} answers"
     found = (both.of_line(line, answer) for line, answer in zip(script[1:], here))
     finding = next(filter(None, found), None) or both.of_end(*here[-2:])
-    return both.seen, both.same, finding
+    return both.differences, both.same, finding
 
 
 def smallest(original, port, script):

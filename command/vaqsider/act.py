@@ -24,7 +24,7 @@ from .errors import UNAVAILABLE, Failure
 from .history import Call, History
 from .keysets import KeySets
 from .signers import Version, Wish
-from .zonefile import By
+from .zonefile import KeyId
 
 # A line of an act's own file: CDS is out in the step of this call and moment, or in again.
 SAID = re.compile(r"(?P<word>cds-out|cds-in) (?P<step>\d+ \d+)")
@@ -36,14 +36,14 @@ class Act:
 
     def __init__(self, args: Namespace, now: float, said: list[str]) -> None:
         self.args, self.now = args, now
-        self.lines, self.told = status.read(args.SCRIPT, now)
-        told = self.told
+        self.lines, self.zone_status = status.read(args.SCRIPT, now)
+        zone_status = self.zone_status
         taken = ceremony.signatures(args.SCRIPT)
-        self.keys = KeySets(told, args.keys or [Path(args.SCRIPT).parent], taken)
+        self.keys = KeySets(zone_status, args.keys or [Path(args.SCRIPT).parent], taken)
         self.digests = args.digest or [2]
-        self.changes_ds = status.is_asked(told, "UpdateDsRrset")
+        self.changes_ds = status.is_asked(zone_status, "UpdateDsRrset")
         # The call that asks for CDS, if it is due.
-        self.step = step_of(self.lines) if status.is_asked(told, "CreateCdsRrset") else None
+        self.step = step_of(self.lines) if status.is_asked(zone_status, "CreateCdsRrset") else None
         self.has_cds = self.step is not None and not self._is_out(self.step, said)
 
     def _is_out(self, step: Call, said: list[str]) -> bool:
@@ -64,9 +64,9 @@ class Act:
         line = f"cds-{'in' if self.has_cds else 'out'} {_name(self.step)}"
         return [] if said[-1:] == [line] else [line]
 
-    def expect_own(self, keys: set[By], where: str) -> None:
-        """What is published has a key that is due, or one that this script took out. Else nobody
-        has told the script that the zone is signed."""
+    def expect_own(self, keys: set[KeyId], where: str) -> None:
+        """What is published has a key that is due, or one that this script took out. Else the
+        script doesn't know that the zone is signed."""
         has_begun = any(it.startswith(("start ", "set-")) for it in self.lines)
         is_due = keys & self.keys.by(self.keys.published["dnskey"])
         if not keys or is_due or has_begun and keys & self.keys.known or self.args.although:
@@ -126,7 +126,7 @@ def perform(args: Namespace, clock: Callable[[], float]) -> tuple[Act, Version]:
         if act.changes_ds:
             from . import parents
 
-            parents.before_step(args, act.lines, act.told, clock)
+            parents.before_step(args, act.lines, act.zone_status, clock)
         with signers.of(args, act).publish(act.wish(Path(args.SCRIPT).parent)) as version:
             publish(act, version, kept, clock)
         if args.reload:

@@ -24,7 +24,7 @@ RESTS = "nothing: the zone is as the policy wants it"
 
 
 @dataclass(frozen=True)
-class Said:
+class Advice:
     """What is to be done next: its word, and the line that says it. Of a call the line is that of a
     script."""
 
@@ -41,15 +41,15 @@ class Said:
         return self.line.split(" ")[1:]
 
 
-def parsed(line: str) -> Said:
+def parsed(line: str) -> Advice:
     """What an answer says."""
     word = line.partition(" ")[0].rstrip(":")
     if word in FORMS:
-        return Said(CALL, line)
+        return Advice(CALL, line)
     if not FORM.fullmatch(line):
         raise Failure(f"keyset next: it answers {line!r}, which this command doesn't know",
                       UNAVAILABLE)
-    return Said(word, line)
+    return Advice(word, line)
 
 
 def ask(policy: Sequence[str], lines: Sequence[str], notes: Sequence[str], now: int) -> str:
@@ -61,5 +61,5 @@ def ask(policy: Sequence[str], lines: Sequence[str], notes: Sequence[str], now: 
         raise Failure(NOT_KNOWN if NO_WORD in str(error) else str(error), UNAVAILABLE) from None
 
 
-def said(policy: Sequence[str], lines: Sequence[str], notes: Sequence[str], now: int) -> Said:
+def said(policy: Sequence[str], lines: Sequence[str], notes: Sequence[str], now: int) -> Advice:
     return parsed(ask(policy, lines, notes, now))

@@ -21,7 +21,7 @@ if TYPE_CHECKING:
     from .keyfiles import KeyFile
 
 
-class Made:
+class CallResult:
     """The outcome of a call: its answer, what can't be true of it, and whether it was kept."""
 
     doubts: list[str]
@@ -51,7 +51,7 @@ class Made:
 
 
 def call(path: str | Path, text: str, clock: Clock, although: bool = False,
-         dry_run: bool = False, known: list[str] | None = None) -> Made:
+         dry_run: bool = False, known: list[str] | None = None) -> CallResult:
     """Makes a call on the script, and keeps its line if it is accepted. Who made the line by what
     the script had, says which lines it knows: with others it may be false."""
     with locked(path) as file:
@@ -60,17 +60,17 @@ def call(path: str | Path, text: str, clock: Clock, although: bool = False,
         line = shortnames.full(completed(text, clock), status.whole(path, file))
         lines = [*file.lines, line]
         history = _history(path, lines)
-        made = Made(line, history.replies[-1], history.published)
-        if made.refused == OUT_OF_MEMORY:
+        result = CallResult(line, history.replies[-1], history.published)
+        if result.refused == OUT_OF_MEMORY:
             raise MemoryError
-        if not made.refused:
+        if not result.refused:
             # A report's moment was rounded up to the next second, which has come by now.
             found = check.false_claims(history, path, math.ceil(clock()), len(lines))
-            made.doubts = [finding.text for finding in found if finding.line == len(lines)]
-            if not dry_run and (although or not made.doubts):
+            result.doubts = [finding.text for finding in found if finding.line == len(lines)]
+            if not dry_run and (although or not result.doubts):
                 file.append(line)
-                made.kept = True
-        return made
+                result.kept = True
+        return result
 
 
 def _history(path: str | Path, lines: list[str]) -> History:

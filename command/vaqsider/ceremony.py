@@ -26,7 +26,7 @@ from keyset import Notes
 
 from . import keyfiles, place, plan, status, zonefile
 from .errors import USAGE, WARNING, Failure
-from .zonefile import By, Row, parsed
+from .zonefile import KeyId, ZoneRecord, parsed
 
 if TYPE_CHECKING:
     from keyset import Status
@@ -37,7 +37,7 @@ BEFORE, SUFFIX = 3600, ".signatures"
 
 
 @dataclass(frozen=True)
-class Asked:
+class SignatureRequest:
     """A signature that is asked for: of which DNSKEY set, by which key, and its validity."""
 
     zone: str
@@ -71,14 +71,14 @@ class Asked:
             head + struct.pack("!H", len(wire)) + wire for wire in wires)
 
 
-class Written(TypedDict):
+class RequestFile(TypedDict):
     """What a ceremony writes."""
 
     signatures: list[dict[str, object]]
 
 
 @dataclass(frozen=True)
-class While:
+class Period:
     """A DNSKEY set, by references, with its signers, from when until when it is published."""
 
     dnskey: frozenset[str]
@@ -87,21 +87,22 @@ class While:
     end: int
 
 
-def whiles(lines: list[str], told: Status, args: Namespace, now: int) -> list[While]:
+def periods(lines: list[str], zone_status: Status, args: Namespace, now: int) -> list[Period]:
     """The sets of the time that is asked for: the one that is due, and those of planned rolls."""
-    made = plan.Plan(lines, now, *plan.assumed(args.SCRIPT, args.ttls, args.delays, now))
+    course = plan.Plan(lines, now, *plan.assumed(args.SCRIPT, args.ttls, args.delays, now))
     for line in args.first or ():
-        made.call(line)
+        course.call(line)
     for words in args.roll or ():
         roll, old, new = _roll(words)
-        made.roll(roll, old, new)
-    last = max(now + int(args.span), made.moment)
-    steps = [(now, status.sets_of(told)), *((it["moment"], it["published"]) for it in made.steps)]
+        course.roll(roll, old, new)
+    last = max(now + int(args.span), course.moment)
+    steps = [(now, status.sets_of(zone_status)),
+             *((it["moment"], it["published"]) for it in course.steps)]
     ends = [*(moment for moment, _ in steps[1:]), last]
-    found: dict[tuple[frozenset[str], frozenset[str]], While] = {}
+    found: dict[tuple[frozenset[str], frozenset[str]], Period] = {}
     for (begin, published), end in zip(steps, ends):
         sets = frozenset(published["dnskey"]), frozenset(published["signers"])
-        found[sets] = While(*sets, found[sets].begin if sets in found else begin, end)
+        found[sets] = Period(*sets, found[sets].begin if sets in found else begin, end)
     return list(found.values())
 
 
@@ -112,7 +113,7 @@ def _roll(words: str) -> list[str]:
     return found
 
 
-def windows(one: While, lifetime: int) -> Iterator[tuple[int, int]]:
+def windows(one: Period, lifetime: int) -> Iterator[tuple[int, int]]:
     """The validities of signatures that follow one another: the next begins at half of the time of
     one. They go on for a lifetime after the planned end, for a step may come later."""
     half = lifetime // 2
@@ -120,18 +121,18 @@ def windows(one: While, lifetime: int) -> Iterator[tuple[int, int]]:
         yield begin, begin + lifetime
 
 
-def asked(args: Namespace, now: int) -> list[Asked]:
+def asked(args: Namespace, now: int) -> list[SignatureRequest]:
     """Each signature that keys have to make which aren't here."""
-    lines, told = status.read(args.SCRIPT, now)
-    of = whiles(lines, told, args, now)
+    lines, zone_status = status.read(args.SCRIPT, now)
+    of = periods(lines, zone_status, args, now)
     if args.lifetime < 2 * BEFORE:
         raise Failure(f"--lifetime: signatures have to be valid for {2 * BEFORE} seconds at least",
                       USAGE)
-    files, origin = Files(args), told["zone"].rstrip(".") + "."
-    return [made for one in of for made in _of(one, files, origin, args)]
+    files, origin = KeyFiles(args), zone_status["zone"].rstrip(".") + "."
+    return [request for one in of for request in _of(one, files, origin, args)]
 
 
-class Files:
+class KeyFiles:
     """The key files that references name."""
 
     def __init__(self, args: Namespace) -> None:
@@ -144,7 +145,7 @@ class Files:
         return keyfiles.read(found)
 
 
-def _of(one: While, files: Files, origin: str, args: Namespace) -> Iterator[Asked]:
+def _of(one: Period, files: KeyFiles, origin: str, args: Namespace) -> Iterator[SignatureRequest]:
     of = {name: files[name] for name in sorted(one.dnskey | one.signers)}
     records = tuple(sorted(of[name].data for name in one.dnskey))
     ttl = args.dnskey_ttl
@@ -155,15 +156,15 @@ def _of(one: While, files: Files, origin: str, args: Namespace) -> Iterator[Aske
         file = of[name]
         if not file.private.is_file():
             for inception, expiration in windows(one, args.lifetime):
-                yield Asked(origin, name, file.tag, file.algorithm, ttl, inception, expiration,
-                            records)
+                yield SignatureRequest(origin, name, file.tag, file.algorithm, ttl, inception,
+                                       expiration, records)
 
 
-def written(made: Iterable[Asked]) -> Written:
+def written(requests: Iterable[SignatureRequest]) -> RequestFile:
     """What is written, with an empty place for each signature."""
     return {"signatures": [
         {**asdict(it), "signs": base64.b64encode(it.signs()).decode(), "signature": ""}
-        for it in made]}
+        for it in requests]}
 
 
 # Taking back
@@ -173,14 +174,14 @@ def path_of(script: str | Path) -> Path:
     return Path(script).with_suffix(SUFFIX)
 
 
-def take(args: Namespace, now: int) -> list[Row]:
+def take(args: Namespace, now: int) -> list[ZoneRecord]:
     """Keeps the signatures of a file, if all of them are right. Gives those that are new."""
     Notes(args.SCRIPT)
-    _, told = status.read(args.SCRIPT, now)
-    origin = told["zone"].rstrip(".") + "."
+    _, zone_status = status.read(args.SCRIPT, now)
+    origin = zone_status["zone"].rstrip(".") + "."
     try:
-        rows = [_taken(it, number, origin, Files(args))
-                for number, it in enumerate(_told(args.take), start=1) if it["signature"]]
+        rows = [_taken(it, number, origin, KeyFiles(args))
+                for number, it in enumerate(_requests_in(args.take), start=1) if it["signature"]]
     except (KeyError, TypeError, ValueError, AttributeError) as error:
         raise Failure(f"{args.take}: it isn't what a ceremony has written: {error!r}",
                       WARNING) from None
@@ -190,16 +191,18 @@ def take(args: Namespace, now: int) -> list[Row]:
     return new
 
 
-def _told(path: str) -> list[dict[str, Any]]:
-    told: list[dict[str, Any]] = json.loads(Path(path).read_text(encoding="utf-8"))["signatures"]
-    return told
+def _requests_in(path: str) -> list[dict[str, Any]]:
+    """The requests of a file, each with its signature or an empty place for it."""
+    file: dict[str, list[dict[str, Any]]] = json.loads(Path(path).read_text(encoding="utf-8"))
+    return file["signatures"]
 
 
-def _taken(told: Mapping[str, Any], number: int, origin: str, files: Files) -> Row:
+def _taken(request: Mapping[str, Any], number: int, origin: str, files: KeyFiles) -> ZoneRecord:
     """The record of a signature, which is right by the key file that its key names."""
-    one = Asked(**{name: told[name] for name in Asked.__dataclass_fields__})
+    fields = SignatureRequest.__dataclass_fields__
+    one = SignatureRequest(**{name: request[name] for name in fields})
     file = files[one.key]
-    rrsig = one.rrsig(base64.b64decode(told["signature"], validate=True))
+    rrsig = one.rrsig(base64.b64decode(request["signature"], validate=True))
     name = dns.name.from_text(origin)
     keys = {name: dns.rrset.from_rdata(name, one.ttl, parsed("DNSKEY", file.data))}
     try:
@@ -208,20 +211,20 @@ def _taken(told: Mapping[str, Any], number: int, origin: str, files: Files) -> R
     except dns.exception.DNSException as error:
         text = f"signature {number}, by {one.key}, isn't right: {error}"
         raise Failure(text, WARNING) from None
-    return Row(origin, one.ttl, "RRSIG", str(rrsig))
+    return ZoneRecord(origin, one.ttl, "RRSIG", str(rrsig))
 
 
-def _expires(row: Row) -> int:
+def _expires(row: ZoneRecord) -> int:
     return int(parsed("RRSIG", row.data).expiration)
 
 
-def signatures(script: str | Path) -> list[Row]:
+def signatures(script: str | Path) -> list[ZoneRecord]:
     """The signatures of the DNSKEY set that ceremonies have made."""
     path = path_of(script)
     return list(zonefile.rows(path)) if path.is_file() else []
 
 
-def _write(path: Path, rows: list[Row]) -> None:
+def _write(path: Path, rows: list[ZoneRecord]) -> None:
     """The file of signatures, whole or as it was."""
     draft = path.with_name(f".{path.name}.{os.getpid()}.draft")
     with open(draft, "x", encoding="ascii") as file:
@@ -231,8 +234,8 @@ def _write(path: Path, rows: list[Row]) -> None:
     place.put(draft, path)
 
 
-def valid(taken: Iterable[Row], zone: str, dnskey: list[str], file: keyfiles.KeyFile,
-          now: float) -> Iterator[Row]:
+def valid(taken: Iterable[ZoneRecord], zone: str, dnskey: list[str], file: keyfiles.KeyFile,
+          now: float) -> Iterator[ZoneRecord]:
     """The signatures of a DNSKEY set, of this data, by a key, that are valid at this moment."""
     name = dns.name.from_text(zone)
     for row in taken:
@@ -241,10 +244,10 @@ def valid(taken: Iterable[Row], zone: str, dnskey: list[str], file: keyfiles.Key
             yield row
 
 
-def fits(row: Row, due: dns.rrset.RRset, file: keyfiles.KeyFile, now: float) -> bool:
+def fits(row: ZoneRecord, due: dns.rrset.RRset, file: keyfiles.KeyFile, now: float) -> bool:
     """Whether a signature is of this DNSKEY set, by this key, and valid now."""
     rrsig = parsed("RRSIG", row.data)
-    if By(rrsig.algorithm, rrsig.key_tag) != By(file.algorithm, file.tag):
+    if KeyId(rrsig.algorithm, rrsig.key_tag) != KeyId(file.algorithm, file.tag):
         return False
     keys = {due.name: dns.rrset.from_rdata(due.name, due.ttl, parsed("DNSKEY", file.data))}
     try:

@@ -72,9 +72,9 @@ def _findings(file: Lines, path: str | Path, now: float) -> Iterator[Finding]:
         yield from false_claims(history, path, now)
         yield from _of_clock(Notes(path), now)
     status.whole(path, file)
-    told = status.at(history.status, now, status.goes_on(resting.of_ticks(path)))
-    yield from _due(told)
-    if any(told["published"].values()):
+    zone_status = status.at(history.status, now, status.goes_on(resting.of_ticks(path)))
+    yield from _due(zone_status)
+    if any(zone_status["published"].values()):
         yield from _of_look(path, len(file.lines), now)
 
 
@@ -108,13 +108,13 @@ def is_asked(path: str | Path, now: float) -> bool:
     return 0 <= kept.age(now) < DAY
 
 
-def _due(told: Status) -> Iterator[Finding]:
+def _due(zone_status: Status) -> Iterator[Finding]:
     """What waits for somebody, and what was ended early."""
-    for roll in told["rolls"]:
+    for roll in zone_status["rolls"]:
         if roll["waits_for"] != status.CACHES:
             text = f"{roll['roll']} waits for {roll['waits_for']}: {status.comes_next(roll)}"
             yield Finding(DUE, text)
-    for ended in told["ended"]:
+    for ended in zone_status["ended"]:
         yield Finding(DUE, f"{ended['roll']} was ended early, and its actions may not be done")
 
 

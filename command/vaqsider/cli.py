@@ -51,10 +51,10 @@ def on_init(args: Namespace) -> Outcome:
     moment = int(clock()) if args.signed else None
     added = [(file, file.line(args.csk and file.is_sep)) for file in files]
     lines = calling.first_lines(zone, added, moment)
-    seen = _agreed(path, lines, files, args) if args.signed else None
+    zone_state = _agreed(path, lines, files, args) if args.signed else None
     calling.begin(path, lines, args.before)
-    if seen:
-        seen.keep(path, lines, Notes(path))
+    if zone_state:
+        zone_state.keep(path, lines, Notes(path))
     keys = ",".join(file.path.name for file in files) or "KEYS"
     script = shlex.quote(str(path))
     call = "" if args.signed else f"call {script} 'start algorithm-roll - {keys} now'"
@@ -85,32 +85,32 @@ def _agreed(
 def on_import(args: Namespace) -> Outcome:
     from . import importing
 
-    came = importing.come(args, clock)
-    return came.status, came.text(), came.as_json()
+    result = importing.come(args, clock)
+    return result.status, result.text(), result.as_json()
 
 
 def on_call(args: Namespace) -> Outcome:
     from . import calling
 
-    made = calling.call(args.SCRIPT, args.LINE, clock, args.although, args.dry_run)
-    return made.status, made.text(), vars(made)
+    result = calling.call(args.SCRIPT, args.LINE, clock, args.although, args.dry_run)
+    return result.status, result.text(), vars(result)
 
 
 def on_status(args: Namespace) -> Outcome:
     from . import resting, shortnames, status
 
-    told, screens, ends_with = [], [], [OK]
+    zones, screens, ends_with = [], [], [OK]
     for path in args.SCRIPT:
         try:
             lines, zone = status.read(path, clock())
-            told.append(zone)
+            zones.append(zone)
             last = resting.of_ticks(path)
             screens.append("\n".join(status.screen(zone, shortnames.names(lines), last)))
         except Exception as error:
             ends_with.append(_said(error).status)
-    ends_with += [BROKEN for zone in told if not zone["chain"]["safe"]]
-    text = ["\n\n".join(screens)] if told else []
-    return max(ends_with), text, told
+    ends_with += [BROKEN for zone in zones if not zone["chain"]["safe"]]
+    text = ["\n\n".join(screens)] if zones else []
+    return max(ends_with), text, zones
 
 
 def on_check(args: Namespace) -> Outcome:
@@ -129,21 +129,21 @@ def on_plan(args: Namespace) -> Outcome:
 
     from . import draw, plan, signers, status, timeline
 
-    lines, told = status.read(args.SCRIPT, clock())
+    lines, zone_status = status.read(args.SCRIPT, clock())
     begin = int(clock() if args.start is None else args.start)
     ttls, delays = plan.assumed(args.SCRIPT, args.ttls, args.delays, begin)
-    made = plan.Plan(lines, begin, ttls, delays, signers.planned(args, told["zone"]))
+    roll_plan = plan.Plan(lines, begin, ttls, delays, signers.planned(args, zone_status["zone"]))
     for line in args.first or ():
-        made.call(line)
-    made.roll(args.ROLL, args.OLD, args.NEW)
-    planned = [step["line"] for step in made.steps]
-    text = planned if args.script else plan.as_text(made.steps)
+        roll_plan.call(line)
+    roll_plan.roll(args.ROLL, args.OLD, args.NEW)
+    planned = [step["line"] for step in roll_plan.steps]
+    text = planned if args.script else plan.as_text(roll_plan.steps)
     if args.calendar:
-        text = plan.as_calendar(told["zone"], made.steps)
+        text = plan.as_calendar(zone_status["zone"], roll_plan.steps)
     elif args.picture:
         course = timeline.timeline([*lines, *planned], Notes(args.SCRIPT).lines)
-        text = draw.picture(told["zone"], course, clock())
-    return _verdict(told), text, made.steps
+        text = draw.picture(zone_status["zone"], course, clock())
+    return _verdict(zone_status), text, roll_plan.steps
 
 
 def on_draw(args: Namespace) -> Outcome:
@@ -153,13 +153,13 @@ def on_draw(args: Namespace) -> Outcome:
 
     from . import draw, status, timeline
 
-    lines, told = status.read(args.SCRIPT, clock())
-    made = timeline.timeline(lines, Notes(args.SCRIPT).lines)
-    text = list(draw.picture(told["zone"], made, clock(), args.since))
+    lines, zone_status = status.read(args.SCRIPT, clock())
+    course = timeline.timeline(lines, Notes(args.SCRIPT).lines)
+    text = list(draw.picture(zone_status["zone"], course, clock(), args.since))
     if args.out:
         arguments.expect_other(args.out, args.SCRIPT)
         Path(args.out).write_text("\n".join([*text, ""]), encoding="utf-8")
-    return _verdict(told), [] if args.out else text, dataclasses.asdict(made)
+    return _verdict(zone_status), [] if args.out else text, dataclasses.asdict(course)
 
 
 def on_act(args: Namespace) -> Outcome:
@@ -177,12 +177,12 @@ def on_ceremony(args: Namespace) -> Outcome:
         new = ceremony.take(args, int(clock()))
         text = [f"{ceremony.path_of(args.SCRIPT)}: {len(new)} new signatures"]
         return OK, text, {"signatures": [row.data for row in new]}
-    made = ceremony.written(ceremony.asked(args, int(clock())))
+    requests = ceremony.written(ceremony.asked(args, int(clock())))
     if args.out:
         arguments.expect_other(args.out, args.SCRIPT)
-        Path(args.out).write_text(f"{_json(made)}\n", encoding="utf-8")
-        return OK, [f"{args.out}: {len(made['signatures'])} signatures are asked for"], made
-    return OK, [_json(made)], made
+        Path(args.out).write_text(f"{_json(requests)}\n", encoding="utf-8")
+        return OK, [f"{args.out}: {len(requests['signatures'])} signatures are asked for"], requests
+    return OK, [_json(requests)], requests
 
 
 def on_watch(args: Namespace) -> Outcome:
@@ -200,33 +200,33 @@ def _state(args: Namespace) -> Outcome:
 
     from . import comparing, state, status
 
-    (lines, told), notes = status.read(args.SCRIPT, clock()), Notes(args.SCRIPT)
-    seen = state.of(told, comparing.folders_of(args), args, clock())
-    seen.keep(args.SCRIPT, lines, notes)
-    return seen.status, seen.text(), seen.as_json()
+    (lines, zone_status), notes = status.read(args.SCRIPT, clock()), Notes(args.SCRIPT)
+    zone_state = state.of(zone_status, comparing.folders_of(args), args, clock())
+    zone_state.keep(args.SCRIPT, lines, notes)
+    return zone_state.status, zone_state.text(), zone_state.as_json()
 
 
 def on_zones(args: Namespace) -> Outcome:
     from . import zones
 
     counts = args.prometheus or args.json
-    found = list(zones.zones(
+    rows = list(zones.zones(
         args.FOLDER, clock(), lambda done, of: progress(f"{done} of {of}"), counts
     ))
     progress("")
-    is_safe = all(zone["chain_safe"] for zone in found)
+    is_safe = all(zone["chain_safe"] for zone in rows)
     text: Iterable[str]
-    text = zones.prometheus(found) if args.prometheus else zones.table(found)
+    text = zones.prometheus(rows) if args.prometheus else zones.table(rows)
     if args.html:
         from . import pages
 
-        text = pages.page(found, clock())
+        text = pages.page(rows, clock())
     if args.out:
         from . import place
 
         place.write(Path(args.out), "".join(f"{line}\n" for line in text))
         text = ()
-    return OK if is_safe else BROKEN, text, found
+    return OK if is_safe else BROKEN, text, rows
 
 
 def on_policy(args: Namespace) -> Outcome:
@@ -243,13 +243,13 @@ def on_tick(args: Namespace) -> Outcome:
     from . import policies, subjects, ticks
 
     log, jobs = ticks.logger(args.log, sys.stderr if args.json else sys.stdout), args.jobs
-    made = ticks.Ticks(clock, log, policies.Commands(args.on_ds or (), args.on_event or ()))
+    zone_ticks = ticks.Ticks(clock, log, policies.Commands(args.on_ds or (), args.on_event or ()))
     if args.store:
         from . import shared
 
-        ends = shared.run(args.store, Path(args.SCRIPT[0]), jobs or ticks.JOBS, made)
+        ends = shared.run(args.store, Path(args.SCRIPT[0]), jobs or ticks.JOBS, zone_ticks)
     else:
-        ends = ticks.run(subjects.scripts(args.SCRIPT), jobs or ticks.JOBS, made)
+        ends = ticks.run(subjects.scripts(args.SCRIPT), jobs or ticks.JOBS, zone_ticks)
     worst = max((end.status for end in ends.values()), default=OK)
     text = ticks.text(ends) if args.log == "text" else ()
     return worst, text, {path: vars(end) for path, end in ends.items()}
@@ -274,8 +274,8 @@ def on_next(args: Namespace) -> Outcome:
     return rollwords.next_(args, clock)
 
 
-def _verdict(told: Status) -> int:
-    return OK if told["chain"]["safe"] else BROKEN
+def _verdict(zone_status: Status) -> int:
+    return OK if zone_status["chain"]["safe"] else BROKEN
 
 
 def _said(error: BaseException) -> Failure:

@@ -63,7 +63,7 @@ def ds_of(record: Record, digest_type: int, zone: str) -> Record | None:
 
 
 @dataclass(frozen=True)
-class Due:
+class DueSets:
     """What has to be published: the keys of each set. `faults` are key files that are missing."""
 
     zone: str
@@ -74,14 +74,14 @@ class Due:
     faults: tuple[str, ...]
 
     @classmethod
-    def of(cls, told: Status, folders: Sequence[str | Path]) -> Due:
+    def of(cls, zone_status: Status, folders: Sequence[str | Path]) -> DueSets:
         """What a status says, with the key files in these folders."""
-        published = status.sets_of(told)
+        published = status.sets_of(zone_status)
         names = {name for of in published.values() for name in of}
         keys: dict[str, Key]
         faults: list[str]
         keys, faults = {}, []
-        for key in (key for key in told["keys"] if key["reference"] in names):
+        for key in (key for key in zone_status["keys"] if key["reference"] in names):
             record = None
             try:
                 record = dnskey_of(keyfiles.find(key, folders))
@@ -90,9 +90,9 @@ class Due:
                     faults.append(str(failure))
             tag, algorithm, reference = key["tag"], key["algorithm"], key["reference"]
             keys[reference] = Key(reference, tag, algorithm, record)
-        known = frozenset((key["tag"], key["algorithm"]) for key in told["keys"])
-        is_shared = any(key["kind"] == "public" for key in told["keys"])
-        return cls(told["zone"], published, keys, known, is_shared, tuple(faults))
+        known = frozenset((key["tag"], key["algorithm"]) for key in zone_status["keys"])
+        is_shared = any(key["kind"] == "public" for key in zone_status["keys"])
+        return cls(zone_status["zone"], published, keys, known, is_shared, tuple(faults))
 
     def of_set(self, kind: str) -> list[Key]:
         return [self.keys[name] for name in self.published[kind]]
@@ -103,19 +103,19 @@ def folders_of(args: Namespace) -> list[str | Path]:
     return args.keys or [Path(args.SCRIPT).parent]
 
 
-def lacks(due: Due, type_: str, answer: Answer, now: float) -> list[str]:
+def lacks(due: DueSets, type_: str, answer: Answer, now: float) -> list[str]:
     """What an answer lacks, in words."""
     if answer.fault:
         return [answer.fault]
     return list(COMPARED[type_](due, type_, answer, now))
 
 
-def _of_cds(due: Due, type_: str, answer: Answer, now: float) -> Iterator[str]:
+def _of_cds(due: DueSets, type_: str, answer: Answer, now: float) -> Iterator[str]:
     if answer.records:
         yield f"gives {type_} still"
 
 
-def cds_lacks(due: Due, type_: str, answer: Answer, now: float) -> list[str]:
+def cds_lacks(due: DueSets, type_: str, answer: Answer, now: float) -> list[str]:
     """What is wrong with CDS or CDNSKEY records while they may be in. Those of another signer
     aren't known."""
     keys = [key.record for key in due.of_set("ds") if key.record]
@@ -128,7 +128,7 @@ def cds_lacks(due: Due, type_: str, answer: Answer, now: float) -> list[str]:
     return [answer.fault] if answer.fault else [f"{type_} {it}, which isn't due" for it in wrong]
 
 
-def _of_dnskey(due: Due, type_: str, answer: Answer, now: float) -> Iterator[str]:
+def _of_dnskey(due: DueSets, type_: str, answer: Answer, now: float) -> Iterator[str]:
     wanted, given = due.of_set("dnskey"), answer.records
     yield from _of_tags("DNSKEY", map(dns.dnssec.key_id, given), (key.tag for key in wanted))
     if sorted(map(dns.dnssec.key_id, given)) == sorted(key.tag for key in wanted):
@@ -139,7 +139,7 @@ def _of_dnskey(due: Due, type_: str, answer: Answer, now: float) -> Iterator[str
         yield from signed(due.zone, answer, key, now).faults
 
 
-def _of_zone(due: Due, type_: str, answer: Answer, now: float) -> Iterator[str]:
+def _of_zone(due: DueSets, type_: str, answer: Answer, now: float) -> Iterator[str]:
     wanted = due.of_set("zone")
     by = {(it.key_tag, it.algorithm) for it in answer.signatures}
     if by != {(key.tag, key.algorithm) for key in wanted}:
@@ -152,7 +152,7 @@ def _of_zone(due: Due, type_: str, answer: Answer, now: float) -> Iterator[str]:
         yield f"no {type_} record"
 
 
-def _of_ds(due: Due, type_: str, answer: Answer, now: float) -> Iterator[str]:
+def _of_ds(due: DueSets, type_: str, answer: Answer, now: float) -> Iterator[str]:
     wanted, given = due.of_set("ds"), list(answer.records)
     if due.is_shared:
         # The other signer's keys with a DS aren't in the script.
@@ -187,14 +187,14 @@ def _listed(tags: Iterable[int]) -> str:
     return ",".join(map(str, sorted(tags))) or "none"
 
 
-COMPARED: dict[str, Callable[[Due, str, Answer, float], Iterator[str]]] = {
+COMPARED: dict[str, Callable[[DueSets, str, Answer, float], Iterator[str]]] = {
     "DNSKEY": _of_dnskey, "SOA": _of_zone, "NS": _of_zone, "DS": _of_ds,
     "CDS": _of_cds, "CDNSKEY": _of_cds,
 }
 
 
 @dataclass(frozen=True)
-class Signed:
+class SignatureSpan:
     """How a set is signed by a key: from when on and until when, or what is wrong."""
 
     begin: int = 0
@@ -202,16 +202,16 @@ class Signed:
     faults: tuple[str, ...] = ()
 
 
-def signed(zone: str, answer: Answer, key: Key, now: float) -> Signed:
+def signed(zone: str, answer: Answer, key: Key, now: float) -> SignatureSpan:
     """How an answer's set is signed by a key: by the signature that lasts longest."""
     of = [it for it in answer.signatures if (it.key_tag, it.algorithm) == (key.tag, key.algorithm)]
     faults = [f"no signature by {key.tag}"]
     for signature in sorted(of, key=lambda it: int(it.expiration), reverse=True):
         fault = _fault(zone, answer, signature, key, now)
         if not fault:
-            return Signed(signature.inception, signature.expiration)
+            return SignatureSpan(signature.inception, signature.expiration)
         faults.append(fault)
-    return Signed(faults=tuple(faults[-1:]))
+    return SignatureSpan(faults=tuple(faults[-1:]))
 
 
 def _fault(zone: str, answer: Answer, signature: Record, key: Key, now: float) -> str | None:

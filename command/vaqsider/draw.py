@@ -28,15 +28,15 @@ class Scale:
     rolls, what came before them, and what came after them until now, in at least half of its width
     the rolls. If a script's moments count from 0, it has no now."""
 
-    def __init__(self, made: Timeline, now: float, since: float | None = None) -> None:
-        self.left = 16 + LETTER * max(map(len, [*made.phases, *made.rows]), default=0)
-        end = max(made.end, now) if made.begin > 0 else made.end
+    def __init__(self, course: Timeline, now: float, since: float | None = None) -> None:
+        self.left = 16 + LETTER * max(map(len, [*course.phases, *course.rows]), default=0)
+        end = max(course.end, now) if course.begin > 0 else course.end
         if since is None:
             # A roll that isn't over goes on until now.
-            goes_on = any(bar.end is None for of in made.phases.values() for bar in of)
-            rolled = end if goes_on else made.end
-            last = max(1, rolled - made.last)
-            since, end = max(made.begin, made.last - last // 2), min(end, rolled + last // 2)
+            goes_on = any(bar.end is None for of in course.phases.values() for bar in of)
+            rolled = end if goes_on else course.end
+            last = max(1, rolled - course.last)
+            since, end = max(course.begin, course.last - last // 2), min(end, rolled + last // 2)
         self.begin, self.end = since, max(end, since) + max(1, (end - since) // 20)
 
     def part(self, moment: float | None) -> float:
@@ -55,12 +55,13 @@ class Scale:
 
 
 def picture(
-    zone: str, made: Timeline, now: float, since: float | None = None
+    zone: str, course: Timeline, now: float, since: float | None = None
 ) -> Iterator[str]:
     """The lines of an SVG file: a row for each roll, then a row for each key in each set, of those
     that the page shows."""
-    at = Scale(made, now, since)
-    rows = {label: [*filter(at.shows, of)] for label, of in {**made.phases, **made.rows}.items()}
+    at = Scale(course, now, since)
+    every = {**course.phases, **course.rows}
+    rows = {label: [*filter(at.shows, of)] for label, of in every.items()}
     rows = {label: of for label, of in rows.items() if of}
     of_now = {"now": [Bar(now, now, word="now")]} if at.begin <= now <= at.end else {}
     yield from _head(zone, ROW * (len(rows) + 5), {**rows, **of_now}, at)

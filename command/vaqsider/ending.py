@@ -9,7 +9,7 @@ from .errors import BROKEN, DUE, OK, WARNING
 
 # What the status of a tick means.
 MEANS = {OK: "rests", DUE: "waits", WARNING: "needs a person", BROKEN: "broken"}
-# What an operator's command is told of, beside what needs a person for another reason.
+# The events for an operator's command, beside what needs a person for another reason.
 REFUSED, STUCK, PARENT_LACKS, RUN_LOW = "refused", "stuck", "parent lacks", "signatures run low"
 
 
@@ -35,7 +35,7 @@ class End:
     event: str = ""
 
 
-class Done(Exception):
+class EndOfTick(Exception):
     """Ends a tick."""
 
     def __init__(self, status: int, text: str, until: int | None = None, event: str = "") -> None:

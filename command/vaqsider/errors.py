@@ -33,7 +33,7 @@ class Failure(Exception):
         self.status = status
 
 
-class Silent(Failure):
+class NoAnswer(Failure):
     """Servers don't answer: they may later."""
 
     def __init__(self, text: str) -> None:

@@ -11,7 +11,7 @@ from keyset.lines import Line
 from keyset.rolls import TIMED
 
 from . import linting, plan, words
-from .ending import REFUSED, Clock, Done
+from .ending import REFUSED, Clock, EndOfTick
 from .errors import BROKEN, DUE, WARNING
 from .policies import Policy
 
@@ -19,15 +19,15 @@ if TYPE_CHECKING:
     from keyset import Status
 
 
-def expect_chain(told: Status) -> None:
-    if not told["chain"]["safe"]:
-        raise Done(BROKEN, "the chain of trust is broken: nothing is done until it is mended")
+def expect_chain(zone_status: Status) -> None:
+    if not zone_status["chain"]["safe"]:
+        raise EndOfTick(BROKEN, "the chain of trust is broken: nothing is done until it is mended")
 
 
 def expect_notes(notes: Notes) -> None:
     if not notes.lines:
         text = "is missing: it begins with 'before TTL TTL TTL'"
-        raise Done(WARNING, f"{notes.path} {text}")
+        raise EndOfTick(WARNING, f"{notes.path} {text}")
 
 
 def expect_clock(lines: list[str], notes: Notes, clock: Clock, policy: Policy) -> None:
@@ -38,7 +38,7 @@ def expect_clock(lines: list[str], notes: Notes, clock: Clock, policy: Policy) -
     if last > int(clock()):
         is_allowed = last <= clock() + 2 * policy.clock
         text = f"its last moment, {words.moment(last)}, lies ahead of the clock"
-        raise Done(DUE if is_allowed else WARNING, f"{text}: was that set back?")
+        raise EndOfTick(DUE if is_allowed else WARNING, f"{text}: was that set back?")
 
 
 def expect_able(start: str, lines: list[str], script: Path, zone: str, policy: Policy) -> None:
@@ -48,6 +48,6 @@ def expect_able(start: str, lines: list[str], script: Path, zone: str, policy: P
     able = linting.planned(policy, script, zone)
     try:
         plan.Plan(lines, int(moment), spans.ttls, spans.delays, able).roll(roll, old, new)
-    except plan.Unable as unable:
+    except plan.SignerLimit as unable:
         text = f"signer {policy.signer} can't do a {roll}: {unable.lacks}"
-        raise Done(WARNING, text, event=REFUSED) from None
+        raise EndOfTick(WARNING, text, event=REFUSED) from None

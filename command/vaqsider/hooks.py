@@ -12,7 +12,7 @@ from typing import Mapping, Sequence
 
 from .errors import UNAVAILABLE, Failure
 
-# How long a command may take, in seconds, and how much of what it says is told.
+# How long a command may take, in seconds, and how much of what it prints is said.
 WITHIN, MOST = 60, 200
 
 

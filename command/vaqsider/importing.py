@@ -22,14 +22,15 @@ from .ending import Clock
 from .errors import DUE, USAGE, WARNING, Failure
 from .looking import Look
 from .signers import Key
-from .sources import Asked, Found, Told, bind, dnst, knot, opendnssec, pdns
+from .sources import Inventory, SourceKey, SourceOptions, bind, dnst, knot, opendnssec, pdns
 
-SOURCES = {"bind": bind.tell, "knot": knot.tell, "pdns": pdns.tell, "pdns-api": pdns.tell_by_api,
-           "opendnssec": opendnssec.tell, "dnst": dnst.tell}
+SOURCES = {"bind": bind.inventory, "knot": knot.inventory, "pdns": pdns.inventory,
+           "pdns-api": pdns.inventory_by_api, "opendnssec": opendnssec.inventory,
+           "dnst": dnst.inventory}
 SUFFIX = ".import"
 
 
-class Seen(TypedDict):
+class FirstLook(TypedDict):
     """The look that is kept, and since when all was as it shows."""
 
     look: str
@@ -37,13 +38,13 @@ class Seen(TypedDict):
 
 
 @dataclass(frozen=True)
-class Came:
+class ImportResult:
     """What an import has done: the script with its lines, and the parameters of the zone's NSEC3,
     if it has that; or from when on to look again."""
 
     script: Path
     lines: list[str]
-    told: Told
+    inventory: Inventory
     again: int | None = None
     nsec3: str | None = None
 
@@ -61,14 +62,15 @@ class Came:
             yield f"the zone has NSEC3 by {self.nsec3}: another signer gives NSEC, unless you " \
                 f"say --nsec3 '{self.nsec3}', or set it there (with opt-out by the flag 1)"
         yield "what the other system has to do now, in this order:"
-        yield from (f"{number}. {text}" for number, text in enumerate(self.told.stops, start=1))
+        stops = enumerate(self.inventory.stops, start=1)
+        yield from (f"{number}. {text}" for number, text in stops)
 
     def as_json(self) -> dict[str, object]:
         return {"script": str(self.script), "lines": self.lines, "again": self.again,
-                "stops": self.told.stops, "nsec3": self.nsec3}
+                "stops": self.inventory.stops, "nsec3": self.nsec3}
 
 
-def come(args: Namespace, clock: Clock) -> Came:
+def come(args: Namespace, clock: Clock) -> ImportResult:
     """Brings the keys of a zone in."""
     zone = args.ZONE.rstrip(".") or "."
     script = Path(args.script or f"{file_name(zone)}.script")
@@ -77,36 +79,38 @@ def come(args: Namespace, clock: Clock) -> Came:
         raise Failure(f"{script}: File exists", USAGE)
     if args.before is None:
         raise Failure("--before: say the highest TTLs that servers gave", USAGE)
-    asked = Asked(args.source, args.store, lambda: _records(zone, args), args.stay)
-    told = SOURCES[args.SYSTEM](zone, asked)
-    if told.moving:
+    options = SourceOptions(args.source, args.store, lambda: _records(zone, args), args.stay)
+    inventory = SOURCES[args.SYSTEM](zone, options)
+    if inventory.moving:
         text = "it is rolling keys, so they don't come in yet"
-        raise Failure("\n".join([*told.moving, text]), WARNING)
-    if not (any(it.signs_keys for it in told.keys) and any(it.signs_zone for it in told.keys)):
+        raise Failure("\n".join([*inventory.moving, text]), WARNING)
+    keys = inventory.keys
+    if not (any(it.signs_keys for it in keys) and any(it.signs_zone for it in keys)):
         raise Failure(f"{args.SYSTEM} has no keys that sign {zone}", WARNING)
     folder = Path((args.keys or [script.parent])[0])
-    files = [(_of(it, zone, folder), it.is_csk) for it in told.keys]
-    return _looked(args, script, zone, files, told, clock)
+    files = [(_of(it, zone, folder), it.is_csk) for it in keys]
+    return _looked(args, script, zone, files, inventory, clock)
 
 
 def _looked(args: Namespace, script: Path, zone: str,
-            files: Sequence[tuple[keyfiles.KeyFile, bool]], told: Told, clock: Clock) -> Came:
+            files: Sequence[tuple[keyfiles.KeyFile, bool]], inventory: Inventory,
+            clock: Clock) -> ImportResult:
     """The script, if all has been the same for long enough; else the look is kept."""
     moment = int(clock())
     lines = _lines(zone, files, moment)
-    seen = state.agreed(lines, {file.path.parent for file, _ in files}, args, clock())
-    look, kept = _digest(seen.look, lines), script.with_suffix(SUFFIX)
+    zone_state = state.agreed(lines, {file.path.parent for file, _ in files}, args, clock())
+    look, kept = _digest(zone_state.look, lines), script.with_suffix(SUFFIX)
     before = _read(kept)
     since = before["since"] if before and before["look"] == look else moment
     again = since + lasts(max(args.before)) + 1
     if not args.unchanged and moment < again:
         _write(kept, {"look": look, "since": since})
-        return Came(script, [], told, again)
+        return ImportResult(script, [], inventory, again)
     nsec3 = _served(zone, args, "NSEC3PARAM")
     calling.begin(script, lines, args.before)
-    seen.keep(script, lines, Notes(script))
+    zone_state.keep(script, lines, Notes(script))
     kept.unlink(missing_ok=True)
-    return Came(script, lines, told, nsec3=next(iter(nsec3), None))
+    return ImportResult(script, lines, inventory, nsec3=next(iter(nsec3), None))
 
 
 def _lines(
@@ -129,44 +133,44 @@ def _digest(look: Look, lines: list[str]) -> str:
     return hashlib.sha256(json.dumps([seen, keys]).encode()).hexdigest()
 
 
-def _read(path: Path) -> Seen | None:
+def _read(path: Path) -> FirstLook | None:
     """The look that was kept. A file that isn't one counts as none."""
     try:
-        told = json.loads(path.read_text(encoding="utf-8"))
-        return told if type(told["since"]) is int and isinstance(told["look"], str) else None
+        look = json.loads(path.read_text(encoding="utf-8"))
+        return look if type(look["since"]) is int and isinstance(look["look"], str) else None
     except (FileNotFoundError, ValueError, TypeError, KeyError):
         return None
 
 
-def _write(path: Path, told: Seen) -> None:
+def _write(path: Path, look: FirstLook) -> None:
     draft = path.with_name(f".{path.name}.{os.getpid()}.draft")
     with open(draft, "x", encoding="ascii") as file:
-        file.write(json.dumps(told) + "\n")
+        file.write(json.dumps(look) + "\n")
         file.flush()
         os.fsync(file.fileno())
     place.put(draft, path)
 
 
-def _of(found: Found, zone: str, folder: Path) -> keyfiles.KeyFile:
+def _of(source_key: SourceKey, zone: str, folder: Path) -> keyfiles.KeyFile:
     """The key file of a key, with what its private half is called if that stays where it is."""
-    file = _file(found, zone, folder)
-    file.reference = None if file.private.is_file() else found.reference
+    file = _file(source_key, zone, folder)
+    file.reference = None if file.private.is_file() else source_key.reference
     return file
 
 
-def _file(found: Found, zone: str, folder: Path) -> keyfiles.KeyFile:
+def _file(source_key: SourceKey, zone: str, folder: Path) -> keyfiles.KeyFile:
     """The key file of a key. If its system has none, it is written, with its private half if that
     can come out."""
-    if found.path is not None:
-        return keyfiles.read(found.path)
-    key = found.key
+    if source_key.path is not None:
+        return keyfiles.read(source_key.path)
+    key = source_key.key
     path = folder / f"K{file_name(zone)}.+{key.algorithm:03}+{key.tag:05}.key"
     if path.exists():
         file = keyfiles.read(path)
         if Key.of(file.data) != key:
             raise Failure(f"{path} is another key: move it away", USAGE)
-    if found.private is not None and not path.with_suffix(".private").exists():
-        _new(path.with_suffix(".private"), found.private(), 0o600)
+    if source_key.private is not None and not path.with_suffix(".private").exists():
+        _new(path.with_suffix(".private"), source_key.private(), 0o600)
     if not path.exists():
         owner = "." if zone == "." else f"{zone}."
         _new(path, f"{owner} IN DNSKEY {key.data}\n", 0o644)

@@ -24,14 +24,14 @@ LINE = re.compile(
 
 
 @dataclass(frozen=True)
-class Unsigned:
+class UnsignedFile:
     """How the unsigned zone was when it was read: another size or time says that it has changed."""
 
     size: int = 0
     time: int = 0
 
     @classmethod
-    def of(cls, path: Path) -> Unsigned:
+    def of(cls, path: Path) -> UnsignedFile:
         try:
             found = path.stat()
         except OSError:
@@ -55,7 +55,7 @@ class Journal:
     def _append(self, *words: object) -> None:
         self._file.append(" ".join(map(str, words)))
 
-    def begin(self, now: float, unsigned: Unsigned) -> None:
+    def begin(self, now: float, unsigned: UnsignedFile) -> None:
         """An act begins. Until its end is noted, it is to be made once more. One that fails again
         and again is noted once."""
         if not (self.is_begun and self.unsigned == unsigned):
@@ -76,16 +76,16 @@ class Journal:
         return max((int(line[1]) for line in self.lines if line[0] == "done"), default=None)
 
     @property
-    def unsigned(self) -> Unsigned | None:
+    def unsigned(self) -> UnsignedFile | None:
         """The unsigned zone that the last act has read."""
         begun = [line for line in self.lines if line[0] == "begun"]
-        return Unsigned(int(begun[-1][2]), int(begun[-1][3])) if begun else None
+        return UnsignedFile(int(begun[-1][2]), int(begun[-1][3])) if begun else None
 
-    def tell(self, call: int, now: float) -> None:
+    def hand_over(self, call: int, now: float) -> None:
         """The DS set of a call is handed to the registrar."""
         self._append("told", call, int(now))
 
-    def is_told(self, call: int) -> bool:
+    def is_handed_over(self, call: int) -> bool:
         return any(line[:2] == ["told", str(call)] for line in self.lines)
 
     def leave(self, key: str, now: float) -> None:

@@ -24,7 +24,7 @@ RECORD = re.compile(
 CREATED = re.compile(r"^;\s*Created:\s*(\d{14})", re.MULTILINE)
 
 
-class Named(TypedDict):
+class KeyReference(TypedDict):
     """A key as a script has it: its reference names its file."""
 
     reference: str
@@ -93,7 +93,7 @@ def read(path: str | Path) -> KeyFile:
         raise Failure(f"{path or repr(path)}: no key file of BIND or ldns") from None
 
 
-def find(key: Named, folders: Sequence[str | Path]) -> KeyFile:
+def find(key: KeyReference, folders: Sequence[str | Path]) -> KeyFile:
     """The file of a key, which its reference names, with or without `.key`."""
     name = key["reference"].rpartition("/")[2].removesuffix(".key")
     for path in (Path(folder) / f"{name}.key" for folder in folders):

@@ -13,7 +13,7 @@ import dns.name
 from . import keyfiles, status
 from .errors import UNAVAILABLE, Failure
 from .signers import DELETION, Key, Sets
-from .zonefile import By, Row, Zone, parsed
+from .zonefile import KeyId, ZoneFile, ZoneRecord, parsed
 
 if TYPE_CHECKING:
     from keyset import Status
@@ -27,15 +27,15 @@ DELETE = {"CDS": ["0 0 0 00"], "CDNSKEY": [DELETION]}
 class KeySets:
     """The key files of all sets of a status."""
 
-    def __init__(self, told: Status, folders: Sequence[str | Path],
-                 taken: Iterable[Row] = ()) -> None:
-        self.published = status.sets_of(told)
-        self.origin = told["zone"].rstrip(".") + "."
+    def __init__(self, zone_status: Status, folders: Sequence[str | Path],
+                 taken: Iterable[ZoneRecord] = ()) -> None:
+        self.published = status.sets_of(zone_status)
+        self.origin = zone_status["zone"].rstrip(".") + "."
         names = {name for names in self.published.values() for name in names}
-        keys = [key for key in told["keys"] if key["reference"] in names]
+        keys = [key for key in zone_status["keys"] if key["reference"] in names]
         self.files = {key["reference"]: keyfiles.find(key, folders) for key in keys}
-        self.known = {By(key["algorithm"], key["tag"]) for key in told["keys"]}
-        self._told, self._folders = told["keys"], folders
+        self.known = {KeyId(key["algorithm"], key["tag"]) for key in zone_status["keys"]}
+        self._keys, self._folders = zone_status["keys"], folders
         # The signatures of the DNSKEY set that ceremonies have made.
         self.taken = list(taken)
         self.has_ds = {key["reference"] for key in keys if key["ds_visible"] is not None}
@@ -46,20 +46,20 @@ class KeySets:
     def every(self) -> dict[str, keyfiles.KeyFile]:
         """The files of all keys of the script, also of those that have left, if they are there."""
         found = dict(self.files)
-        for key in (key for key in self._told if key["reference"] not in found):
+        for key in (key for key in self._keys if key["reference"] not in found):
             with contextlib.suppress(Failure):
                 found[key["reference"]] = keyfiles.find(key, self._folders)
         return found
 
-    def by(self, names: Iterable[str]) -> frozenset[By]:
+    def by(self, names: Iterable[str]) -> frozenset[KeyId]:
         """These keys as signatures name them."""
-        return frozenset(By(self.files[name].algorithm, self.files[name].tag) for name in names)
+        return frozenset(KeyId(self.files[name].algorithm, self.files[name].tag) for name in names)
 
     def ttl(self) -> int:
         """The highest TTL in the key files of the DNSKEY set."""
         return max((file.ttl for file in self.of("dnskey")), default=0)
 
-    def dnskey(self, ttl: int) -> list[Row]:
+    def dnskey(self, ttl: int) -> list[ZoneRecord]:
         """The DNSKEY set that is due."""
         return self._rows("DNSKEY", ttl, [file.data for file in self.of("dnskey")])
 
@@ -70,7 +70,7 @@ class KeySets:
         made = (dns.dnssec.make_ds(name, key, DIGESTS[it]) for key in keys for it in digests)
         return list(map(str, made))
 
-    def cds(self, ttl: int, digests: Iterable[int]) -> dict[str, list[Row]]:
+    def cds(self, ttl: int, digests: Iterable[int]) -> dict[str, list[ZoneRecord]]:
         """CDS and CDNSKEY for the DS set that is due, or those that ask to remove it."""
         data = {"CDS": self.ds(digests), "CDNSKEY": [file.data for file in self.of("ds")]}
         of = data if self.published["ds"] else DELETE
@@ -84,13 +84,13 @@ class KeySets:
         cds = (of["ds"] or frozenset([Key(DELETION)])) if has_cds else frozenset()
         return Sets(of["dnskey"], of["signers"], of["zone"], cds)
 
-    def _rows(self, kind: str, ttl: int, data: list[str]) -> list[Row]:
-        return [Row(self.origin, ttl, kind, text) for text in data]
+    def _rows(self, kind: str, ttl: int, data: list[str]) -> list[ZoneRecord]:
+        return [ZoneRecord(self.origin, ttl, kind, text) for text in data]
 
-    def in_last(self, last: Zone | None) -> set[By]:
+    def in_last(self, last: ZoneFile | None) -> set[KeyId]:
         """The keys of the last version."""
         keys = last.data("DNSKEY") if last else ()
-        return {By(key.algorithm, dns.dnssec.key_id(key)) for key in keys}
+        return {KeyId(key.algorithm, dns.dnssec.key_id(key)) for key in keys}
 
     def is_away(self, name: str) -> bool:
         """Whether the private half of a key isn't here."""
@@ -114,13 +114,13 @@ class KeySets:
         able = has_ds or gets_it or signers
         return [name for name in able if not self.is_away(name)][:1]
 
-    def kept(self, last: Zone | None, now: float) -> dict[str, Row]:
+    def kept(self, last: ZoneFile | None, now: float) -> dict[str, ZoneRecord]:
         """The last signatures of the DNSKEY set by keys that are away. They have to be valid, and
         of the set that is due."""
         away = filter(self.is_away, self.published["signers"])
         return {name: self._last_by(name, last, now) for name in away}
 
-    def _last_by(self, name: str, last: Zone | None, now: float) -> Row:
+    def _last_by(self, name: str, last: ZoneFile | None, now: float) -> ZoneRecord:
         """The signature that is valid for the longest, of those of ceremonies too."""
         reason = f"{self.files[name].private} isn't here"
         valid = list(self._of_ceremonies(name, now))
@@ -131,13 +131,13 @@ class KeySets:
         by = self.by([name])
         for row in last.signatures("DNSKEY") if last is not None and has_signed else ():
             data = parsed("RRSIG", row.data)
-            if By(data.algorithm, data.key_tag) in by and now < data.expiration:
+            if KeyId(data.algorithm, data.key_tag) in by and now < data.expiration:
                 valid.append(row)
         if not valid:
             raise Failure(f"{reason}, and no signature of {name} is valid any more", UNAVAILABLE)
         return max(valid, key=lambda row: int(parsed("RRSIG", row.data).expiration))
 
-    def _of_ceremonies(self, name: str, now: float) -> Iterator[Row]:
+    def _of_ceremonies(self, name: str, now: float) -> Iterator[ZoneRecord]:
         """The signatures of the DNSKEY set that is due, by a key that is away, which are valid."""
         if not self.taken:
             return

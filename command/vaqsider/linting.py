@@ -19,7 +19,7 @@ from .check import Finding
 from .errors import OK, WARNING, Failure
 from .parsing import parsed
 from .policies import Policy
-from .signers import Planned
+from .signers import PlanSigner
 
 # When a roll of the lint begins: long after the moments of its keys.
 BEGIN, EXAMPLE = 1_000_000_000, "example.com"
@@ -76,18 +76,18 @@ def _lifetime(roll: str) -> str:
     return f"{ROLLS[roll].renews}-lifetime"
 
 
-def takes_of(policy: Policy, roll: str, spans: Spans, signer: Planned | None = None) -> int:
+def takes_of(policy: Policy, roll: str, spans: Spans, signer: PlanSigner | None = None) -> int:
     """How long a roll takes, from its start to its end. Each of its waits is longer by what a clock
     may be wrong."""
     kinds = policy.roles
     adds = [f"add-{kind} {kind}{age} - {policy.algorithm} {tag} 0 yes"
             for tag, (kind, age) in enumerate((kind, age) for kind in kinds for age in (1, 2))]
     olds, role = ",".join(f"{kind}1" for kind in kinds), ROLLS[roll].renews
-    made = plan.Plan([f"zone {EXAMPLE}", *adds], BEGIN, spans.ttls, spans.delays, signer)
-    made.roll(ALGORITHM_ROLL, "-", olds)
-    begun = made.moment
-    made.roll(roll, f"{role}1", f"{role}2")
-    return made.moment - begun + 4 * policy.clock
+    course = plan.Plan([f"zone {EXAMPLE}", *adds], BEGIN, spans.ttls, spans.delays, signer)
+    course.roll(ALGORITHM_ROLL, "-", olds)
+    begun = course.moment
+    course.roll(roll, f"{role}1", f"{role}2")
+    return course.moment - begun + 4 * policy.clock
 
 
 def _of_ttls(policy: Policy, spans: Spans) -> Iterator[Finding]:
@@ -137,7 +137,7 @@ def _of_signer(policy: Policy, spans: Spans) -> list[Finding]:
     for roll in policy.rolls:
         try:
             signer = planned(policy, f"{EXAMPLE}.script", EXAMPLE)
-            takes_of(policy, roll, spans, signer and Planned(signer.lacks, signer.folders))
+            takes_of(policy, roll, spans, signer and PlanSigner(signer.lacks, signer.folders))
         except Failure as failure:
             found.append(_wrong(f"signer {policy.signer}: {failure}"))
     found += (_wrong(f"{name}: {policy.signer} has that in its own settings")
@@ -145,7 +145,7 @@ def _of_signer(policy: Policy, spans: Spans) -> list[Finding]:
     return found
 
 
-def planned(policy: Policy, script: str | Path, zone: str) -> Planned | None:
+def planned(policy: Policy, script: str | Path, zone: str) -> PlanSigner | None:
     """The policy's signer, for a plan."""
     return signers.planned(_args_of_act(policy, script), zone)
 

@@ -8,8 +8,8 @@ from dataclasses import dataclass
 
 from . import asking, comparing
 from .asking import Answer, Server
-from .comparing import TYPES, Due
-from .errors import Silent
+from .comparing import TYPES, DueSets
+from .errors import NoAnswer
 
 
 @dataclass(frozen=True, order=True)
@@ -54,7 +54,7 @@ class Places:
         if not servers:
             of, option = ("the parent of ", "parent-") if is_parent else ("", "")
             text = f"no servers of {of}{zone} found: name them by --{option}server"
-            raise Silent(text)
+            raise NoAnswer(text)
         return servers
 
 
@@ -62,7 +62,7 @@ class Places:
 class Look:
     """What all servers have answered, by kind, type and server."""
 
-    due: Due
+    due: DueSets
     now: float
     answers: dict[tuple[str, str, Server], Answer]
 
@@ -100,7 +100,7 @@ class Look:
         return list(map(str, sorted(asked)))
 
 
-def look(due: Due, kinds: Iterable[str], places: Places, now: float) -> Look:
+def look(due: DueSets, kinds: Iterable[str], places: Places, now: float) -> Look:
     """Asks all servers for the sets of these kinds: first those of the zone side by side, then
     those of the parent. So a DS set that is seen was there after the last CDS that a parent could
     read."""

@@ -17,7 +17,7 @@ from . import place
 
 
 @dataclass(frozen=True)
-class Kept:
+class LastLook:
     """What is kept of a look: its moment, and how many lines the script had; how many servers
     lacked something, what they lacked, and where there was no chain; until when the first signature
     to expire is valid, and from when on a quarter of its time is left."""
@@ -39,13 +39,13 @@ def path_of(script: str | Path) -> Path:
     return notes.path_of(script).with_suffix(".look")
 
 
-def keep(script: str | Path, kept: Kept) -> None:
+def keep(script: str | Path, look: LastLook) -> None:
     """Writes it, in the place of an older one: whole, or not at all."""
     path = path_of(script)
     draft = path.with_name(f".{path.name}.draft")
     with _alone(draft) as file:
         file.truncate(0)
-        file.write(f"{json.dumps(asdict(kept))}\n".encode("ascii"))
+        file.write(f"{json.dumps(asdict(look))}\n".encode("ascii"))
         file.flush()
         os.fsync(file.fileno())
         place.put(draft, path)
@@ -64,15 +64,15 @@ def _alone(draft: Path) -> BinaryIO:
         file.close()
 
 
-def read(script: str | Path) -> Kept | None:
+def read(script: str | Path) -> LastLook | None:
     """The last look, or None if there was none. A file that isn't one counts as none."""
     try:
-        kept = Kept(**json.loads(path_of(script).read_text(encoding="utf-8")))
+        look = LastLook(**json.loads(path_of(script).read_text(encoding="utf-8")))
     except (FileNotFoundError, ValueError, TypeError, RecursionError):
         return None
     is_right = (
-        all(isinstance(it, int) for it in (kept.moment, kept.lines, kept.servers))
-        and [type(it) for it in (kept.until, kept.renew)] in ([int, int], [type(None)] * 2)
-        and all(isinstance(it, list) for it in (kept.lacking, kept.broken))
+        all(isinstance(it, int) for it in (look.moment, look.lines, look.servers))
+        and [type(it) for it in (look.until, look.renew)] in ([int, int], [type(None)] * 2)
+        and all(isinstance(it, list) for it in (look.lacking, look.broken))
     )
-    return kept if is_right else None
+    return look if is_right else None

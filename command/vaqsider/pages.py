@@ -23,18 +23,18 @@ STYLE = (":root{color-scheme:light dark}body{font:16px sans-serif;margin:1.5em}"
          "@media(prefers-color-scheme:dark){.wrong{background:#622}}")
 
 
-def page(found: Iterable[dict[str, Any]], now: float) -> Iterator[str]:
+def page(rows: Iterable[dict[str, Any]], now: float) -> Iterator[str]:
     """The lines of the page, for the zones as `zones` finds them."""
-    found = list(found)
+    rows = list(rows)
     yield '<!DOCTYPE html><html lang="en"><head><meta charset="utf-8"><title>Zones</title>'
     yield '<meta name="viewport" content="width=device-width">'
     yield f'<meta http-equiv="Content-Security-Policy" content="{POLICY}">'
     yield f"<style>{STYLE}</style></head><body><h1>Zones</h1>"
-    yield f"<p>{len(found)} zones, at {words.moment(int(now))}.</p><div><table>"
+    yield f"<p>{len(rows)} zones, at {words.moment(int(now))}.</p><div><table>"
     yield f"<tr>{''.join(f'<th>{it}</th>' for it in HEAD)}</tr>"
-    yield from (_row(number, zone) for number, zone in enumerate(found))
+    yield from (_row(number, zone) for number, zone in enumerate(rows))
     yield "</table></div>"
-    for number, zone in enumerate(found):
+    for number, zone in enumerate(rows):
         yield f'<h2 id="z{number}">{escape(_text(zone["zone"]))}</h2>'
         yield "<div>"
         yield from _picture(zone, now)
@@ -60,7 +60,8 @@ def _row(number: int, zone: dict[str, Any]) -> str:
 def _picture(zone: dict[str, Any], now: float) -> Iterator[str]:
     path = Path(zone["script"])
     try:
-        lines, told = status.read(path, now)
-        yield from draw.picture(told["zone"], timeline.timeline(lines, Notes(path).lines), now)
+        lines, zone_status = status.read(path, now)
+        course = timeline.timeline(lines, Notes(path).lines)
+        yield from draw.picture(zone_status["zone"], course, now)
     except Exception as error:
         yield f"<p>{escape(_text(failure_of(error)))}</p>"

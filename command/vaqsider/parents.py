@@ -12,7 +12,7 @@ from typing import TYPE_CHECKING
 from keyset import Notes
 
 from . import comparing, looking, status
-from .errors import Silent
+from .errors import NoAnswer
 from .history import History
 from .looking import Look, Places
 
@@ -25,7 +25,7 @@ ASKED = "UpdateDsRrset"
 
 
 @dataclass(frozen=True)
-class Version:
+class DsVersion:
     """A DS set that was published, by notes: with the sets after this call."""
 
     call: int
@@ -33,55 +33,57 @@ class Version:
 
 
 @dataclass(frozen=True)
-class Noted:
+class DsNotes:
     """What notes have of DS sets: the highest TTL before the first call, and the versions."""
 
     before: int
-    versions: list[Version]
+    versions: list[DsVersion]
 
     @classmethod
-    def of(cls, notes: Notes) -> Noted:
+    def of(cls, notes: Notes) -> DsNotes:
         words = [line.split(" ") for line in notes.lines]
         of_ds = [it for it in words if it[:2] == ["published", "ds"]]
-        return cls(int(words[0][1]), [Version(int(it[2]), int(it[3])) for it in of_ds])
+        return cls(int(words[0][1]), [DsVersion(int(it[2]), int(it[3])) for it in of_ds])
 
-    def last(self, below: float) -> Version:
+    def last(self, below: float) -> DsVersion:
         """The last version of before this call."""
         of = [it for it in self.versions if it.call < below]
-        return of[-1] if of else Version(0, self.before)
+        return of[-1] if of else DsVersion(0, self.before)
 
 
-def rises(noted: Noted, step: int | None, calls: int, old: int, new: int) -> Iterator[Version]:
+def rises(
+    ds_notes: DsNotes, step: int | None, calls: int, old: int, new: int
+) -> Iterator[DsVersion]:
     """The versions to note, if sets were seen with these highest TTLs: those that are due, and
     others. A step changes the DS set, and counts from this call on; without one nothing changes
     now, and `calls` have been made."""
-    last = noted.last(math.inf)
+    last = ds_notes.last(math.inf)
     highest = max(old, new)
     if step is None or last.call < step:
         # All that servers give is of before what comes next.
         if highest > last.ttl:
-            yield Version(last.call or (calls if step is None else step - 1), highest)
-    elif old > noted.last(step).ttl:
-        yield Version(step - 1, old)
-        yield Version(last.call, max(last.ttl, new))
+            yield DsVersion(last.call or (calls if step is None else step - 1), highest)
+    elif old > ds_notes.last(step).ttl:
+        yield DsVersion(step - 1, old)
+        yield DsVersion(last.call, max(last.ttl, new))
     elif new > last.ttl:
-        yield Version(last.call, new)
-    published = [it for it in noted.versions if step is not None and it.call >= step]
+        yield DsVersion(last.call, new)
+    published = [it for it in ds_notes.versions if step is not None and it.call >= step]
     if step is not None and published and last.call < step:
         # A crash between the two lines above.
-        yield Version(published[-1].call, max(published[-1].ttl, new))
+        yield DsVersion(published[-1].call, max(published[-1].ttl, new))
 
 
-def note(notes: Notes, lines: list[str], told: Status, look: Look) -> None:
+def note(notes: Notes, lines: list[str], zone_status: Status, look: Look) -> None:
     """Notes the TTLs of the DS sets in a look that are above the noted ones."""
-    step = _step(lines) if status.is_asked(told, ASKED) else None
+    step = _step(lines) if status.is_asked(zone_status, ASKED) else None
     old = new = 0
     for (kind, type_, _), answer in look.answers.items():
         if kind == "ds" and not answer.fault:
             is_due = not comparing.lacks(look.due, type_, answer, look.now)
             old, new = (old, max(new, answer.ttl)) if is_due else (max(old, answer.ttl), new)
     calls = len(lines) - 1
-    for version in rises(Noted.of(notes), step, calls, old, new) if calls else ():
+    for version in rises(DsNotes.of(notes), step, calls, old, new) if calls else ():
         notes.append(f"published ds {version.call} {version.ttl} {int(look.now)}")
 
 
@@ -91,19 +93,19 @@ def _step(lines: list[str]) -> int:
     return asked[-1]
 
 
-def before_step(args: Namespace, lines: list[str], told: Status, clock: Clock) -> None:
+def before_step(args: Namespace, lines: list[str], zone_status: Status, clock: Clock) -> None:
     """Before a change of the DS set is published for the first time: notes the TTL of the set that
     is there. After that caches may keep it for so long, and nobody could see it any more."""
     notes = Notes(args.SCRIPT)
     if not notes.lines:
         return
-    if Noted.of(notes).last(math.inf).call >= _step(lines):
+    if DsNotes.of(notes).last(math.inf).call >= _step(lines):
         return
-    due = comparing.Due.of(told, comparing.folders_of(args))
+    due = comparing.DueSets.of(zone_status, comparing.folders_of(args))
     look = looking.look(due, ["ds"], Places.of_parent(due.zone, args), clock())
     silent = [f"{server}: {answer.fault}" for (_, _, server), answer in look.answers.items()
               if answer.fault]
     if silent and not args.although:
         text = "the TTL of the present DS set has to be noted first, unless you say --although"
-        raise Silent(f"{'; '.join(silent)}: {text}")
-    note(notes, lines, told, look)
+        raise NoAnswer(f"{'; '.join(silent)}: {text}")
+    note(notes, lines, zone_status, look)

@@ -18,7 +18,7 @@ AS_IT_IS = argparse.RawDescriptionHelpFormatter
 JSON = Argument("--json", action="store_true", help="print JSON")
 
 
-class Version(argparse.Action):
+class VersionOption(argparse.Action):
     """Prints the release of the key set."""
 
     def __call__(self, *_: object) -> None:
@@ -35,12 +35,12 @@ class Parser(argparse.ArgumentParser):
         self.exit(USAGE, f"{self.prog}: {message}; '{self.prog} --help' shows what it takes\n")
 
 
-def _of_word(word: Word, made: Parser) -> Parser:
+def _of_word(word: Word, parser: Parser) -> Parser:
     """The parser of a word, with what it takes."""
-    made.description, made.formatter_class = word.description, AS_IT_IS
+    parser.description, parser.formatter_class = word.description, AS_IT_IS
     for argument in (*word.arguments, JSON):
-        argument.add_to(made)
-    return made
+        argument.add_to(parser)
+    return parser
 
 
 def _of_all() -> Parser:
@@ -52,7 +52,7 @@ def _of_all() -> Parser:
         epilog=_epilog(),
         formatter_class=AS_IT_IS,
     )
-    top.add_argument("--version", action=Version, nargs=0, help="print the version")
+    top.add_argument("--version", action=VersionOption, nargs=0, help="print the version")
     words = top.add_subparsers(dest="word", required=True, metavar="WORD", parser_class=Parser)
     for word in map(parsers.word, parsers.MODULES):
         _of_word(word, words.add_parser(word.name, help=word.says))
@@ -87,8 +87,8 @@ def _read(given: Sequence[str]) -> tuple[Namespace, list[str]]:
     if not given or given[0] not in parsers.MODULES:
         return _of_all().parse_known_args(given)
     word = parsers.word(given[0])
-    made = _of_word(word, Parser(prog=f"{PROGRAM} {word.name}"))
-    return made.parse_known_args(given[1:], Namespace(word=word.name))
+    parser = _of_word(word, Parser(prog=f"{PROGRAM} {word.name}"))
+    return parser.parse_known_args(given[1:], Namespace(word=word.name))
 
 
 def _refuse(why: str) -> NoReturn:

@@ -20,13 +20,13 @@ from .signers import DELETION, Key, Sets
 if TYPE_CHECKING:
     import keyset
 
-    from .signers import Planned
+    from .signers import PlanSigner
 
 # Seconds, of DS sets, DNSKEY sets and the rest of the zone, if neither notes nor options say them.
 TTLS, DELAYS = (86400, 3600, 3600), (86400, 600, 600)
 
 
-class Unable(Failure):
+class SignerLimit(Failure):
     """A signer can't do what a line asks for."""
 
     def __init__(self, line: str, lacks: list[str]) -> None:
@@ -52,7 +52,7 @@ class Plan:
     steps: list[Step]
 
     def __init__(self, lines: Iterable[str], moment: int, ttls: Mapping[str, int],
-                 delays: Mapping[str, int], signer: Planned | None = None) -> None:
+                 delays: Mapping[str, int], signer: PlanSigner | None = None) -> None:
         # (A line that was refused has no part in what comes.)
         script = "".join(f"{line}\n" for line in lines)
         self.keys = KeySet.resume(script, allow_refused=True)
@@ -82,10 +82,10 @@ class Plan:
         })
         return words.kinds_of(actions)
 
-    def _expect(self, signer: Planned, line: str, actions: Collection[Action],
+    def _expect(self, signer: PlanSigner, line: str, actions: Collection[Action],
                 published: Mapping[str, Iterable[str]]) -> None:
         """The signer can do what a call asks for."""
-        keys = {told.reference: _key(told, signer.folders) for told in self.keys.keys().values()}
+        keys = {key.reference: _key(key, signer.folders) for key in self.keys.keys().values()}
         of = {kind: frozenset(keys[name] for name in names) for kind, names in published.items()}
         cds = of["ds"] or frozenset([Key(DELETION)])
         cds = cds if Action.CREATE_CDS_RRSET in actions else frozenset()
@@ -94,7 +94,7 @@ class Plan:
         if set(published["dnskey"]) != self.present:
             lacks += signer.away(wanted, self.moment)
         if lacks:
-            raise Unable(line, lacks)
+            raise SignerLimit(line, lacks)
 
     def spread(self, kinds: Collection[str]) -> None:
         """Goes on until all servers have what was asked, and CDS is out after a DS set."""
@@ -117,29 +117,29 @@ class Plan:
             self.call(f"delete {reference}")
 
 
-def _key(told: keyset.Key, folders: Sequence[str | Path]) -> Key:
+def _key(known: keyset.Key, folders: Sequence[str | Path]) -> Key:
     """A key for a signer: by its file, or else by what the script says of it."""
     try:
-        file = keyfiles.find({"reference": told.reference, "tag": told.tag,
-                              "algorithm": told.algorithm, "private": None}, folders)
-        return Key.of(file.data, told.reference, file)
+        file = keyfiles.find({"reference": known.reference, "tag": known.tag,
+                              "algorithm": known.algorithm, "private": None}, folders)
+        return Key.of(file.data, known.reference, file)
     except Failure:
-        flags = ZONE_KEY | (SEP if told.kind in ("ksk", "csk") else 0)
-        key = base64.b64encode(told.reference.encode()).decode()
-        return Key(f"{flags} 3 {told.algorithm} {key}", told.reference)
+        flags = ZONE_KEY | (SEP if known.kind in ("ksk", "csk") else 0)
+        key = base64.b64encode(known.reference.encode()).decode()
+        return Key(f"{flags} 3 {known.algorithm} {key}", known.reference)
 
 
 def assumed(script: str | Path, ttls: Sequence[int] | None, delays: Sequence[int] | None,
             now: float) -> tuple[dict[str, int], dict[str, int]]:
     """TTLs and delays by kind: the given ones, else the noted ones, else the usual ones."""
     seen = Seen(Notes(script).lines, now)
-    noted = {kind: held[-1] for kind, held in seen.ttls.items()}
-    return _by_kind(ttls, TTLS, noted), _by_kind(delays, DELAYS, seen.delays)
+    of_notes = {kind: held[-1] for kind, held in seen.ttls.items()}
+    return _by_kind(ttls, TTLS, of_notes), _by_kind(delays, DELAYS, seen.delays)
 
 
 def _by_kind(given: Sequence[int] | None, usual: Sequence[int],
-             noted: Mapping[str, int]) -> dict[str, int]:
-    return dict(zip(KINDS, given)) if given else {**dict(zip(KINDS, usual)), **noted}
+             of_notes: Mapping[str, int]) -> dict[str, int]:
+    return dict(zip(KINDS, given)) if given else {**dict(zip(KINDS, usual)), **of_notes}
 
 
 def as_text(steps: Iterable[Step]) -> Iterator[str]:

@@ -9,11 +9,11 @@ from typing import Iterable, Iterator
 from keyset.notes import KINDS, Seen, to_report
 
 from . import advice, plan, words
-from .advice import Said
+from .advice import Advice
 from .errors import UNAVAILABLE, Failure
 from .plan import Step
 from .policies import Policy
-from .signers import Planned
+from .signers import PlanSigner
 
 # A course of so many deeds at one moment goes round in circles.
 MOST_AT_ONCE = 1000
@@ -32,9 +32,9 @@ class Play:
     ttls: dict[str, int]
     delays: dict[str, int]
     once: dict[str, int] = field(default_factory=dict)
-    signer: Planned | None = None
+    signer: PlanSigner | None = None
     there: dict[str, int] = field(default_factory=dict)
-    made: int = 0
+    key_count: int = 0
 
     def __post_init__(self) -> None:
         self.course = plan.Plan(
@@ -60,7 +60,7 @@ class Play:
                 raise Failure(f"it stands still: {said.line}", UNAVAILABLE)
         return [step for step in self.steps if step["moment"] < end]
 
-    def _do(self, said: Said) -> None:
+    def _do(self, said: Advice) -> None:
         if said.word == advice.CALL:
             self._call(said.line)
         elif said.word == advice.KEY:
@@ -88,10 +88,10 @@ class Play:
 
     def _key(self, role: str, algorithm: str) -> str:
         """The line of a key that is made now. Its tag is a number that no other has."""
-        self.made += 1
-        tags = {told.tag for told in self.course.keys.keys().values()}
-        tag = next(it for it in range(self.made, 65536) if it not in tags)
-        name = f"{role}-{words.utc(self.moment, '%Y-%m-%d')}-{self.made}"
+        self.key_count += 1
+        tags = {key.tag for key in self.course.keys.keys().values()}
+        tag = next(it for it in range(self.key_count, 65536) if it not in tags)
+        name = f"{role}-{words.utc(self.moment, '%Y-%m-%d')}-{self.key_count}"
         return f"add-{role} {name} - {algorithm} {tag} {self.moment} yes"
 
     def _publish(self) -> None:

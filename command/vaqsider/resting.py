@@ -36,10 +36,10 @@ class Rest:
         is_before = self.moment <= now and (self.until is None or now < self.until)
         is_own = str(script) in self.files
         return self.status == 0 and is_before and is_own and all(
-            seen(Path(path)) == was for path, was in self.files.items())
+            stamp(Path(path)) == was for path, was in self.files.items())
 
 
-def seen(path: Path) -> list[int] | None:
+def stamp(path: Path) -> list[int] | None:
     """How a file is; another one has another number, size or time."""
     try:
         found = os.stat(path)
@@ -76,4 +76,4 @@ def keep(script: str | Path, rest: Rest) -> None:
 def files(script: str | Path, others: Iterable[Path]) -> dict[str, list[int] | None]:
     """How the files are that a tick goes by: those beside the script, and others."""
     own = [Path(script), *(path_of(script).with_suffix(it) for it in (".notes", ".tick"))]
-    return {str(path): seen(path) for path in [*own, *others]}
+    return {str(path): stamp(path) for path in [*own, *others]}

@@ -28,14 +28,14 @@ from .plan import Step
 from .playing import Play
 from .policies import Policy
 
-Told = tuple[int, Iterator[str], object]
+Outcome = tuple[int, Iterator[str], object]
 # How a question is answered with yes.
 YES = ("y", "yes")
 # A roll is shown to its end, if that comes within this time.
 SHOWN = 90 * policies.DAY
 
 
-def roll(args: Namespace, clock: Clock) -> Told:
+def roll(args: Namespace, clock: Clock) -> Outcome:
     """Shows a roll, asks, and notes that it is wanted. The next tick begins it."""
     policy = policies.read(args.SCRIPT)
     of = _roll_of(policy, args.ROLE)
@@ -92,9 +92,10 @@ def _expect(key: str | None, start: str) -> None:
 def _play(
     script: str, policy: Policy, now: int, once: dict[str, int], add: list[str]
 ) -> Play:
-    lines, told = status.read(script, now)
+    lines, zone_status = status.read(script, now)
     spans, notes = Spans.of(script, now), Notes(script).lines
-    asked, signer = {**journal.once_of(script), **once}, planned(policy, script, told["zone"])
+    asked = {**journal.once_of(script), **once}
+    signer = planned(policy, script, zone_status["zone"])
     return Play(policy, [*lines, *add], notes, now, spans.ttls, spans.delays, asked, signer)
 
 
@@ -121,7 +122,7 @@ def _agreed(steps: list[Step]) -> bool:
     return sys.stdin.readline().strip().lower() in YES
 
 
-def next_(args: Namespace, clock: Clock) -> Told:
+def next_(args: Namespace, clock: Clock) -> Outcome:
     """Makes the one thing that comes next, or only says it."""
     if not args.dry_run:
         end = ticks.tick(args.SCRIPT, clock, _log(args), most=1)

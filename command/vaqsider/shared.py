@@ -66,7 +66,7 @@ def _unreachable(error: psycopg.Error) -> Failure:
     return Failure(f"the store fails: {' '.join(str(error).split())}", UNAVAILABLE)
 
 
-class Store:
+class SharedStore:
     """The zones of a database. One connection keeps the zone that is ticked, and another one
     commits each line at once."""
 
@@ -77,7 +77,7 @@ class Store:
         except psycopg.Error as error:
             raise _unreachable(error) from None
 
-    def __enter__(self) -> Store:
+    def __enter__(self) -> SharedStore:
         return self
 
     def __exit__(self, *_: object) -> None:
@@ -131,7 +131,7 @@ class Store:
 
     # ---- zones
 
-    def next(self, before: int, folder: Path, made: Ticks) -> tuple[str, End] | None:
+    def next(self, before: int, folder: Path, zone_ticks: Ticks) -> tuple[str, End] | None:
         """Ticks the zone that waits longest of those that were not ticked since a moment, and that
         no other machine has. None if there is none."""
         with self.taking.transaction():
@@ -139,19 +139,19 @@ class Store:
             if taken is None:
                 return None
             zone, policy = taken
-            end = self._tick(zone, policy, folder, made)
-            execute(self.taking, LEAVE, int(made.clock()) + 1, end.status, end.text, zone)
+            end = self._tick(zone, policy, folder, zone_ticks)
+            execute(self.taking, LEAVE, int(zone_ticks.clock()) + 1, end.status, end.text, zone)
             return zone, end
 
-    def _tick(self, zone: str, policy: str, folder: Path, made: Ticks) -> End:
+    def _tick(self, zone: str, policy: str, folder: Path, zone_ticks: Ticks) -> End:
         try:
             self.bring(zone, folder, policy)
         except Locked as error:
-            return made.ended(zone, End(DUE, str(error)))
+            return zone_ticks.ended(zone, End(DUE, str(error)))
         except Exception as error:
-            return made.ended(zone, End(*ticks.fault_of(error)))
+            return zone_ticks.ended(zone, End(*ticks.fault_of(error)))
         with self.witnessing(zone, folder):
-            return made.tick(folder / f"{zone}.script")
+            return zone_ticks.tick(folder / f"{zone}.script")
 
     # ---- copies
 
@@ -186,13 +186,13 @@ def is_url(text: str) -> bool:
     return text.startswith(("postgresql://", "postgres://"))
 
 
-def run(url: str, folder: Path, jobs: int, made: Ticks) -> dict[str, End]:
+def run(url: str, folder: Path, jobs: int, zone_ticks: Ticks) -> dict[str, End]:
     """Ticks all zones of a store that no other machine ticks now. How each ended."""
-    before, ends = int(made.clock()) + 1, {}
+    before, ends = int(zone_ticks.clock()) + 1, {}
 
     def one(_: int) -> None:
-        with Store(url) as store:
-            while found := store.next(before, folder, made):
+        with SharedStore(url) as store:
+            while found := store.next(before, folder, zone_ticks):
                 ends[found[0]] = found[1]
 
     with ThreadPoolExecutor(jobs) as pool:
@@ -204,7 +204,7 @@ def run(url: str, folder: Path, jobs: int, made: Ticks) -> dict[str, End]:
 def held(url: str, place: Path) -> Iterator[None]:
     """Meanwhile a script is that of the store, and no other machine has it. To a folder all zones
     of the store are copied first."""
-    with Store(url) as store:
+    with SharedStore(url) as store:
         if place.is_dir():
             store.give_out(place)
             yield
@@ -222,7 +222,7 @@ def copy(source: str, target: str) -> list[str]:
     """Copies zones between a folder and a store. Gives their names."""
     if is_url(source) == is_url(target):
         raise Failure("one of both is a folder, the other one postgresql://..")
-    with Store(source if is_url(source) else target) as store:
+    with SharedStore(source if is_url(source) else target) as store:
         store.prepare()
         if is_url(source):
             return store.give_out(Path(target))

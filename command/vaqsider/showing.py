@@ -15,7 +15,7 @@ from .playing import Play
 from .subjects import Subject, subjects
 
 Clock = Callable[[], float]
-Told = tuple[int, Iterator[str], list[Step]]
+Outcome = tuple[int, Iterator[str], list[Step]]
 YEAR = 365 * policies.DAY
 # A policy file without a zone is shown of a zone with this name, which has no key yet.
 EXAMPLE = "example.com"
@@ -31,7 +31,7 @@ def play_of(subject: Subject, now: float) -> Play:
     return Play(subject.policy, lines, notes, int(now), spans.ttls, spans.delays)
 
 
-def show(args: Namespace, clock: Clock) -> Told:
+def show(args: Namespace, clock: Clock) -> Outcome:
     """Each policy with the calls of the time to come."""
     shown = [(it, play_of(it, clock())) for it in subjects(args.SCRIPT)]
     end = int(clock()) + YEAR if args.until is None else args.until

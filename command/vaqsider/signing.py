@@ -78,7 +78,7 @@ def verifying(origin: str, has_opt_out: bool) -> list[str]:
 def run(words: list[str], within: Path | None = None,
         stdout: IO[bytes] | int = subprocess.PIPE) -> None:
     """Runs a program. If it fails, the failure has its words; else standard error has them, unless
-    its output goes into a file: what reads a zone then tells how it went."""
+    its output goes into a file: what reads a zone then says how it went."""
     try:
         done = subprocess.run(words, cwd=within, stdin=subprocess.DEVNULL, stdout=stdout,
                               stderr=subprocess.PIPE)

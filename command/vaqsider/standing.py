@@ -13,7 +13,7 @@ from . import status
 from .arguments import file_name
 from .policies import Policy
 from .signers import Sets
-from .zonefile import By, NotFull, covered, parsed, rows
+from .zonefile import KeyId, PartialRecord, covered, parsed, rows
 
 if TYPE_CHECKING:
     from dns.rdtypes.ANY.DNSKEY import DNSKEY
@@ -26,11 +26,11 @@ class Standing:
     """What the signed file has at its top. `until` is when its first signature expires, other than
     those of the DNSKEY set, which are in `by_key`."""
 
-    keys: set[By] = field(default_factory=set)
-    signed: dict[str, set[By]] = field(default_factory=dict)
+    keys: set[KeyId] = field(default_factory=set)
+    signed: dict[str, set[KeyId]] = field(default_factory=dict)
     has_cds: bool = False
     until: int | None = None
-    by_key: dict[By, int] = field(default_factory=dict)
+    by_key: dict[KeyId, int] = field(default_factory=dict)
 
     @classmethod
     def of(cls, path: Path, zone: str) -> Standing | None:
@@ -42,10 +42,10 @@ class Standing:
                     made._sign(row.data, row.owner.lower() == top)
                 elif row.owner.lower() == top and row.kind == "DNSKEY":
                     key = parsed("DNSKEY", row.data)
-                    made.keys.add(By(key.algorithm, _tag(key)))
+                    made.keys.add(KeyId(key.algorithm, _tag(key)))
                 elif row.owner.lower() == top and row.kind in ("CDS", "CDNSKEY"):
                     made.has_cds = True
-        except (NotFull, OSError, ValueError, IndexError):
+        except (PartialRecord, OSError, ValueError, IndexError):
             return None
         return made
 
@@ -53,7 +53,7 @@ class Standing:
     def of_sets(cls, sets: Sets | None) -> Standing:
         """What a signer that runs has in its database. It renews signatures by itself."""
         sets = sets or Sets()
-        keys, signers, zone = ({By(key.algorithm, key.tag) for key in of}
+        keys, signers, zone = ({KeyId(key.algorithm, key.tag) for key in of}
                                for of in (sets.dnskey, sets.signers, sets.zone))
         return cls(keys, {"DNSKEY": signers, "SOA": zone}, bool(sets.cds))
 
@@ -67,16 +67,17 @@ class Standing:
         else:
             self.until = end if self.until is None else min(self.until, end)
 
-    def expires(self, away: set[By]) -> int | None:
+    def expires(self, away: set[KeyId]) -> int | None:
         """When its first signature expires, without those of the DNSKEY set by keys that are away:
         nobody can renew these here."""
         ends = [end for by, end in self.by_key.items() if by not in away]
         return min([*ends, *([] if self.until is None else [self.until])], default=None)
 
-    def is_due(self, told: Status) -> bool:
+    def is_due(self, zone_status: Status) -> bool:
         """Whether its sets are those that a status asks for. CDS is another question."""
-        of = {key["reference"]: By(key["algorithm"], key["tag"]) for key in told["keys"]}
-        due = {kind: {of[name] for name in names} for kind, names in status.sets_of(told).items()}
+        of = {key["reference"]: KeyId(key["algorithm"], key["tag"]) for key in zone_status["keys"]}
+        sets = status.sets_of(zone_status)
+        due = {kind: {of[name] for name in names} for kind, names in sets.items()}
         signers = self.signed.get("DNSKEY", set()), self.signed.get("SOA", set())
         return (self.keys, *signers) == (due["dnskey"], due["signers"], due["zone"])
 
@@ -88,13 +89,13 @@ def _tag(key: DNSKEY) -> int:
 
 
 @dataclass(frozen=True)
-class Places:
+class ZonePaths:
     """Where the unsigned zone of a script is, and the signed one, as an act has them."""
 
     unsigned: Path
     signed: Path
 
     @classmethod
-    def of(cls, script: str | Path, zone: str, policy: Policy) -> Places:
+    def of(cls, script: str | Path, zone: str, policy: Policy) -> ZonePaths:
         unsigned = Path(policy.zone_file or Path(script).parent / f"{file_name(zone)}.zone")
         return cls(unsigned, Path(policy.out or f"{unsigned}.signed"))

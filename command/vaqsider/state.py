@@ -14,7 +14,7 @@ from keyset import Notes
 
 from . import chains, comparing, looking, looks, parents, status, words
 from .asking import Server, dns
-from .comparing import Due
+from .comparing import DueSets
 from .errors import BROKEN, DUE, OK, WARNING, Failure
 from .looking import Lack, Look, Places
 
@@ -27,7 +27,7 @@ RIGHT, LACKS, OUT, IN = "right", "lacks", "out", "in"
 
 
 @dataclass(frozen=True)
-class Row:
+class ServerRow:
     """What one server gives: a set is right or lacks something. What isn't asked of it is None."""
 
     server: str
@@ -46,9 +46,9 @@ class Row:
 class State:
     """A look at all servers, with its rows, what they lack, and where there is no chain."""
 
-    told: Status
+    zone_status: Status
     look: Look
-    rows: list[Row]
+    rows: list[ServerRow]
     lacking: list[Lack]
     broken: list[str]
 
@@ -75,30 +75,30 @@ class State:
         """Notes what it saw of the parent's TTLs, and keeps it beside the script. These are the
         notes as they were before."""
         if notes.lines:
-            parents.note(notes, lines, self.told, self.look)
-        looks.keep(script, self.kept(len(lines)))
+            parents.note(notes, lines, self.zone_status, self.look)
+        looks.keep(script, self.last_look(len(lines)))
 
-    def kept(self, lines: int) -> looks.Kept:
+    def last_look(self, lines: int) -> looks.LastLook:
         """What is kept of it, if the script has so many lines."""
         first = min(_signed(self.look), key=lambda it: it.end, default=None)
         until = None if first is None else first.end
         renew = None if first is None else first.end - (first.end - first.begin) // 4
         servers = len({it.server for it in self.lacking})
         moment, texts = int(self.look.now), self.texts()
-        return looks.Kept(moment, lines, servers, texts, self.broken, until, renew)
+        return looks.LastLook(moment, lines, servers, texts, self.broken, until, renew)
 
 
-def of(told: Status, folders: Sequence[str | Path], args: Namespace, now: float,
+def of(zone_status: Status, folders: Sequence[str | Path], args: Namespace, now: float,
        may_have_cds: bool = False) -> State:
     """The state of a zone's servers, by its status and the key files in these folders."""
-    due = Due.of(told, folders)
+    due = DueSets.of(zone_status, folders)
     kinds = [kind for kind in KINDS if kind != "ds" or due.zone.strip(".")]
     look = looking.look(due, kinds, Places.of(due.zone, args), now)
-    may_have_cds = may_have_cds or status.is_asked(told, "CreateCdsRrset")
+    may_have_cds = may_have_cds or status.is_asked(zone_status, "CreateCdsRrset")
     lacking = look.lacking([kind for kind in kinds if kind != "cds"])
     lacking += _of_cds(look, may_have_cds) + list(_late(look))
     rows = [_row(look, server, lacking) for server in _servers(look)]
-    return State(told, look, rows, sorted(set(lacking)), list(chains.broken(look)))
+    return State(zone_status, look, rows, sorted(set(lacking)), list(chains.broken(look)))
 
 
 def agreed(
@@ -107,16 +107,16 @@ def agreed(
     """The state of a zone that is signed already, whose script begins with these lines. If its
     servers don't agree with them, or gave higher TTLs than the notes would begin with, that is a
     failure. Some signers always publish CDS: it may be in, if it is of these keys."""
-    seen = of(keyset.status(lines), list(folders), args, now, may_have_cds=True)
-    faults = [*seen.texts(), *seen.broken]
+    zone_state = of(keyset.status(lines), list(folders), args, now, may_have_cds=True)
+    faults = [*zone_state.texts(), *zone_state.broken]
     for kind, ttl in zip(("ds", "dnskey", "zone"), args.before or ()):
-        if seen.look.ttl(kind) > ttl:
-            given = seen.look.ttl(kind)
+        if zone_state.look.ttl(kind) > ttl:
+            given = zone_state.look.ttl(kind)
             faults.append(f"--before says {ttl} for {kind}, and servers give a TTL of {given}")
     if faults:
         text = "so these keys don't come in, unless you say --although"
         raise Failure("\n".join([*faults, text]), WARNING)
-    return seen
+    return zone_state
 
 
 def _servers(look: Look) -> list[Server]:
@@ -125,21 +125,21 @@ def _servers(look: Look) -> list[Server]:
     return [*sorted(of_zone), *sorted({server for _, _, server in look.answers} - of_zone)]
 
 
-def _row(look: Look, server: Server, lacking: list[Lack]) -> Row:
+def _row(look: Look, server: Server, lacking: list[Lack]) -> ServerRow:
     asked = {kind for kind, _, of in look.answers if of == server}
     lacks = {it.kind for it in lacking if it.server in ("", str(server))}
     said = {kind: LACKS if kind in lacks else RIGHT for kind in asked}
     if "zone" not in asked:
-        return Row(str(server), ds=said["ds"])
+        return ServerRow(str(server), ds=said["ds"])
     soa = look.answers["zone", "SOA", server]
     gives = [look.answers["cds", type_, server].records for type_ in ("CDS", "CDNSKEY")]
     cds = LACKS if "cds" in lacks else IN if any(gives) else OUT
     until = min((it.end for it in _signed(look, server)), default=None)
     serial = soa.records[0].serial if soa.records else None
-    return Row(str(server), said["dnskey"], said.get("ds"), until, serial, cds)
+    return ServerRow(str(server), said["dnskey"], said.get("ds"), until, serial, cds)
 
 
-def _signed(look: Look, only: Server | None = None) -> Iterator[comparing.Signed]:
+def _signed(look: Look, only: Server | None = None) -> Iterator[comparing.SignatureSpan]:
     """How the sets of servers are signed by the keys that have to."""
     of_set = {"dnskey": "signers", "zone": "zone", "ns": "zone"}
     for (kind, _, server), answer in look.answers.items():

@@ -48,12 +48,12 @@ def read(path: str | Path, now: float) -> tuple[list[str], Status]:
     have lost a line."""
     lines = whole(path, Lines(path))
     try:
-        told, found = keyset.status(lines), lost(keyset.refused(lines))
+        zone_status, found = keyset.status(lines), lost(keyset.refused(lines))
     except Malformed as error:
         raise Damaged(path, error.line, f"malformed: {error.reason}") from None
     if found:
         raise Damaged(path, *found)
-    return lines, at(told, now, goes_on(resting.of_ticks(path)))
+    return lines, at(zone_status, now, goes_on(resting.of_ticks(path)))
 
 
 def goes_on(last: Rest | None) -> str:
@@ -61,14 +61,14 @@ def goes_on(last: Rest | None) -> str:
     return YOU if last is None or last.status >= WARNING else TICK
 
 
-def at(told: Status, now: float, who: str) -> Status:
+def at(zone_status: Status, now: float, who: str) -> Status:
     """The status at this moment: if a wait is over, it waits for who goes on."""
-    for roll in told["rolls"]:
+    for roll in zone_status["rolls"]:
         is_over = isinstance(roll["not_before"], int) and roll["not_before"] <= now
         if is_over or roll["waits_for"] == YOU:
             # (The key set knows of no ticks.)
             roll["waits_for"] = who  # type: ignore[typeddict-item]
-    return told
+    return zone_status
 
 
 def comes_next(roll: RollMembers) -> str:
@@ -83,42 +83,42 @@ def comes_next(roll: RollMembers) -> str:
     return f"{call}, once the key that it checks has its stamp" if lacks_stamp else call
 
 
-def sets_of(told: Status) -> dict[str, list[str]]:
+def sets_of(zone_status: Status) -> dict[str, list[str]]:
     """The keys of each published set."""
     # (Of a dictionary with known members a checker of types knows no common type of values.)
-    return cast("dict[str, list[str]]", told["published"])
+    return cast("dict[str, list[str]]", zone_status["published"])
 
 
-def asked(told: Status) -> dict[str, list[str]]:
+def asked(zone_status: Status) -> dict[str, list[str]]:
     """The actions that are due, by roll, with those of rolls that were ended early."""
-    ended = {roll["roll"]: roll["asked"] for roll in told["ended"]}
-    return {**ended, **{roll["roll"]: roll["due"] for roll in told["rolls"]}}
+    ended = {roll["roll"]: roll["asked"] for roll in zone_status["ended"]}
+    return {**ended, **{roll["roll"]: roll["due"] for roll in zone_status["rolls"]}}
 
 
-def is_asked(told: Status, action: str) -> bool:
-    return any(action in actions for actions in asked(told).values())
+def is_asked(zone_status: Status, action: str) -> bool:
+    return any(action in actions for actions in asked(zone_status).values())
 
 
 def screen(
-    told: Status, names: Mapping[str, str] | None = None, last: Rest | None = None
+    zone_status: Status, names: Mapping[str, str] | None = None, last: Rest | None = None
 ) -> Iterator[str]:
     """The lines of the screen. Keys may have short names too, and the last tick its end."""
     # (If the chain is broken, each has a number.)
     places = cast("dict[str, int]", {
-        name: place for name, place in told["chain"].items() if name != "safe"})
-    verdict = SAFE if told["chain"]["safe"] else f"chain {keyset.Broken(**places)}"
-    yield f"{told['zone']}: {verdict}"
-    published = sets_of(told)
+        name: place for name, place in zone_status["chain"].items() if name != "safe"})
+    verdict = SAFE if zone_status["chain"]["safe"] else f"chain {keyset.Broken(**places)}"
+    yield f"{zone_status['zone']}: {verdict}"
+    published = sets_of(zone_status)
     for kind, label in LABELS.items():
         yield f"  {label:8} {words.listed(published[kind])}"
-    if told["keys"]:
+    if zone_status["keys"]:
         yield ""
-        yield from (f"  {line}" for line in words.table(_keys(told, names or {})))
-    for roll in told["rolls"]:
+        yield from (f"  {line}" for line in words.table(_keys(zone_status, names or {})))
+    for roll in zone_status["rolls"]:
         yield f"\n  {roll['roll']}: {roll['phase']}, waits for {roll['waits_for']}"
         yield from (f"    {text}" for text in words.asks(roll["due"], published))
         yield f"    then: {comes_next(roll)}"
-    for ended in told["ended"]:
+    for ended in zone_status["ended"]:
         yield f"\n  {ended['roll']} was ended early: {BEFORE_ANEW[goes_on(last)]}"
         yield from (f"    {text}" for text in words.asks(ended["asked"], published))
     if last is not None:
@@ -126,12 +126,12 @@ def screen(
         yield f"\n  the last tick, at {when}, {how}: {last.text}"
 
 
-def _keys(told: Status, names: Mapping[str, str]) -> Iterator[tuple[object, ...]]:
+def _keys(zone_status: Status, names: Mapping[str, str]) -> Iterator[tuple[object, ...]]:
     short = ("NAME",) if names else ()
     yield "KEY", "KIND", "TAG", "ALGORITHM", "STATE", "IN", "ROLL", "DELETE", *short
-    for key in told["keys"]:
+    for key in zone_status["keys"]:
         name, kind = key["reference"], key["kind"]
-        sets = [kind for kind, keys in sets_of(told).items() if name in keys]
+        sets = [kind for kind, keys in sets_of(zone_status).items() if name in keys]
         rolls = [f"old in {roll}" for roll in key["old_in"]]
         rolls += [f"new in {roll}" for roll in key["new_in"]]
         states = dict.fromkeys(role["state"] for role in key["roles"])

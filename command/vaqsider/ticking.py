@@ -18,15 +18,15 @@ from keyset.notes import Seen
 
 from . import act, advice, calling, expecting, hooks, parents, parsing, policies, resting
 from . import shortnames, signers, status, watching, words
-from .advice import Said
-from .ending import PARENT_LACKS, REFUSED, RUN_LOW, STUCK, Clock, Deed, Done, End, Log
+from .advice import Advice
+from .ending import PARENT_LACKS, REFUSED, RUN_LOW, STUCK, Clock, Deed, End, EndOfTick, Log
 from .errors import BROKEN, DUE, OK, WARNING, Failure
-from .journal import Journal, Unsigned
+from .journal import Journal, UnsignedFile
 from .keymaking import Maker
 from .keysets import KeySets
 from .policies import Policy
-from .standing import Places, Standing
-from .zonefile import By
+from .standing import Standing, ZonePaths
+from .zonefile import KeyId
 
 if TYPE_CHECKING:
     from keyset import Status
@@ -41,8 +41,8 @@ TAKEN = "Key tag already present"
 
 @dataclass
 class Tick:
-    """A tick of a script by its policy. `acted` are the acts of this tick, by the number of lines,
-    their options, and the unsigned zone; `stood` is what it has read of the signed file;
+    """A tick of a script by its policy. `acts` are those of this tick, by the number of lines,
+    their options, and the unsigned zone; `last_standing` is what it has read of the signed file;
     `is_cds_out` says that no server gives CDS any more; and `deeds` is how many it has done."""
 
     script: Path
@@ -53,11 +53,11 @@ class Tick:
     most: int = DEEDS
     lines: list[str] = field(default_factory=list)
     # (It says nothing until it is read.)
-    told: Status = field(default_factory=dict)  # type: ignore[assignment]
-    acted: set[tuple[int, tuple[str, ...], Unsigned]] = field(default_factory=set)
+    zone_status: Status = field(default_factory=dict)  # type: ignore[assignment]
+    acts: set[tuple[int, tuple[str, ...], UnsignedFile]] = field(default_factory=set)
     is_cds_out: bool = False
     deeds: int = 0
-    stood: tuple[list[int] | None, Standing | None] | None = None
+    last_standing: tuple[list[int] | None, Standing | None] | None = None
 
     # ---- the loop
 
@@ -68,16 +68,16 @@ class Tick:
                 self.read()
                 self.step()
             return End(DUE, "more is due: run it again")
-        except Done as done:
+        except EndOfTick as done:
             if done.end.status < WARNING:
                 self.clear_away()
             return done.end
 
     def read(self) -> None:
         """Reads the script, and expects that a tick can go on from it."""
-        self.lines, self.told = status.read(self.script, self.clock())
+        self.lines, self.zone_status = status.read(self.script, self.clock())
         self.notes = Notes(self.script)
-        expecting.expect_chain(self.told)
+        expecting.expect_chain(self.zone_status)
         expecting.expect_notes(self.notes)
         expecting.expect_clock(self.lines, self.notes, self.clock, self.policy)
 
@@ -89,29 +89,29 @@ class Tick:
         else:
             self.do(self.of_early_ends() or self.next())
 
-    def of_early_ends(self) -> Said | None:
+    def of_early_ends(self) -> Advice | None:
         """What brings the sets to all servers that early ends have asked for. No roll begins before
         that is so."""
         seen = Seen(self.notes.lines, self.clock())
-        for roll in self.told["ended"]:
+        for roll in self.zone_status["ended"]:
             call = max(n for n, line in enumerate(self.lines) if line == f"abort {roll['roll']}")
             for kind in words.kinds_of(roll["asked"]):
                 if seen.calls.get(kind, 0) < call:
-                    return Said(advice.PUBLISH, f"publish {kind}")
+                    return Advice(advice.PUBLISH, f"publish {kind}")
                 if not seen.is_everywhere.get(kind):
-                    return Said(advice.WATCH, f"watch {kind}")
+                    return Advice(advice.WATCH, f"watch {kind}")
             if "CreateCdsRrset" in roll["asked"] and not self.is_cds_out:
                 self.take_cds_out()
         return None
 
-    def do(self, said: Said) -> None:
+    def do(self, said: Advice) -> None:
         """What is said."""
         {
             advice.CALL: self.call, advice.PUBLISH: self.publish_next, advice.WATCH: self.watch,
             advice.KEY: self.make_key, advice.UNTIL: self.rest, advice.NOTHING: self.rest,
         }[said.word](said)
 
-    def next(self) -> Said:
+    def next(self) -> Advice:
         now = int(self.clock())
         policy = self.policy.for_program(self.journal.once, now)
         return advice.said(policy, self.lines, self.notes.lines, now)
@@ -125,7 +125,7 @@ class Tick:
 
     @property
     def zone(self) -> str:
-        return self.told.get("zone", self.script.stem)
+        return self.zone_status.get("zone", self.script.stem)
 
     @functools.cached_property
     def maker(self) -> Maker:
@@ -133,15 +133,15 @@ class Tick:
         return Maker(self.zone, self.policy, folder, self.script.stem)
 
     @functools.cached_property
-    def places(self) -> Places:
-        return Places.of(self.script, self.zone, self.policy)
+    def places(self) -> ZonePaths:
+        return ZonePaths.of(self.script, self.zone, self.policy)
 
     def standing(self) -> Standing | None:
         """What stands in place. It is read again only if it has changed."""
-        seen = resting.seen(self.places.signed) if self.is_of_file else [len(self.acted)]
-        if self.stood is None or self.stood[0] != seen:
-            self.stood = seen, self._standing()
-        return self.stood[1]
+        stamp = resting.stamp(self.places.signed) if self.is_of_file else [len(self.acts)]
+        if self.last_standing is None or self.last_standing[0] != stamp:
+            self.last_standing = stamp, self._standing()
+        return self.last_standing[1]
 
     def _standing(self) -> Standing | None:
         if self.is_of_file:
@@ -150,16 +150,16 @@ class Tick:
 
     def act_is_due(self) -> str | None:
         """Why something has to be published now, whatever is said next."""
-        if not any(self.told["published"].values()):
+        if not any(self.zone_status["published"].values()):
             return None
         if self.journal.is_begun:
             return "an act was not ended"
         stands = self.standing()
         if stands is None:
             return None if self.places.signed.exists() else "the signed zone is missing"
-        if not stands.is_due(self.told):
+        if not stands.is_due(self.zone_status):
             return "other keys are due"
-        if self.journal.unsigned != Unsigned.of(self.places.unsigned):
+        if self.journal.unsigned != UnsignedFile.of(self.places.unsigned):
             return "the unsigned zone has changed"
         renew = self.renew_from(stands)
         return "signatures run low" if renew is not None and renew <= self.clock() else None
@@ -189,45 +189,47 @@ class Tick:
 
     def signed_until(self) -> int | None:
         """When the first signature expires, as far as the last look at the signed file knows."""
-        stands = self.stood[1] if self.stood is not None else None
+        stands = self.last_standing[1] if self.last_standing is not None else None
         return None if stands is None else stands.expires(set())
 
     def of_signatures(self, end: End) -> End:
         """The end of a tick, which needs a person if signatures run low."""
-        stands = self.standing() if end.status < BROKEN and self.told and self.is_of_file else None
+        is_read = end.status < BROKEN and self.zone_status
+        stands = self.standing() if is_read and self.is_of_file else None
         low = None if stands is None else self.low_from(stands)
         if low is None or low > self.clock():
             return end
         ends = words.moment(low + self.policy.renews_before // 2)
         return End(WARNING, f"signatures expire at {ends}; {end.text}", end.until, RUN_LOW)
 
-    def away(self) -> set[By]:
+    def away(self) -> set[KeyId]:
         """The keys whose private half isn't here."""
-        keys = KeySets(self.told, [self.maker.folder])
+        keys = KeySets(self.zone_status, [self.maker.folder])
         return set(keys.by(name for name in keys.files if keys.is_away(name)))
 
     # ---- deeds
 
-    def publish_next(self, said: Said) -> None:
+    def publish_next(self, said: Advice) -> None:
         """Publishes what is said. Of a DS set an act notes that it is due, and publishes CDS."""
         self.publish(said.line)
 
     def publish(self, why: str, *options: str) -> None:
         """An act, with these options. If it was made in this tick and is still due, a person has to
         see why."""
-        made = len(self.lines), options, Unsigned.of(self.places.unsigned)
-        if made in self.acted:
-            raise Done(WARNING, f"it was published, and still {why}: what does the signer do?")
-        self.acted.add(made)
+        made = len(self.lines), options, UnsignedFile.of(self.places.unsigned)
+        if made in self.acts:
+            raise EndOfTick(WARNING, f"it was published, and still {why}: what does the signer do?")
+        self.acts.add(made)
         self.journal.begin(self.clock(), made[2])
         did, _ = act.perform(parsed([*self.policy.for_act(self.script), *options]), self.clock)
         if self.policy.reload:
             hooks.run(hooks.filled(self.policy.reload, self.zone))
         self.journal.end(self.clock())
         cds = ", with CDS" if did.has_cds else ""
-        self.say("published", [f"{why}: {words.listed(self.told['published']['dnskey'])}{cds}"])
+        dnskey = words.listed(self.zone_status["published"]["dnskey"])
+        self.say("published", [f"{why}: {dnskey}{cds}"])
 
-    def call(self, said: Said) -> None:
+    def call(self, said: Advice) -> None:
         """Makes the call that is said. Before a report of the DS set, or the end of a roll that
         waits for it, CDS is out; then the call is asked for once more, with its moment."""
         word, roll = said.line.split(" ")[:2]
@@ -243,7 +245,7 @@ class Tick:
         line = self.reported(said.line) if word.startswith("report") else said.line
         made = calling.call(self.script, line, self.clock, known=self.lines)
         if not made.kept:
-            raise Done(WARNING, "; ".join(made.text()), event=REFUSED)
+            raise EndOfTick(WARNING, "; ".join(made.text()), event=REFUSED)
         self.is_cds_out = False
         self.say("called", [f"{made.line}: {made.reply}"])
 
@@ -255,9 +257,10 @@ class Tick:
 
     def kinds(self) -> dict[str, list[str]]:
         """The kinds of sets that each roll in progress asks to watch."""
-        return {roll: words.kinds_of(actions) for roll, actions in status.asked(self.told).items()}
+        asked = status.asked(self.zone_status)
+        return {roll: words.kinds_of(actions) for roll, actions in asked.items()}
 
-    def make_key(self, said: Said) -> None:
+    def make_key(self, said: Advice) -> None:
         """A key of the role that is said, with a tag that no other has."""
         role, algorithm = said.fields[0], int(said.fields[1])
         for _ in range(TRIES):
@@ -271,9 +274,9 @@ class Tick:
                 self.say("key made", [f"{short} {file.path.name}"])
                 return
             if made.refused != TAKEN:
-                raise Done(WARNING, "; ".join(made.text()), event=REFUSED)
+                raise EndOfTick(WARNING, "; ".join(made.text()), event=REFUSED)
             self.maker.clear()
-        raise Done(WARNING, f"{TRIES} keys of {self.policy.keygen[0]} had tags that are taken")
+        raise EndOfTick(WARNING, f"{TRIES} keys of {self.policy.keygen[0]} had tags that are taken")
 
     # ---- looks
 
@@ -283,17 +286,17 @@ class Tick:
         eyes.notes, eyes.lines = Notes(self.script), self.lines
         known = len(eyes.notes.lines)
         try:
-            look = eyes.ask(self.told, kinds)
-            parents.note(eyes.notes, self.lines, self.told, look)
+            look = eyes.ask(self.zone_status, kinds)
+            parents.note(eyes.notes, self.lines, self.zone_status, look)
             eyes.judge(look, kinds)
         except WrongArgument:
             raise
         except Failure as failure:
-            raise Done(DUE, f"servers can't be asked: {failure}") from None
+            raise EndOfTick(DUE, f"servers can't be asked: {failure}") from None
         self.say("noted", Notes(self.script).lines[known:])
         return eyes
 
-    def watch(self, said: Said) -> None:
+    def watch(self, said: Advice) -> None:
         """Looks whether all servers have it, and CDS is out after a DS set. If nothing is new, the
         zone waits for them."""
         kind, known = said.fields[0], len(self.notes.lines)
@@ -306,23 +309,23 @@ class Tick:
 
     def wait_for(self, kind: str, lacking: list[str]) -> None:
         """Servers lack it still. What the parent has to publish is handed to it by the policy."""
-        hint = self.tell_parent() if kind == "ds" else ""
+        hint = self.hand_to_parent() if kind == "ds" else ""
         text = "; ".join(dict.fromkeys(lacking)) or f"servers have to give {kind} once more"
-        raise Done(DUE, f"{text}{hint}", event=PARENT_LACKS if kind == "ds" else STUCK)
+        raise EndOfTick(DUE, f"{text}{hint}", event=PARENT_LACKS if kind == "ds" else STUCK)
 
-    def tell_parent(self) -> str:
+    def hand_to_parent(self) -> str:
         """Hands the DS set that is due to the registrar once, or to the operator. The first one a
         parent may not take from CDS, as no DS set is there yet to check it by: so that is said."""
-        keys = KeySets(self.told, [self.maker.folder])
+        keys = KeySets(self.zone_status, [self.maker.folder])
         records = [f"{keys.origin} IN DS {text}" for text in keys.ds([2])]
         text = f"give the parent the DS set: {'; '.join(records) or 'none'}"
         if self.policy.parent == "ask":
-            raise Done(WARNING, text)
+            raise EndOfTick(WARNING, text)
         call = Seen(self.notes.lines, self.clock()).calls["ds"]
-        if self.policy.parent == "hook" and not self.journal.is_told(call):
+        if self.policy.parent == "hook" and not self.journal.is_handed_over(call):
             hooks.run(self.policy.on_ds, {"zone": self.zone, "ds": records, "call": call})
-            self.journal.tell(call, self.clock())
-            self.say("DS handed over", [words.listed(self.told["published"]["ds"])])
+            self.journal.hand_over(call, self.clock())
+            self.say("DS handed over", [words.listed(self.zone_status["published"]["ds"])])
         is_first = self.policy.parent == "cds" and not keys.has_ds
         return f". If it takes no CDS yet, {text}" if is_first else ""
 
@@ -337,21 +340,21 @@ class Tick:
             self.publish("CDS goes out", "--no-cds")
             lacking = self.eyes(["ds"]).lacking
         if lacking:
-            raise Done(DUE, "; ".join(map(str, sorted(lacking))))
+            raise EndOfTick(DUE, "; ".join(map(str, sorted(lacking))))
 
     # ---- rest
 
-    def rest(self, said: Said) -> None:
+    def rest(self, said: Advice) -> None:
         """Nothing is due before a moment: that which is said, or that of signatures."""
         if said.is_stuck:
-            raise Done(WARNING, said.line.partition(": ")[2])
+            raise EndOfTick(WARNING, said.line.partition(": ")[2])
         until = min(self.moments(said), default=None)
-        rolls = [roll["roll"] for roll in self.told["rolls"]]
+        rolls = [roll["roll"] for roll in self.zone_status["rolls"]]
         what = f"{words.listed(rolls)} waits for caches" if rolls else "nothing is due"
         when = "" if until is None else f" before {words.moment(until)}"
-        raise Done(OK, f"{what}{when}", until)
+        raise EndOfTick(OK, f"{what}{when}", until)
 
-    def moments(self, said: Said) -> list[int]:
+    def moments(self, said: Advice) -> list[int]:
         """From when on something may be due."""
         stands = self.standing()
         of_zone = [] if stands is None else [self.renew_from(stands), self.low_from(stands)]

@@ -17,7 +17,7 @@ from keyset import Locked
 
 from . import hooks, journal, policies, resting, words
 from .ending import MEANS, PARENT_LACKS, RUN_LOW, STUCK, Clock, Deed, End, Log
-from .errors import BROKEN, DUE, FAULTY, OK, WARNING, Failure, Silent, failure_of
+from .errors import BROKEN, DUE, FAULTY, OK, WARNING, Failure, NoAnswer, failure_of
 from .policies import Commands, Policy
 from .resting import Rest
 from .ticking import DEEDS, Tick
@@ -54,12 +54,12 @@ def tick(script: str | Path, clock: Clock, log: Log, most: int = DEEDS,
             return End(OK, kept.text, kept.until)
         with journal.alone(path) as lines:
             policy, fault = _policy(path)
-            made = Tick(path, policy.by(commands), clock, log, lines, most)
-            ended = fault or _ended(made)
-            before = kept if kept is not None and kept.status and not made.deeds else None
+            zone_tick = Tick(path, policy.by(commands), clock, log, lines, most)
+            ended = fault or _ended(zone_tick)
+            before = kept if kept is not None and kept.status and not zone_tick.deeds else None
             since = int(clock()) if before is None else before.since
-            end = fault or made.of_signatures(_in_time(made, ended, since))
-            _keep(made, end, kept, since)
+            end = fault or zone_tick.of_signatures(_in_time(zone_tick, ended, since))
+            _keep(zone_tick, end, kept, since)
             return end
     except Locked as error:
         return End(OK if journal.place_of(path).name in str(error) else DUE, str(error))
@@ -75,20 +75,20 @@ def _policy(path: Path) -> tuple[Policy, End | None]:
         return Policy(), End(*fault_of(error))
 
 
-def _ended(made: Tick) -> End:
+def _ended(zone_tick: Tick) -> End:
     """How a tick ends, also by an error. Somebody else may be writing a file of the zone."""
     try:
-        return made.run()
+        return zone_tick.run()
     except Locked as error:
         return End(DUE, str(error))
     except Exception as error:
         return End(*fault_of(error))
 
 
-def _in_time(made: Tick, end: End, since: int) -> End:
+def _in_time(zone_tick: Tick, end: End, since: int) -> End:
     """The end of a tick. If it has waited for too long, it needs a person."""
-    patience = made.policy.patience
-    if end.status != DUE or made.clock() - since <= patience:
+    patience = zone_tick.policy.patience
+    if end.status != DUE or zone_tick.clock() - since <= patience:
         return end
     text = f"longer than {words.duration(patience)}: {end.text}"
     return End(WARNING, text, end.until, end.event or STUCK)
@@ -97,35 +97,36 @@ def _in_time(made: Tick, end: End, since: int) -> End:
 def fault_of(error: Exception) -> tuple[int, str]:
     """What an error means for the zone: it waits, needs a person, or something is broken."""
     failure = failure_of(error)
-    if isinstance(failure, Silent):
+    if isinstance(failure, NoAnswer):
         return DUE, str(failure)
     if failure.status == FAULTY:
         traceback.print_exception(type(error), error, error.__traceback__)
     return BROKEN if failure.status in (BROKEN, FAULTY) else WARNING, str(failure)
 
 
-def _keep(made: Tick, end: End, before: Rest | None, since: int) -> None:
-    """Keeps how the tick ended, and tells the operator's command if that is new."""
+def _keep(zone_tick: Tick, end: End, before: Rest | None, since: int) -> None:
+    """Keeps how the tick ended, and hands that to the operator's command if it is new."""
     event = (end.event or MEANS[end.status]) if end.status > DUE else ""
     text = "" if event in KINDS else end.text
     is_new = before is None or (event, text) != (before.event, text and before.text)
     if event and is_new:
-        _tell(made, end, event)
+        _hand_event(zone_tick, end, event)
     until = None if end.until is None else math.ceil(end.until)
-    files = resting.files(made.script, made.files())
-    resting.keep(made.script, Rest(int(made.clock()), until, end.status, end.text, files, event,
-                                   since, made.signed_until()))
+    files = resting.files(zone_tick.script, zone_tick.files())
+    rest = Rest(int(zone_tick.clock()), until, end.status, end.text, files, event, since,
+                zone_tick.signed_until())
+    resting.keep(zone_tick.script, rest)
 
 
-def _tell(made: Tick, end: End, event: str) -> None:
+def _hand_event(zone_tick: Tick, end: End, event: str) -> None:
     """Hands an event to the operator's command. If that fails, the log has it."""
-    if not made.policy.on_event:
+    if not zone_tick.policy.on_event:
         return
     try:
-        hooks.run(made.policy.on_event, {"event": event, "zone": made.zone,
-                                         "text": end.text, "moment": int(made.clock())})
+        hooks.run(zone_tick.policy.on_event, {"event": event, "zone": zone_tick.zone,
+                                              "text": end.text, "moment": int(zone_tick.clock())})
     except Failure as failure:
-        made.say("on-event failed", [str(failure)])
+        zone_tick.say("on-event failed", [str(failure)])
 
 
 @dataclass(frozen=True)

@@ -61,20 +61,20 @@ def timeline(lines: Sequence[str], notes: Iterable[str] = ()) -> Timeline:
     """The timeline of a script with its notes."""
     history = History(lines)
     moments = [call.moment for call in history.calls if call.line.word in PHASES] or [0]
-    made, bars = Timeline(moments[0], max(moments), moments[0]), Bars(Held(history, notes))
+    course, bars = Timeline(moments[0], max(moments), moments[0]), Bars(CacheEnds(history, notes))
     for call, state in history.states():
         if call.line.word == "start":
-            made.last = made.last if bars.going else call.moment
+            course.last = course.last if bars.going else call.moment
             bars.going[call.line.roll] = []
         bars.follow(call, state.published)
         if call.line.word in ("done", "abort"):
             bars.end(call)
-        _phase(made.phases, call)
+        _phase(course.phases, call)
     for name, (label, _) in SETS.items():
-        made.rows.update({f"{label} {key}": of for key, of in sorted(bars.of[name].items())})
-    known = (bar.gone for of in made.rows.values() for bar in of)
-    made.end = max([made.end, *filter(None, known)])
-    return made
+        course.rows.update({f"{label} {key}": of for key, of in sorted(bars.of[name].items())})
+    known = (bar.gone for of in course.rows.values() for bar in of)
+    course.end = max([course.end, *filter(None, known)])
+    return course
 
 
 class Bars:
@@ -85,7 +85,7 @@ class Bars:
     shown: dict[str, set[str]]
     going: dict[str | None, list[tuple[str, Bar]]]
 
-    def __init__(self, held: Held) -> None:
+    def __init__(self, held: CacheEnds) -> None:
         self.held, self.going = held, {}
         self.of, self.shown = {name: {} for name in SETS}, {name: set() for name in SETS}
 
@@ -112,16 +112,16 @@ class Bars:
             bar.gone = self.held.at_least(kind, call)
 
 
-class Held:
+class CacheEnds:
     """Until when caches may hold sets that were replaced, by notes or else by reports."""
 
     ends: dict[str, list[tuple[int, int]]]
     ttls: dict[str, list[tuple[int, int]]]
     versions: dict[str, list[tuple[int, int]]]
-    seen: dict[str, list[tuple[int, int]]]
+    everywhere: dict[str, list[tuple[int, int]]]
 
     def __init__(self, history: History, notes: Iterable[str]) -> None:
-        self.ends, self.ttls, self.versions, self.seen = {}, {}, {}, {}
+        self.ends, self.ttls, self.versions, self.everywhere = {}, {}, {}, {}
         for call in (call for call in history.calls if call.line.is_report):
             step, kinds = history.step_of(call)
             for kind in kinds:
@@ -136,17 +136,17 @@ class Held:
                 self.versions.setdefault(kind, []).append((int(numbers[0]) + 1, int(numbers[1])))
             elif word == "everywhere":
                 version = len(self.versions.get(kind, ()))
-                self.seen.setdefault(kind, []).append((version, int(numbers[0])))
+                self.everywhere.setdefault(kind, []).append((version, int(numbers[0])))
 
     def until(self, kind: str, since: int, call: Call) -> int | None:
         """The moment until which caches may hold a key that was in sets of a kind since a line, and
         that a call takes out. None if neither notes nor a report say it."""
-        versions, seen = self.versions.get(kind, ()), self.seen.get(kind, ())
+        versions, everywhere = self.versions.get(kind, ()), self.everywhere.get(kind, ())
         first, last = (bisect_left(versions, (number,)) for number in (since, call.number))
         # Where it is noted of each version that all servers have a later one.
-        noted = [bisect_left(seen, (version + 2,)) for version in range(first, last)]
-        if noted and max(noted) < len(seen):
-            return max(seen[at][1] + ttl for at, (_, ttl) in zip(noted, versions[first:last]))
+        noted = [bisect_left(everywhere, (version + 2,)) for version in range(first, last)]
+        if noted and max(noted) < len(everywhere):
+            return max(everywhere[at][1] + ttl for at, (_, ttl) in zip(noted, versions[first:last]))
         ends = self.ends.get(kind, ())
         at = bisect_left(ends, (call.number,))
         return ends[at][1] if at < len(ends) else None

@@ -31,7 +31,7 @@ class Watcher:
     """Watches the servers for the rolls of one script that wait for a report or for their end, and
     for those that were ended early."""
 
-    made: dict[str, calling.Made]
+    results: dict[str, calling.CallResult]
     notes: Notes
     lines: list[str]
     rolls: dict[str, str | None]
@@ -40,7 +40,7 @@ class Watcher:
     def __init__(
         self, args: Namespace, clock: Clock, progress: Callable[[str], object]
     ) -> None:
-        self.args, self.clock, self.progress, self.made = args, clock, progress, {}
+        self.args, self.clock, self.progress, self.results = args, clock, progress, {}
         self.lacking: list[Lack] = []
         self.beside: list[Lack] = []
         self.broken: list[str] = []
@@ -53,7 +53,7 @@ class Watcher:
         while True:
             locked = self.round()
             awaited = {it.kind for it in self.lacking if self.args.call or it.kind != "cds"}
-            is_refused = any(made.status for made in self.made.values())
+            is_refused = any(result.status for result in self.results.values())
             if locked and time.monotonic() >= end:
                 raise locked
             if not (awaited or locked) or is_refused or time.monotonic() >= end:
@@ -76,30 +76,30 @@ class Watcher:
     def call(self, roll: str) -> None:
         """Makes the call that a roll can make now, if the script is as it was at the look."""
         line = self.line(roll)
-        made = calling.call(self.args.SCRIPT, line, self.clock, known=self.lines)
-        self.made[roll] = made
-        if made.kept:
+        result = calling.call(self.args.SCRIPT, line, self.clock, known=self.lines)
+        self.results[roll] = result
+        if result.kept:
             self.lines = [*self.lines, line]
 
     def look(self) -> None:
         """Reads the script again, asks the servers, and notes which sets are everywhere."""
         self.notes = Notes(self.args.SCRIPT)
-        self.lines, told = status.read(self.args.SCRIPT, self.clock())
-        asked = status.asked(told)
-        calls = {roll["roll"]: roll["next"] for roll in told["rolls"]}
+        self.lines, zone_status = status.read(self.args.SCRIPT, self.clock())
+        asked = status.asked(zone_status)
+        calls = {roll["roll"]: roll["next"] for roll in zone_status["rolls"]}
         self.rolls = {roll: calls.get(roll) for roll in asked if "wait" not in calls.get(roll, "")}
         self.kinds = {roll: words.kinds_of(asked[roll]) for roll in self.rolls}
         kinds = sorted({kind for of in self.kinds.values() for kind in of})
         if kinds:
-            look = self.ask(told, kinds)
+            look = self.ask(zone_status, kinds)
             if self.notes.lines:
-                parents.note(self.notes, self.lines, told, look)
+                parents.note(self.notes, self.lines, zone_status, look)
             self.judge(look, kinds)
 
-    def ask(self, told: Status, kinds: list[str]) -> Look:
+    def ask(self, zone_status: Status, kinds: list[str]) -> Look:
         """What all servers give of these kinds and of the others; if the DS set is awaited, also
         whether CDS is out."""
-        due = comparing.Due.of(told, comparing.folders_of(self.args))
+        due = comparing.DueSets.of(zone_status, comparing.folders_of(self.args))
         places = Places.of(due.zone, self.args)
         also = ["cds"] if "ds" in kinds else ["ds"] if places.parent else []
         asked = dict.fromkeys([*kinds, *also, *OF_ZONE])
@@ -145,7 +145,7 @@ class Watcher:
 
     def status(self) -> int:
         seen = BROKEN if self.broken else DUE if self.lacking or self.beside else OK
-        return max([seen, *(made.status for made in self.made.values())])
+        return max([seen, *(result.status for result in self.results.values())])
 
     def text(self) -> Iterator[str]:
         """For people: which server lacks what, and what comes next in each roll."""
@@ -153,24 +153,24 @@ class Watcher:
         yield from self.broken
         if self.asked and not self.lacking:
             yield from (f"all have it: {', '.join(of)}" for of in self.asked.values() if of)
-        yield from (line for made in self.made.values() for line in made.text())
-        for roll in (roll for roll in self.rolls if roll not in self.made):
+        yield from (line for result in self.results.values() for line in result.text())
+        for roll in (roll for roll in self.rolls if roll not in self.results):
             if lacking := self.lacks(self.kinds[roll]):
                 yield f"{roll}: {CDS_OUT if lacking == {'cds'} else 'not yet'}"
             elif self.rolls[roll] is None:
                 yield f"{roll}: its early end is done, and a roll may start"
             else:
                 yield f"next: {self.line(roll)}"
-        if not (self.rolls or self.made):
+        if not (self.rolls or self.results):
             yield "nothing is to be watched: --state shows what servers give"
 
     def as_json(self) -> dict[str, object]:
-        ready = [roll for roll in filter(self.rolls.get, self.ready()) if roll not in self.made]
+        ready = [roll for roll in filter(self.rolls.get, self.ready()) if roll not in self.results]
         return {
             "lacking": list(map(asdict, self.lacking)),
             "beside": list(map(asdict, self.beside)),
             "broken": self.broken,
             "asked": self.asked,
             "next": [self.line(roll) for roll in ready],
-            "made": [vars(made) for made in self.made.values()],
+            "made": [vars(result) for result in self.results.values()],
         }

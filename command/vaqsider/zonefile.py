@@ -32,14 +32,14 @@ MADE = {"RRSIG", "NSEC", "NSEC3", "NSEC3PARAM"}
 KEYS = ("DNSKEY", "CDS", "CDNSKEY")
 
 
-class NotFull(Failure):
+class PartialRecord(Failure):
     """A line that isn't a record in full."""
 
     def __init__(self, text: str) -> None:
         super().__init__(text, BROKEN)
 
 
-class Row(NamedTuple):
+class ZoneRecord(NamedTuple):
     """A record."""
 
     owner: str
@@ -51,22 +51,22 @@ class Row(NamedTuple):
         return f"{self.owner}\t{self.ttl}\tIN\t{self.kind}\t{self.data}\n"
 
 
-class By(NamedTuple):
+class KeyId(NamedTuple):
     """A key as a signature names it."""
 
     algorithm: int
     tag: int
 
 
-def rows(path: Path) -> Iterator[Row]:
+def rows(path: Path) -> Iterator[ZoneRecord]:
     """The records of a file that has each in full, on a line of its own."""
     with open(path, encoding="latin-1", newline="\n") as lines:
         for line in lines:
             if match := FULL.match(line):
                 owner, ttl, kind, data = match.groups()
-                yield Row(owner, int(ttl), kind, data)
+                yield ZoneRecord(owner, int(ttl), kind, data)
             elif line.strip() and not line.startswith(";"):
-                raise NotFull(f"{path}: {line.strip()[:60]}")
+                raise PartialRecord(f"{path}: {line.strip()[:60]}")
 
 
 def in_full(path: Path, origin: str, tools: Tools, folder: Path) -> Path:
@@ -86,27 +86,27 @@ def parsed(kind: str, data: str) -> Record:
     try:
         return dns.rdata.from_text(dns.rdataclass.IN, dns.rdatatype.from_text(kind), data)
     except (dns.exception.DNSException, ValueError) as error:
-        raise NotFull(f"{kind} {data[:60]}: {str(error).strip()}") from None
+        raise PartialRecord(f"{kind} {data[:60]}: {str(error).strip()}") from None
 
 
-def covered(data: str) -> tuple[str, By]:
+def covered(data: str) -> tuple[str, KeyId]:
     """Which type a signature covers, and by which key it is."""
     kind, algorithm, _, _, _, _, tag, _ = data.split(None, 7)
-    return kind, By(int(algorithm), int(tag))
+    return kind, KeyId(int(algorithm), int(tag))
 
 
 @dataclass
-class Zone:
+class ZoneFile:
     """What a file has: the sets at its top, and which keys have signed each set."""
 
     origin: str
     path: Path
-    top: dict[str, list[Row]] = field(default_factory=dict)
-    signed: dict[tuple[str, str], set[By]] = field(default_factory=dict)
+    top: dict[str, list[ZoneRecord]] = field(default_factory=dict)
+    signed: dict[tuple[str, str], set[KeyId]] = field(default_factory=dict)
     opt_out: bool = False
 
     @classmethod
-    def of(cls, origin: str, path: Path) -> Zone:
+    def of(cls, origin: str, path: Path) -> ZoneFile:
         """Reads a file in which each record is in full."""
         zone = cls(origin, path)
         try:
@@ -116,10 +116,10 @@ class Zone:
                 _ = zone.serial, zone.nsec3
                 return zone
         except (ValueError, IndexError):
-            raise NotFull(f"{path}: a record has not the form of its type") from None
-        raise NotFull(f"{path}: it has no SOA record of {origin}, or more than one")
+            raise PartialRecord(f"{path}: a record has not the form of its type") from None
+        raise PartialRecord(f"{path}: it has no SOA record of {origin}, or more than one")
 
-    def _take(self, row: Row) -> None:
+    def _take(self, row: ZoneRecord) -> None:
         if row.kind == "RRSIG":
             kind, by = covered(row.data)
             self.signed.setdefault((row.owner.lower(), kind), set()).add(by)
@@ -129,7 +129,7 @@ class Zone:
             self.top.setdefault(row.kind, []).append(row)
 
     @property
-    def soa(self) -> Row:
+    def soa(self) -> ZoneRecord:
         return self.top["SOA"][0]
 
     @property
@@ -149,25 +149,25 @@ class Zone:
         """The data of a set at the top."""
         return {parsed(kind, row.data) for row in self.top.get(kind, ())}
 
-    def signatures(self, kind: str) -> list[Row]:
+    def signatures(self, kind: str) -> list[ZoneRecord]:
         """The signatures of a set at the top."""
         return [row for row in self.top.get("RRSIG", ()) if covered(row.data)[0] == kind]
 
 
 @dataclass(frozen=True)
-class Due:
+class DueZone:
     """What the next version has to have: its serial, its sets of keys, and who signs which set."""
 
     origin: str
     serial: int
-    sets: dict[str, list[Row]]
-    by: dict[str, frozenset[By]]
+    sets: dict[str, list[ZoneRecord]]
+    by: dict[str, frozenset[KeyId]]
 
-    def signers(self, kind: str) -> frozenset[By]:
+    def signers(self, kind: str) -> frozenset[KeyId]:
         """The keys that sign the sets of a type: DNSKEY, CDS and CDNSKEY, or the rest."""
         return self.by.get(kind, self.by["zone"])
 
-    def whole(self, records: Iterable[Row]) -> Iterator[Row]:
+    def whole(self, records: Iterable[ZoneRecord]) -> Iterator[ZoneRecord]:
         """The unsigned zone with its next serial, and with the sets of keys."""
         for row in records:
             if row.kind == "SOA" and row.owner.lower() == self.origin.lower():
@@ -178,7 +178,7 @@ class Due:
         for kind in KEYS:
             yield from self.sets[kind]
 
-    def without_others(self, records: Iterable[Row]) -> Iterator[Row]:
+    def without_others(self, records: Iterable[ZoneRecord]) -> Iterator[ZoneRecord]:
         """The signed zone without the signatures that aren't due."""
         for row in records:
             if row.kind == "RRSIG":
@@ -187,7 +187,7 @@ class Due:
                     continue
             yield row
 
-    def faults(self, zone: Zone) -> Iterator[str]:
+    def faults(self, zone: ZoneFile) -> Iterator[str]:
         """What a signed file has otherwise than it has to. (Whether the signatures are right, and
         whether none is lacking, the verifier says.)"""
         if zone.serial != self.serial:
@@ -203,24 +203,24 @@ class Due:
             if found != self.signers(kind):
                 yield f"{owner} {kind} is signed by {_tags(found)}, not {_tags(self.signers(kind))}"
 
-    def refuse(self, zone: Zone) -> None:
+    def refuse(self, zone: ZoneFile) -> None:
         """Says the first faults of a signed file, if it has any."""
         found = [fault for _, fault in zip(range(3), self.faults(zone))]
         if found:
             raise Failure(f"the signed zone is wrong: {'; '.join(found)}", UNAVAILABLE)
 
 
-def _tags(keys: Iterable[By]) -> str:
+def _tags(keys: Iterable[KeyId]) -> str:
     return ",".join(str(by.tag) for by in sorted(keys)) or "no key"
 
 
-def write(path: Path, records: Iterable[Row]) -> None:
+def write(path: Path, records: Iterable[ZoneRecord]) -> None:
     """Makes a file that wasn't there."""
     with open(path, "x", encoding="latin-1", newline="\n") as file:
         file.writelines(map(str, records))
 
 
-def ttls(records: Iterable[Row]) -> dict[str, int]:
+def ttls(records: Iterable[ZoneRecord]) -> dict[str, int]:
     """The highest TTL of the DNSKEY set, and that of all others, which is also that of answers that
     there is no such set."""
     highest = {True: 0, False: 0}

@@ -47,27 +47,27 @@ def zones(folder: str | Path, now: float,
                 raise Failure(f"{path}: it is no file", BROKEN)
             if counts:
                 zone["findings"] = sum(one.level > OK for one in check.findings(path, now))
-            lines, told = status.read(path, now)
+            lines, zone_status = status.read(path, now)
             look = _of_look(path, now)
         except Exception as error:
             fault = str(failure_of(error)).removeprefix(f"{path}: ")
             yield {**zone, "chain_safe": False, "fault": fault}
             continue
-        of_status = _of_status(told, now, resting.of_ticks(path))
+        of_status = _of_status(zone_status, now, resting.of_ticks(path))
         yield {**zone, **of_status, **look, "lines": len(lines)}
 
 
-def _of_status(told: Status, now: float, last: Rest | None) -> dict[str, object]:
+def _of_status(zone_status: Status, now: float, last: Rest | None) -> dict[str, object]:
     """The zone's name, its verdict, whom it waits for, and until when, by the last tick."""
-    waits = [roll for roll in told["rolls"] if roll["waits_for"] == status.CACHES]
+    waits = [roll for roll in zone_status["rolls"] if roll["waits_for"] == status.CACHES]
     ends = [it["not_before"] for it in waits if isinstance(it["not_before"], int)]
     moment = min((end for end in ends if end), default=None)
-    waiting: set[str] = {roll["waits_for"] for roll in told["rolls"]}
-    waiting |= {status.goes_on(last) for _ in told["ended"]}
+    waiting: set[str] = {roll["waits_for"] for roll in zone_status["rolls"]}
+    waiting |= {status.goes_on(last) for _ in zone_status["ended"]}
     waiting |= {status.YOU} if last is not None and last.status >= WARNING else set()
     who = next((who for who in status.WAITING if who in waiting), "nobody")
-    return {"zone": told["zone"], "chain_safe": told["chain"]["safe"], "waits_for": who,
-            "next": moment, "next_seconds": moment and moment - int(now)}
+    return {"zone": zone_status["zone"], "chain_safe": zone_status["chain"]["safe"],
+            "waits_for": who, "next": moment, "next_seconds": moment and moment - int(now)}
 
 
 def _of_look(path: Path, now: float) -> dict[str, object]:
@@ -94,10 +94,10 @@ def _of_tick(path: Path, now: float) -> dict[str, object]:
     }
 
 
-def table(found: Iterable[dict[str, Any]]) -> Iterator[str]:
+def table(zone_rows: Iterable[dict[str, Any]]) -> Iterator[str]:
     """For people: a row for each zone."""
     rows = [("ZONE", "CHAIN", "WAITS FOR", "NEXT", "LINES", "SERVERS", "SIGNED UNTIL")]
-    for zone in found:
+    for zone in zone_rows:
         chain = "safe" if zone["chain_safe"] else (zone["fault"] or "broken").partition(". ")[0]
         next_, signed = (it and words.moment(it) for it in (zone["next"], zone["signed"]))
         rows.append((zone["zone"], chain, zone["waits_for"], next_, zone["lines"],
@@ -105,11 +105,11 @@ def table(found: Iterable[dict[str, Any]]) -> Iterator[str]:
     return words.table(rows)
 
 
-def prometheus(found: Iterable[dict[str, Any]]) -> Iterator[str]:
+def prometheus(zone_rows: Iterable[dict[str, Any]]) -> Iterator[str]:
     """The text format that Prometheus reads."""
     for name, says in METRICS.items():
         yield from (f"# HELP vaqsider_{name} {says}", f"# TYPE vaqsider_{name} gauge")
-        for zone in (zone for zone in found if zone[name] is not None):
+        for zone in (zone for zone in zone_rows if zone[name] is not None):
             who = [("who", zone[name])] if name == "waits_for" else []
             labels = [("zone", zone["zone"]), ("script", zone["script"]), *who]
             quoted = ",".join(f'{label}="{_quoted(text)}"' for label, text in labels)

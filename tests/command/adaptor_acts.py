@@ -86,7 +86,7 @@ def deaf():
         with folder():
             stored(fake)
             fake.publish_zone_key = lambda number: None
-            fake._put = lambda *_, told: None
+            fake._put = lambda *_, request: None
             with fake.installed():
                 said, status = typed(words, 205)
             if status != 69 or f"{name} has not what is due: DNSKEY" not in said:

@@ -127,9 +127,9 @@ def _instead(**answers):
 def _knot_of(**times):
     def prepare(fake, keys):
         fake.does(["keymgr", ZONE, "import-bind", str(keys["K1"].file.path)])
-        for told in fake.keys.values():
-            told.update(publish=1, active=1)
-            told.update({name.replace("_", "-"): at for name, at in times.items()})
+        for key in fake.keys.values():
+            key.update(publish=1, active=1)
+            key.update({name.replace("_", "-"): at for name, at in times.items()})
 
     return prepare
 

@@ -1,4 +1,4 @@
-"""Checks of tests/command/rolling.py: what a tick needs a person for and what that is told of,
+"""Checks of tests/command/rolling.py: what a tick needs a person for and what it says to that,
 signers that run, clocks that are wrong by what the policy allows, key files that are deleted, short
 names, and the units of systemd."""
 
@@ -34,21 +34,21 @@ def passing(world: World, seconds: int, *options: str, every: int = 0) -> Iterat
 
 
 def events(world: World) -> list[str]:
-    return [it["event"] for it in world.told() if "event" in it]
+    return [it["event"] for it in world.inputs() if "event" in it]
 
 
 def low() -> Iterator[str]:
-    """A signer that fails: a person is told of it, and once more when signatures run low."""
+    """A signer that fails: a person hears of it, and once more when signatures run low."""
     world = World()
-    with folder(), living(world, "on-event tell\n"):
+    with folder(), living(world, "on-event say\n"):
         list(passing(world, 14 * DAY))
         with mock.patch.object(world, "signs", side_effect=OSError(5, "broken")), living(world):
             ends = list(passing(world, 2 * DAY, every=6 * 3600))
             if {status for status, _ in ends} != {0, 2} or events(world) != ["needs a person"]:
-                yield f"a signer that fails ends with {ends[-1]}, and is told as {events(world)}"
+                yield f"a signer that fails ends with {ends[-1]}, and the events {events(world)}"
             ends = list(passing(world, 2 * DAY, every=6 * 3600))
         if events(world) != ["needs a person", "signatures run low"]:
-            yield f"then it ends with {ends[-1]}, and is told as {events(world)}"
+            yield f"then it ends with {ends[-1]}, and the events {events(world)}"
         metrics, _ = typed(["zones", ".", "--prometheus"], world.now)
         if 'vaqsider_tick_waits_seconds{zone="example.com"' not in metrics:
             yield f"the metrics are {metrics}"
@@ -58,17 +58,17 @@ def low() -> Iterator[str]:
 
 def silent() -> Iterator[str]:
     """A server of the parent that is off: the zone waits for it, and goes on. After its patience a
-    person is told, once."""
+    person hears of it, once."""
     for off in ("p1", "ns1"):
         world = World()
-        with folder(), living(world, "patience 20min\non-event tell\n"):
+        with folder(), living(world, "patience 20min\non-event say\n"):
             (world.parent if off == "p1" else world.zone).is_off.add(off)
             ends = list(passing(world, 15 * 60, every=180))
             if ends[-1][0] != 1 or events(world):
-                yield f"without {off} it ends with {ends[-1]}, and tells {events(world)}"
+                yield f"without {off} it ends with {ends[-1]}, and says {events(world)}"
             ends = list(passing(world, 15 * 60, every=180))
             if ends[-1][0] != 2 or len(events(world)) != 1:
-                yield f"for long without {off} it ends with {ends[-1]}, and tells {events(world)}"
+                yield f"for long without {off} it ends with {ends[-1]}, and says {events(world)}"
             (world.parent if off == "p1" else world.zone).is_off.clear()
             list(passing(world, 20 * 60))
             if lines()[-1] != "done algorithm-roll":
@@ -76,14 +76,14 @@ def silent() -> Iterator[str]:
 
 
 def late() -> Iterator[str]:
-    """A parent that takes too long: a person is told that, not of what is published after it."""
+    """A parent that takes too long: a person hears that, not of what is published after it."""
     world = World(reads_cds=False, believes=False)
-    with folder(), living(world, "parent hook\non-ds registrar\npatience 10min\non-event tell\n"):
+    with folder(), living(world, "parent hook\non-ds registrar\npatience 10min\non-event say\n"):
         list(passing(world, 3600))
         world.believes = True
         list(passing(world, 3600))
         if events(world) != ["parent lacks"] or lines()[-1] != "done algorithm-roll":
-            yield f"after a late parent it comes to {lines()[-1]}, and tells {events(world)}"
+            yield f"after a late parent it comes to {lines()[-1]}, and says {events(world)}"
 
 
 def commands() -> Iterator[str]:
@@ -91,9 +91,9 @@ def commands() -> Iterator[str]:
     world = World(reads_cds=False)
     with folder(), living(world, ""):
         said = "".join(it for _, it in passing(world, 3600, "--on-ds", "registrar 'a b'"))
-        told = [it["words"] for it in world.told()]
-        if "DS handed over" not in said or told != [["registrar", "a b"]]:
-            yield f"--on-ds is told {told}: {said}"
+        inputs = [it["words"] for it in world.inputs()]
+        if "DS handed over" not in said or inputs != [["registrar", "a b"]]:
+            yield f"--on-ds gets {inputs}: {said}"
         said, status = typed(["tick", f"{ZONE}.script", "--on-event", "'"], world.now)
         if status != 64 or "has to be a command" not in said:
             yield f"--on-event with half a quote ends with {status}: {said}"
@@ -210,14 +210,14 @@ def goes_on() -> Iterator[str]:
               (2, ("you", "needs a person: its last moment,"))]
     for (status, (who, says)), (found, said) in zip(wanted, ends):
         last = "".join(re.findall(r"the last tick, at [^,]+, (.*)", said))
-        told = re.findall(r"(?:algorithm-roll.* waits for|  safe) +(\w+)", said)
+        waits = re.findall(r"(?:algorithm-roll.* waits for|  safe) +(\w+)", said)
         is_said = last.startswith(says) if says else not last
-        if found != status or told != 3 * [who] or not is_said:
-            yield f"with {status} it waits for {told}, after {last!r}: {said}"
+        if found != status or waits != 3 * [who] or not is_said:
+            yield f"with {status} it waits for {waits}, after {last!r}: {said}"
 
 
 def unread() -> Iterator[str]:
-    """A policy that can't be read: a person is told once, and `zones` says it. Once it is right,
+    """A policy that can't be read: a person hears it once, and `zones` says it. Once it is right,
     all goes on."""
     world = World()
     with folder() as here, living(world, ""):
@@ -227,11 +227,11 @@ def unread() -> Iterator[str]:
         policy = Path(f"{ZONE}.policy")
         right = policy.read_text()
         policy.write_text(f"{right}zsk-lifetime soon\n")
-        ends = list(passing(world, 180, "--on-event", "tell", every=60))
+        ends = list(passing(world, 180, "--on-event", "say", every=60))
         said, _ = typed(["zones", "."], world.now)
         metrics, _ = typed(["zones", ".", "--prometheus"], world.now)
         if {status for status, _ in ends} != {2} or events(world) != ["needs a person"]:
-            yield f"with a wrong policy it ends with {ends[-1]}, and tells {events(world)}"
+            yield f"with a wrong policy it ends with {ends[-1]}, and says {events(world)}"
         if not re.search(r"safe +you ", said) or not re.search(r"tick_status{[^}]+} 2\n", metrics):
             yield f"with a wrong policy zones shows {said}, {metrics}"
         policy.write_text(right)
@@ -287,9 +287,9 @@ def running() -> Iterator[str]:
 
 def unable() -> Iterator[str]:
     """A roll that the signer can't do isn't begun, neither by a tick nor if it is asked for, and a
-    person is told why, once. Once the signer can, the next tick begins it."""
+    person hears why, once. Once the signer can, the next tick begins it."""
     world = World()
-    with folder(), living(world, "ksk-lifetime 7d\nsigner hook signer\non-event tell\n"):
+    with folder(), living(world, "ksk-lifetime 7d\nsigner hook signer\non-event say\n"):
         world.able = 1
         status, said = list(passing(world, 8 * DAY, every=6 * 3600))[-1]
         why = "signer hook signer can't do a ksk-roll: two keys"
@@ -337,10 +337,10 @@ def units() -> Iterator[str]:
         checked = analyzed("verify", "--man=no", "vaqsider@.timer", "vaqsider@.service")
         if checked.returncode or checked.stdout:
             yield f"systemd-analyze verify: {checked.stdout}"
-        told = analyzed("security", "--offline=true", "--no-pager", "vaqsider@.service").stdout
-        found = EXPOSURE.search(told)
+        output = analyzed("security", "--offline=true", "--no-pager", "vaqsider@.service").stdout
+        found = EXPOSURE.search(output)
         if not found or float(found[1]) > 2:
-            yield f"systemd-analyze security: {told[-200:]}"
+            yield f"systemd-analyze security: {output[-200:]}"
 
 
 def analyzed(*words: str) -> subprocess.CompletedProcess[str]:

@@ -38,12 +38,12 @@ def signed_by(number: int, data: bytes) -> str:
 
 def fill(change: Callable[[dict], None] = lambda it: None, number: int = 42116) -> int:
     """Signs all that is asked for. What is given back is changed. Gives how many there are."""
-    told = json.loads(Path("asked.json").read_text())
-    for it in told["signatures"]:
+    requests = json.loads(Path("asked.json").read_text())
+    for it in requests["signatures"]:
         it["signature"] = signed_by(number, base64.b64decode(it["signs"]))
         change(it)
-    Path("asked.json").write_text(json.dumps(told))
-    return len(told["signatures"])
+    Path("asked.json").write_text(json.dumps(requests))
+    return len(requests["signatures"])
 
 
 def signed_ahead():
@@ -102,8 +102,8 @@ def planned():
                  f"zsk-roll {old} {new}"]
         said, status = typed([*ASK, "--ttls", "60", "60", "60", "--delays", "1", "1", "1", *words],
                              205)
-        told = json.loads(Path("asked.json").read_text())["signatures"] if not status else ()
-        sizes = [len(it["dnskey"]) for it in told]
+        requests = json.loads(Path("asked.json").read_text())["signatures"] if not status else ()
+        sizes = [len(it["dnskey"]) for it in requests]
         if status or sorted(set(sizes)) != [1 + 1, 1 + 2]:
             yield f"a ceremony with a roll ends with {status}: {said}{sizes}"
 

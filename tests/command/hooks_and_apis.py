@@ -47,8 +47,8 @@ def hook_asks():
     with folder():
         keys, name = make(), "pkcs11:id=%01"
         of = keys["K1"].file
-        told = {"reference": of.path.name, "tag": of.tag, "algorithm": 13, "private": name}
-        keys["K1"].file.reference = keyfiles.find(told, ["."]).reference
+        reference = {"reference": of.path.name, "tag": of.tag, "algorithm": 13, "private": name}
+        keys["K1"].file.reference = keyfiles.find(reference, ["."]).reference
         hook = Hook(ZONE, 'cat >"$1"; echo "{\\"lacks\\": [\\"x\\"]}"')
         wanted = sets(keys, "K1,Z1 K1 Z1 K1")
         for step in hook.publish(Sets(), wanted, Path()):

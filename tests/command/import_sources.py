@@ -36,9 +36,9 @@ ALL = {"DNSKEYState": "omnipresent", "KRRSIGState": "omnipresent", "ZRRSIGState"
 
 def state(key: Key, kinds: str, goal: str = "omnipresent", **states: str) -> None:
     """A state file of BIND: `kinds` has K and Z."""
-    told = {**ALL, **states}
+    fields = {**ALL, **states}
     has = {"KRRSIGState": "K", "DSState": "K", "ZRRSIGState": "Z"}
-    lines = "".join(f"{name}: {value}\n" for name, value in told.items()
+    lines = "".join(f"{name}: {value}\n" for name, value in fields.items()
                     if has.get(name, kinds[0]) in kinds)
     text = STATE.format(tag=key.tag, ksk="yes" if "K" in kinds else "no",
                         zsk="yes" if "Z" in kinds else "no", states=lines, goal=goal)
@@ -51,14 +51,14 @@ def timed(key: Key, **times: int) -> None:
 
 
 def _of_bind(prepare):
-    def tell(keys):
+    def take(keys):
         for name in ("K2", "Z2", "C3"):
             keys[name].file.path.unlink()
         prepare(keys)
         with stores.Bind(Path()).installed():
-            return bind.tell(ZONE, Namespace(source="."))
+            return bind.inventory(ZONE, Namespace(source="."))
 
-    return tell
+    return take
 
 
 def _both(**states):
@@ -78,53 +78,53 @@ def _by_times(**of_zsk):
 
 
 def _of_pdns(*flags, stay=False, **how):
-    def tell(keys):
+    def take(keys):
         fake = stores.Pdns()
         for name, (active, published) in zip(("K1", "Z1", "K2"), flags):
             fake.keys.append({"key": keys[name], "active": active, "published": published})
         vars(fake).update(how)
         with fake.installed():
-            told = pdns.tell(ZONE, Namespace(source=None, stay=stay))
-            return told if stay else expect_private(told)
+            inventory = pdns.inventory(ZONE, Namespace(source=None, stay=stay))
+            return inventory if stay else expect_private(inventory)
 
-    return tell
+    return take
 
 
 def _of_api(*flags, stay=False, **how):
-    def tell(keys):
+    def take(keys):
         fake = stores.PdnsApi()
         for name, (active, published) in zip(("K1", "Z1", "K2"), flags):
             fake.keys.append({"key": keys[name], "active": active, "published": published})
         vars(fake).update(how)
         with fake.installed():
             args = Namespace(source="http://pdns", store="secret", stay=stay)
-            told = pdns.tell_by_api(ZONE, args)
-            return told if stay else expect_private(told)
+            inventory = pdns.inventory_by_api(ZONE, args)
+            return inventory if stay else expect_private(inventory)
 
-    return tell
+    return take
 
 
-def expect_private(told):
+def expect_private(inventory):
     """Each key's private half comes out, and is its own."""
-    texts = {it.private() for it in told.keys}
-    if len(texts) != len(told.keys) or not all("PrivateKey: " in it for it in texts):
+    texts = {it.private() for it in inventory.keys}
+    if len(texts) != len(inventory.keys) or not all("PrivateKey: " in it for it in texts):
         raise Failure(f"private halves: {texts}")
-    return told
+    return inventory
 
 
 def _of_knot(**times):
-    def tell(keys):
+    def take(keys):
         fake = stores.Knot()
         for name in ("K1", "Z1"):
             fake.does(["keymgr", "example.com.", "import-bind", str(keys[name].file.path)])
-        for told in fake.keys.values():
-            told.update(publish=1, active=1)
+        for key in fake.keys.values():
+            key.update(publish=1, active=1)
         fake.keys[f"id{keys['Z1'].tag}"].update(
             {name.replace("_", "-"): at for name, at in times.items()})
         with fake.installed():
-            return knot.tell(ZONE, Namespace(source=None, store=None))
+            return knot.inventory(ZONE, Namespace(source=None, store=None))
 
-    return tell
+    return take
 
 
 # What OpenDNSSEC 2.1.12 prints, for tags of the test's keys; and what it prints of a ZSK that has
@@ -135,7 +135,7 @@ LEFT, LEAVES, NEW = (("hidden", "NA", "hidden"), ("unretentive", "NA", "hidden")
 
 
 def _of_ods(ds="omnipresent", zsk="omnipresent", old=LEFT, served=("K1", "Z1"), socket=None):
-    def tell(keys):
+    def take(keys):
         def said(words, *_):
             where = ["--socket", socket] if socket else []
             if list(words[:-1]) != ["ods-enforcer", *where, "key", "list"]:
@@ -145,9 +145,9 @@ def _of_ods(ds="omnipresent", zsk="omnipresent", old=LEFT, served=("K1", "Z1"), 
 
         args = Namespace(source=socket, records=lambda: [Key.of(keys[it].data) for it in served])
         with mock.patch.object(opendnssec, "said", said):
-            return opendnssec.tell(ZONE, args)
+            return opendnssec.inventory(ZONE, args)
 
-    return tell
+    return take
 
 
 def flags(**given: bool) -> dict:
@@ -157,7 +157,7 @@ def flags(**given: bool) -> dict:
 
 def _of_dnst(rolls=(), name=ZONE, wrapped=True, **of_zsk):
     """The JSON that serde makes of a key set of `domain`."""
-    def tell(keys):
+    def take(keys):
         stamps = {"creation": {"secs": 1, "nanos": 0}, "published": None, "visible": None,
                   "ds_visible": None, "rrsig_visible": None, "withdrawn": None}
         kinds = {"K1": {"Ksk": flags(at_parent=True)}, "Z1": {"Zsk": flags(**of_zsk)},
@@ -170,9 +170,9 @@ def _of_dnst(rolls=(), name=ZONE, wrapped=True, **of_zsk):
             } for it, kind in kinds.items()
         }}
         Path("state.json").write_text(json.dumps({"keyset": made} if wrapped else made))
-        return dnst.tell(ZONE, Namespace(source="state.json"))
+        return dnst.inventory(ZONE, Namespace(source="state.json"))
 
-    return tell
+    return take
 
 
 KZ = "K1:k Z1:z"
@@ -242,18 +242,18 @@ ROWS = (
 
 def rows():
     """Each source says which keys are in use, and what is in progress."""
-    for name, tell, wanted, says in ROWS:
+    for name, take, wanted, says in ROWS:
         with folder():
             for path in Path().glob("K*.key"):
                 path.unlink()
             keys = signer_courses.make()
             names = {key: it for it, key in keys.items()}
             try:
-                told = tell(keys)
+                inventory = take(keys)
                 found = " ".join(sorted(
                     f"{names[it.key]}:{'k' * it.signs_keys}{'z' * it.signs_zone}"
-                    for it in told.keys))
-                said = "; ".join(told.moving)
+                    for it in inventory.keys))
+                said = "; ".join(inventory.moving)
             except Failure as failure:
                 found, said = None, str(failure)
         if found != wanted or says not in said or bool(says) != bool(said):
@@ -291,10 +291,10 @@ STAY = {"Knot": r"knot:id\d+", "OpenDNSSEC": r"pkcs11:id=(%[0-9a-f]{2})+",
 
 
 def of_sources():
-    for name, tell, _, _ in ROWS:
+    for name, take, _, _ in ROWS:
         if name in STAY:
             with folder():
-                keys = tell(signer_courses.make()).keys
+                keys = take(signer_courses.make()).keys
                 found = {it.reference for it in keys if it.private is None}
             if len(found) != 2 or not all(re.fullmatch(STAY[name], str(it)) for it in found):
                 yield f"{name} calls private halves {found}"

@@ -11,7 +11,7 @@ from tests.command.import_sources import ZONE, of_sources
 from tests.command.terminal import folder, typed
 from vaqsider import importing, keyfiles
 from vaqsider.signers import Key
-from vaqsider.sources import Found, Told
+from vaqsider.sources import Inventory, SourceKey
 
 KSK, ZSK = "Kexample.com.+013+64103.key", "Kexample.com.+013+46350.key"
 ASKED = ["import", "bind", ZONE, "--source", ".", "--server", "ns1", "--parent-server", "p",
@@ -111,8 +111,8 @@ def of_pdns():
 def _stored(*_):
     """The keys of the zone that is served, as a store has them."""
     keys = ((Key.of(keyfiles.read(it).data), it == KSK) for it in (KSK, ZSK))
-    return Told([Found(key, is_ksk, not is_ksk, reference="knot:id") for key, is_ksk in keys],
-                [], [])
+    return Inventory([SourceKey(key, is_ksk, not is_ksk, reference="knot:id")
+                      for key, is_ksk in keys], [], [])
 
 
 def signed_by_others():

@@ -164,9 +164,9 @@ def of_watch(row: Row, liar: str, asked: list):
     step, is_beside = ("dnskey", True) if row.step in BESIDE else (row.step, False)
     NOW_RIGHT.update(world(step))
     text, status = typed(["watch", f"{step}.script", *asked, "--json"], NOW)
-    told = json.loads(text) if text.startswith("{") else {"lacking": [], "beside": [], "next": []}
-    found = [(it["server"], it["text"]) for it in told["beside" if is_beside else "lacking"]]
-    is_due = [it.startswith(REPORT[step]) for it in told["next"]]
+    output = json.loads(text) if text.startswith("{") else {"lacking": [], "beside": [], "next": []}
+    found = [(it["server"], it["text"]) for it in output["beside" if is_beside else "lacking"]]
+    is_due = [it.startswith(REPORT[step]) for it in output["next"]]
     wanted = sorted((liar, it) for it in row.says)
     is_right = found == wanted and is_due == [True] * (is_beside or not wanted)
     if not is_right or bool(status) != bool(wanted) or is_beside and status != (row.state or 1):
@@ -177,10 +177,10 @@ def of_state(row: Row, liar: str, asked: list):
     """The state of these servers, otherwise than it has to be."""
     NOW_RIGHT.update(world("state"))
     text, status = typed(["watch", "zone.script", "--state", *asked, "--json"], NOW)
-    told = json.loads(text) if text.startswith("{") else {"lacking": [], "rows": []}
-    found = {(it["server"], it["text"]) for it in told["lacking"]}
+    output = json.loads(text) if text.startswith("{") else {"lacking": [], "rows": []}
+    found = {(it["server"], it["text"]) for it in output["lacking"]}
     wanted = int(bool(row.says)) if row.state is None else row.state
-    servers = [it["server"] for it in told["rows"]]
+    servers = [it["server"] for it in output["rows"]]
     if (found, status) != ({(liar, it) for it in row.says}, wanted) or servers != asked[1:6:2]:
         yield f"liars: state, {row.step}, {row.name}: {status}: {text}"
 
@@ -274,9 +274,9 @@ def of_found(servers, port: int):
         servers[PARENT].answer = row.parent or honest(above, as_referral)
         servers[RESOLVER].answer = row.resolver
         text, _ = typed(["watch", "dnskey.script", "--port", port, *row.more, "--json"], NOW)
-        told = json.loads(text)
-        found = tuple((it["server"], it["text"]) for it in told["lacking"])
-        if found != row.says or not row.says and told["asked"]["servers"] != list(row.asked):
+        output = json.loads(text)
+        found = tuple((it["server"], it["text"]) for it in output["lacking"])
+        if found != row.says or not row.says and output["asked"]["servers"] != list(row.asked):
             yield f"liars: {row.name}: {text}"
 
 

@@ -181,7 +181,7 @@ def key_file(flags, number):
 
 class Operator:
     """Types what docs/RUNBOOKS.md says, in a world in which servers have at once what `act`
-    publishes. The parent is told by hand."""
+    publishes. The parent gets its DS set by hand."""
 
     def __init__(self):
         self.now, self.names, self.script = 1000, {}, Path("S.script")
@@ -200,15 +200,15 @@ class Operator:
         how = {"act": ["--zone-file", "zone", "--out", "signed", "--parent-server", "up"],
                "watch": ["--server", "signed", "--parent-server", "up"], "call": []}[word]
         if word == "call" and line[0].startswith("wait"):
-            told, _ = typed(["status", self.script, "--json"], self.now)
+            output, _ = typed(["status", self.script, "--json"], self.now)
             roll = line[0].split(" ")[1]
-            rolls = {it["roll"]: it["not_before"] for it in json.loads(told)[0]["rolls"]}
+            rolls = {it["roll"]: it["not_before"] for it in json.loads(output)[0]["rolls"]}
             self.now = max(self.now, rolls[roll])
         text, status = typed([word, self.script, *how, *line, "--json"], self.now)
         self.now += 3
-        told = json.loads(text)
-        if word == "act" and (told["ds"] or told["cds"]):
-            records = (f"example.com. 30 IN {it.split(' IN ')[1]}" for it in told["ds"])
+        output = json.loads(text)
+        if word == "act" and (output["ds"] or output["cds"]):
+            records = (f"example.com. 30 IN {it.split(' IN ')[1]}" for it in output["ds"])
             Path("up.DS").write_text("".join(f"{record}\n" for record in records))
         # Before CDS is out something is due.
         is_first = word == "watch" and not line and "CDS" in Path("signed").read_text()
@@ -232,11 +232,11 @@ def by_the_command():
         operator = Operator()
         for command in (*first, *commands):
             yield from operator.type(command)
-        told, _ = typed(["status", operator.script, "--json"], operator.now)
-        (zone,) = json.loads(told)
+        output, _ = typed(["status", operator.script, "--json"], operator.now)
+        (zone,) = json.loads(output)
         _, sets, verdict = answers(operator.script.read_text().splitlines())
         if zone["rolls"] or verdict != "chain safe" or "CDS" in Path("signed").read_text():
-            yield f"{roll} ends with {told}"
+            yield f"{roll} ends with {output}"
         servers = ["--server", "signed", "--parent-server", "up"]
         state, status = typed(["watch", operator.script, "--state", *servers], operator.now)
         found, level = typed(["check", operator.script], operator.now)

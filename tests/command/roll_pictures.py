@@ -13,9 +13,9 @@ PHASES = ("propagation 1", "caches 1", "propagation 2", "caches 2", "last action
 
 def answers(lines):
     """The answers of the tables: to each call, the sets, and the verdict."""
-    from tables import answers as told
+    from tables import answers as of_tables
 
-    *replies, sets, verdict = told(lines)
+    *replies, sets, verdict = of_tables(lines)
     pairs = (part.split("=") for part in sets.split(" "))
     return replies, {name: set(keys.split(",")) - {"-"} for name, keys in pairs}, verdict
 
@@ -34,11 +34,11 @@ def bars_of(lines):
     made, shown, reports, ends = course_of(lines)
     for kind, key, begin, end, number, roll in made:
         of = "dnskey" if kind == "signers" else kind
-        told = [it for it in reports if of in it[1]]
-        over = [at + ttl for step, _, at, ttl, _ in told if step >= number]
+        of_kind = [it for it in reports if of in it[1]]
+        over = [at + ttl for step, _, at, ttl, _ in of_kind if step >= number]
         last = next((it for it in ends if it[0] >= number and it[1] == roll), None)
         if last and not over:
-            over = [last[2] + [0, *(ttl for *_, ttl, by in told if by < last[0])][-1]]
+            over = [last[2] + [0, *(ttl for *_, ttl, by in of_kind if by < last[0])][-1]]
         yield f"{LABELS[kind]} {key}", begin, end, min(over, default=None)
     for (kind, key), begin in shown.items():
         yield f"{LABELS[kind]} {key}", begin, None, None

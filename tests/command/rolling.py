@@ -78,11 +78,11 @@ def course_faults(course: Course) -> Iterator[str]:
 def left_faults(course: Course, world: World) -> Iterator[str]:
     """What a course leaves: no key is older than its lifetime and the time of a roll, files of keys
     that have left are away, and `check` finds nothing that can't be true."""
-    told = json.loads(typed(["status", f"{ZONE}.script", "--json"], world.now)[0])[0]
-    if not told["chain"]["safe"]:
-        yield f"the verdict is {told['chain']}"
+    zone_status = json.loads(typed(["status", f"{ZONE}.script", "--json"], world.now)[0])[0]
+    if not zone_status["chain"]["safe"]:
+        yield f"the verdict is {zone_status['chain']}"
     here = {path.name for path in Path().glob("K*.key")}
-    if here != {key["reference"] for key in told["keys"]}:
+    if here != {key["reference"] for key in zone_status["keys"]}:
         yield f"the key files are {here}"
     if not list(Path("left").glob("K*.key")):
         yield "no key has left"
@@ -155,10 +155,10 @@ def demands() -> Iterator[str]:
         rolls = [line.split(" ")[:2] for line in lines() if "zsk-roll" in line]
         if rolls != 2 * [line.split()[1:3] for line in shown.splitlines() if "zsk-roll" in line]:
             yield f"it shows {shown}, and makes {rolls}"
-        told = json.loads(typed(["next", script, "--dry-run", "--json"], world.now)[0])
+        answer = json.loads(typed(["next", script, "--dry-run", "--json"], world.now)[0])
         ends = json.loads(typed(["tick", script, "--json"], world.now)[0])
-        if told["word"] != "nothing" or ends[script]["status"] != 0:
-            yield f"as JSON they say {told} and {ends}"
+        if answer["word"] != "nothing" or ends[script]["status"] != 0:
+            yield f"as JSON they say {answer} and {ends}"
 
 
 def rolled_to(world: World) -> Iterator[str]:

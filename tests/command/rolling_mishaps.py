@@ -253,11 +253,11 @@ def hooks() -> Iterator[str]:
 
 
 def parents() -> Iterator[str]:
-    """A registrar that says yes and does nothing is told once, and after a while a person is asked
-    for; and a parent that is told by hand is waited for."""
+    """A registrar that says yes and does nothing gets it once, and after a while a person is asked
+    for; and a parent that gets it by hand is waited for."""
     for policy, status_at_first, says in (
-        ("parent hook\non-ds registrar\npatience 1h\non-event tell\n", 1, "DS handed over"),
-        ("parent ask\npatience 1h\non-event tell\n", 2, "give the parent the DS set: example.com."),
+        ("parent hook\non-ds registrar\npatience 1h\non-event say\n", 1, "DS handed over"),
+        ("parent ask\npatience 1h\non-event say\n", 2, "give the parent the DS set: example.com."),
     ):
         world = World(reads_cds=False, believes=False)
         with folder(), living(world, policy):
@@ -272,9 +272,9 @@ def parents() -> Iterator[str]:
             world.passes(2 * 3600)
             status, said = tick(world)
             tick(world)
-            told = [it["words"][0] for it in world.told()]
-            if status != 2 or told.count("registrar") > 1 or told.count("tell") not in (1, 2):
-                yield f"{policy!r}: then it ends with {status}, and has told {told}: {said}"
+            inputs = [it["words"][0] for it in world.inputs()]
+            if status != 2 or inputs.count("registrar") > 1 or inputs.count("say") not in (1, 2):
+                yield f"{policy!r}: then it ends with {status}, and has said {inputs}: {said}"
 
 
 CHECKS = (clocks, disks, together, hooks, parents)

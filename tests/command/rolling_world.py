@@ -98,19 +98,19 @@ class World:
         self.parent.at(self.now)
 
     def learns(self) -> None:
-        """Takes the DS sets that the registrar was told, and the private keys that were made."""
+        """Takes the DS sets that the registrar has got, and the private keys that were made."""
         for private in Path().rglob("K*.private"):
             if text := private.read_text():
                 testkeys.NUMBERS[int(private.stem.rpartition("+")[2])] = int(text)
-        told = [it for it in self.told() if "ds" in it and self.believes]
-        for ds in told[-1:]:
+        inputs = [it for it in self.inputs() if "ds" in it and self.believes]
+        for ds in inputs[-1:]:
             data = frozenset(it.partition(" DS ")[2] for it in ds["ds"])
             if data != self.ds:
                 self.give_ds(data)
 
-    def told(self) -> list[dict]:
-        """What the operator's commands were told."""
-        file = Path("told.json")
+    def inputs(self) -> list[dict]:
+        """What the operator's commands have got."""
+        file = Path("inputs.json")
         return [json.loads(it) for it in file.read_text().splitlines()] if file.exists() else []
 
     def _read_cds(self) -> None:
@@ -199,8 +199,8 @@ class World:
         if words[0] == "keygen":
             self._make(words, within)
         elif given is not None:
-            # (It is a file, as a tick that is killed later has told it all the same.)
-            with open("told.json", "a", encoding="ascii") as file:
+            # (It is a file, as a tick that is killed later has said it all the same.)
+            with open("inputs.json", "a", encoding="ascii") as file:
                 print(json.dumps({"words": list(words), **given}), file=file)
 
     def hooked(self, words, stdin="", seconds=0) -> str:
@@ -214,9 +214,9 @@ class World:
         if verb == "now":
             return json.dumps(self.signed or dict.fromkeys(SETS, []))
         count = sum(it["signers"] for it in asked.get("keys", ()))
-        told = {"ttls": {"dnskey": 60, "zone": 60},
-                "lacks": {"lacks": ["two keys"] if count > self.able else []}}
-        return json.dumps(told.get(verb, {}))
+        answers = {"ttls": {"dnskey": 60, "zone": 60},
+                   "lacks": {"lacks": ["two keys"] if count > self.able else []}}
+        return json.dumps(answers.get(verb, {}))
 
     def _running(self) -> dict:
         """What a signer that runs gives, in the form of `records_of`."""

@@ -88,12 +88,12 @@ class Server:
     def given(self, known) -> Sets:
         """The sets that the server gives."""
         names = {key.data: key for key in known}
-        told = {kind: self.ask(kind) for kind in ("DNSKEY", "SOA", "CDNSKEY")}
+        answers = {kind: self.ask(kind) for kind in ("DNSKEY", "SOA", "CDNSKEY")}
         of = {kind: [names.get(Key.of(it.to_text()).data, Key.of(it.to_text())) for it in records]
-              for kind, (records, _) in told.items() if kind != "SOA"}
+              for kind, (records, _) in answers.items() if kind != "SOA"}
         by_tag = {key.tag: key for key in known}
         by = {kind: frozenset(by_tag[it.key_tag] for it in made)
-              for kind, (_, made) in told.items()}
+              for kind, (_, made) in answers.items()}
         return Sets(frozenset(of["DNSKEY"]), by["DNSKEY"], by["SOA"], frozenset(of["CDNSKEY"]))
 
     def wait(self) -> None:
@@ -251,8 +251,8 @@ class OfKnotByPkcs11(OfKnot):
         """A key that is made there, with times that never come."""
         flags = ["ksk=yes", "zsk=no"] if is_sep else ["ksk=no", "zsk=yes"]
         far = [f"{it}={FAR}" for it in ("publish", "active")]
-        told = self.keymgr("generate", f"algorithm={algorithm}", *flags, *far)
-        data = self.keymgr("dnskey", told.split()[-1]).partition(" DNSKEY ")[2].strip()
+        number = self.keymgr("generate", f"algorithm={algorithm}", *flags, *far)
+        data = self.keymgr("dnskey", number.split()[-1]).partition(" DNSKEY ")[2].strip()
         path = Path(f"K{ORIGIN}+{int(algorithm):03}+{Key.of(data).tag:05}.key")
         path.write_text(f"{ORIGIN} DNSKEY {data}\n")
         return Key.of(data, name, keyfiles.read(path))

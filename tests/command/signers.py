@@ -125,9 +125,9 @@ def changes(script: str):
         Path("bad/dnssec-signzone").chmod(0o755)
         words = ["env", f"PATH={Path('bad').resolve()}:/usr/bin:/bin", f"PYTHONPATH={TOP}"]
         words += [sys.executable, "-m", "tests.command.signers", "--act", script]
-        told = subprocess.run(words, capture_output=True, text=True)
-        if told.returncode != 69 or Path("signed").read_text() != before:
-            yield f"{change}: {told.returncode} {told.stdout}"
+        done = subprocess.run(words, capture_output=True, text=True)
+        if done.returncode != 69 or Path("signed").read_text() != before:
+            yield f"{change}: {done.returncode} {done.stdout}"
 
 
 def mistake(script: str):

@@ -162,15 +162,15 @@ class PdnsApi(Pdns):
             self.changes += 1
             if self.changes == self.fails_at:
                 return 500, b'{"error": "database is locked"}'
-        told = json.loads(body) if body else None
-        value = self.answer(method, url.partition("/localhost")[2], told)
+        request = json.loads(body) if body else None
+        value = self.answer(method, url.partition("/localhost")[2], request)
         if isinstance(value, str):
             return 422, json.dumps({"error": value}).encode()
         if method != "GET":
             self.served.append(self.sets())
         return 200, b"" if value is None else json.dumps(value).encode()
 
-    def answer(self, method: str, path: str, told):
+    def answer(self, method: str, path: str, request):
         """A value, nothing, or an error as a text."""
         if path == f"/zones?zone={self.zone}.":
             return [{"id": f"{self.zone}."}]
@@ -180,13 +180,13 @@ class PdnsApi(Pdns):
             return [{"name": name, "type": "ConfigSetting", "value": value} for name, value in
                     (("direct-dnskey", self.direct), ("default-publish-cds", self.default))]
         rest = path.removeprefix(f"/zones/{self.zone}.").strip("/").split("/")
-        return getattr(self, f"_{method.lower()}")(*rest, told=told)
+        return getattr(self, f"_{method.lower()}")(*rest, request=request)
 
-    def _get(self, what: str, number: str = "", told=None):
+    def _get(self, what: str, number: str = "", request=None):
         if number:
             return {"privatekey": self.export_zone_key(number)}
         if what == "cryptokeys":
-            return [self._told(number, it) for number, it in enumerate(self.keys, start=1)]
+            return [self._members(number, it) for number, it in enumerate(self.keys, start=1)]
         if what == "metadata":
             return [{"kind": kind, "metadata": ["2"], "type": "Metadata"} for kind in self.metadata]
         rows = [("SOA", 300, [f"ns. h. {self.serial} 3600 600 86400 60"]), ("NS", 7200, ["ns."])]
@@ -196,31 +196,32 @@ class PdnsApi(Pdns):
              "records": [{"content": it, "disabled": False} for it in data]}
             for kind, ttl, data in rows]}
 
-    def _told(self, number: int, it: dict) -> dict:
-        told = {"type": "Cryptokey", "id": number, "active": it["active"], "keytype": "csk",
-                "published": it["published"], "dnskey": it["key"].data, "bits": 256}
-        return {name: value for name, value in told.items() if name not in self.lacks}
+    def _members(self, number: int, it: dict) -> dict:
+        members = {"type": "Cryptokey", "id": number, "active": it["active"], "keytype": "csk",
+                   "published": it["published"], "dnskey": it["key"].data, "bits": 256}
+        return {name: value for name, value in members.items() if name not in self.lacks}
 
-    def _post(self, _: str, told):
-        file = next(it for it in Path().glob("K*.private") if it.read_text() == told["privatekey"])
+    def _post(self, _: str, request):
+        private = request["privatekey"]
+        file = next(it for it in Path().glob("K*.private") if it.read_text() == private)
         self.keys.append({"key": Key.of(keyfiles.read(file.with_suffix(".key")).data),
-                          "active": told["active"], "published": told["published"]})
-        return self._told(len(self.keys), self.keys[-1])
+                          "active": request["active"], "published": request["published"]})
+        return self._members(len(self.keys), self.keys[-1])
 
-    def _put(self, what: str, number: str = "", told=None):
+    def _put(self, what: str, number: str = "", request=None):
         if what == "cryptokeys":
             for name in ("active", "published"):
-                if not isinstance(told.get(name), bool):
+                if not isinstance(request.get(name), bool):
                     return f"Key '{name}' not present or not a Bool"
-                self._set(number, name, told[name])
-        if what == "" and "nsec3param" in told:
-            self.nsec3 = told["nsec3param"] or None
+                self._set(number, name, request[name])
+        if what == "" and "nsec3param" in request:
+            self.nsec3 = request["nsec3param"] or None
         if what == "rectify" and not any(it["active"] for it in self.keys):
             return f"Zone '{self.zone}' is not DNSSEC signed, not rectifying."
         return None
 
-    def _patch(self, _: str, told):
-        for it in told["rrsets"]:
+    def _patch(self, _: str, request):
+        for it in request["rrsets"]:
             data = [row["content"] for row in it.get("records", ())]
             if it["type"] == "SOA":
                 self.serial = int(data[0].split()[2])
@@ -260,15 +261,15 @@ class Knot(Fake):
         words = words[1:]
         verb, *rest = words[1:]
         if verb == "list":
-            rows = [{"id": name, **told} for name, told in self.keys.items()]
+            rows = [{"id": name, **key} for name, key in self.keys.items()]
             return json.dumps([{k: v for k, v in it.items() if k != "key"} for it in rows])
         if verb == "dnskey":
             return f"example.com. DNSKEY {self.keys[rest[0]]['key'].data}\n"
         if verb == "import-bind":
             return self._import(Path(rest[0]))
-        told = self.keys[rest[0]]
+        key = self.keys[rest[0]]
         for name, _, value in (it.partition("=") for it in rest[1:]):
-            told[name] = value == "yes" if name in ("ksk", "zsk") else int(value)
+            key[name] = value == "yes" if name in ("ksk", "zsk") else int(value)
         return "OK\n"
 
     def _import(self, path: Path) -> str:
@@ -311,11 +312,11 @@ class Bind(Fake):
         if words[0] == "rndc":
             return self._control(words)
         path = Path(words[-1]).with_suffix(".private")
-        told = self._times(path)
+        times = self._times(path)
         if "-p" in words:
             names = {"SYNC Publish": "SyncPublish", "SYNC Delete": "SyncDelete"}
             every = ("Created", *sorted(inline.TIMES), "DS Publish")
-            return "".join(f"{it}: {told.get(names.get(it, it), 'UNSET')}\n" for it in every)
+            return "".join(f"{it}: {times.get(names.get(it, it), 'UNSET')}\n" for it in every)
         text = path.read_text()
         options = {"-P": "Publish", "-A": "Activate", "-I": "Inactive", "-D": "Delete"}
         rest = words[1:-1]
@@ -353,13 +354,13 @@ class Bind(Fake):
               for path in sorted(self.folder.glob("K*.private"))]
 
         def those(begin: str, *ends: str) -> list[Key]:
-            return [key for key, told in of if begin in told and not told.keys() & set(ends)]
+            return [key for key, times in of if begin in times and not times.keys() & set(ends)]
 
         signers, zone = by_flags(those("Activate", "Inactive", "Delete"))
         rows = [("DNSKEY", it.data) for it in those("Publish", "Delete")]
         # In the second of its deletion it comes in again.
-        rows += [("CDNSKEY", key.data) for key, told in of
-                 if "SyncPublish" in told and int(told.get("SyncDelete", NOW)) >= NOW]
+        rows += [("CDNSKEY", key.data) for key, times in of
+                 if "SyncPublish" in times and int(times.get("SyncDelete", NOW)) >= NOW]
         rows += [("RRSIG", f"{kind} 13 2 60 19700131000000 19700101000000 {it.tag} example.com. A")
                  for kind, by in (("DNSKEY", signers), ("SOA", zone)) for it in by]
         return SOA + "".join(f"example.com. 60 IN {kind} {data}\n" for kind, data in rows)

@@ -16,7 +16,7 @@ class Ready:
 
     replies: list = []
     closing_lines: list = []
-    told: dict = {}
+    zone_status: dict = {}
 
     def __init__(self, line, *more):
         self.calls = len(more)
@@ -29,7 +29,7 @@ class Ready:
         return self.closing_lines
 
     def status(self):
-        return self.told
+        return self.zone_status
 
     def note(self, line):
         pass
@@ -99,7 +99,7 @@ def took(rolls):
     lines, notes = course(rolls)
     write(lines, notes)
     *Ready.replies, _, _ = answered = programs.answers(lines)
-    Ready.closing_lines, Ready.told = answered[-2:], programs.status(lines)
+    Ready.closing_lines, Ready.zone_status = answered[-2:], programs.status(lines)
     return {name: seconds(part) for name, part in parts("long.script").items()}
 
 

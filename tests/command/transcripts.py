@@ -88,8 +88,8 @@ def compare(write, names="*.txt"):
 def left(files):
     """These files, and drafts that nobody removes. A crash may cost a serial number."""
     texts = {name: Path(name).read_text() for name in files if Path(name).exists()}
-    told = {name: re.sub(r"(SOA\t\S+ \S+) \d+", r"\1 N", text) for name, text in texts.items()}
-    return {**told, "drafts": [path.name for path in Path().glob(".*")]}
+    masked = {name: re.sub(r"(SOA\t\S+ \S+) \d+", r"\1 N", text) for name, text in texts.items()}
+    return {**masked, "drafts": [path.name for path in Path().glob(".*")]}
 
 
 class Disk:

@@ -16,7 +16,7 @@ from ..keyfiles import SEP, KeyFile, key_tag
 
 if TYPE_CHECKING:
     from ..act import Act
-    from .daemon import Store
+    from .daemon import SignerStore
 
 # What CDS for no key at all is for: the DS set has to go (RFC 8078, section 4).
 DELETION = "0 3 0 AA=="
@@ -192,14 +192,14 @@ def of(args: Namespace, act: Act) -> Signer:
     if name in ("bind", "ldns"):
         from . import files
 
-        return files.Files(args, act)
+        return files.FileSigner(args, act)
     from . import daemon
 
     return daemon.Daemon(store(name, command, args, act.keys.origin), args, act)
 
 
 @dataclass(frozen=True)
-class Planned:
+class PlanSigner:
     """A signer, for a plan: where its key files are, what of sets it can't do, and which keys that
     are away can't sign another DNSKEY set than the present one at a moment."""
 
@@ -208,7 +208,7 @@ class Planned:
     away: Callable[[Sets, float], Iterator[str]] = lambda *_: iter(())
 
 
-def planned(args: Namespace, zone: str) -> Planned | None:
+def planned(args: Namespace, zone: str) -> PlanSigner | None:
     """The signer of a plan, if the command line names one."""
     if not args.signer:
         return None
@@ -218,10 +218,10 @@ def planned(args: Namespace, zone: str) -> Planned | None:
         from . import files
 
         return files.planned(name, args.SCRIPT, zone.rstrip(".") + ".", folders)
-    return Planned(store(name, command, args, zone.rstrip(".") + ".").lacks, folders)
+    return PlanSigner(store(name, command, args, zone.rstrip(".") + ".").lacks, folders)
 
 
-def store(name: str, command: str, args: Namespace, origin: str) -> Store:
+def store(name: str, command: str, args: Namespace, origin: str) -> SignerStore:
     """The database of a signer that runs."""
     if name not in STORES or (name in WITH) != bool(command.strip()):
         raise Failure(f"--signer is {', '.join(NAMES)}, not '{args.signer}'", USAGE)
@@ -239,37 +239,37 @@ def not_taken(args: Namespace) -> Iterator[str]:
                 yield option.replace("_", "-")
 
 
-def _pdns(_: str, args: Namespace, origin: str) -> Store:
+def _pdns(_: str, args: Namespace, origin: str) -> SignerStore:
     from . import pdns
 
     return pdns.Pdnsutil(origin, args.signer_config, getattr(args, "nsec3", None))
 
 
-def _pdns_api(url: str, args: Namespace, origin: str) -> Store:
+def _pdns_api(url: str, args: Namespace, origin: str) -> SignerStore:
     from . import pdns_api
 
     nsec3 = getattr(args, "nsec3", None)
     return pdns_api.Api(origin, url.strip(), args.signer_config, nsec3)
 
 
-def _knot(_: str, args: Namespace, origin: str) -> Store:
+def _knot(_: str, args: Namespace, origin: str) -> SignerStore:
     from . import knot
 
     return knot.Knot(origin, args.signer_config)
 
 
-def _inline(_: str, args: Namespace, origin: str) -> Store:
+def _inline(_: str, args: Namespace, origin: str) -> SignerStore:
     from . import inline
 
     return inline.Inline(origin, args)
 
 
-def _hook(command: str, args: Namespace, origin: str) -> Store:
+def _hook(command: str, args: Namespace, origin: str) -> SignerStore:
     from . import hook
 
     return hook.Hook(origin, command)
 
 
-STORES: dict[str, Callable[[str, Namespace, str], Store]] = {
+STORES: dict[str, Callable[[str, Namespace, str], SignerStore]] = {
     "pdns": _pdns, "pdns-api": _pdns_api, "knot": _knot, "bind-inline": _inline, "hook": _hook,
 }

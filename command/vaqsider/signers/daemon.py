@@ -17,7 +17,7 @@ from .. import place
 from ..errors import UNAVAILABLE, Failure
 from ..keyfiles import KeyFile
 from ..signing import shown
-from ..zonefile import By
+from ..zonefile import KeyId
 from . import OF_FILES, Key, Sets, Wish
 
 if TYPE_CHECKING:
@@ -32,18 +32,18 @@ LOCKED, PAUSE = "database is locked", 0.5
 
 
 @dataclass(frozen=True)
-class Step:
+class SignerStep:
     """A command of a signer. What is run may be made only when it is its turn, of what is there
     then; until then it is shown by these words. Made of no words, it is done by then."""
 
     words: tuple[str, ...]
-    late: Callable[[], Step | tuple[str, ...]] | None = None
+    late: Callable[[], SignerStep | tuple[str, ...]] | None = None
     stdin: str = ""
     seconds: float = 0
 
     def run(self) -> str:
         made = self.late() if self.late else self.words
-        if isinstance(made, Step):
+        if isinstance(made, SignerStep):
             return made.run()
         return said(made, self.stdin, self.seconds) if made else ""
 
@@ -56,9 +56,9 @@ def said(words: tuple[str, ...] | list[str], stdin: str = "", seconds: float = 0
         out = done.stdout.decode(errors="replace")
         if not done.returncode:
             return out
-        told = done.stderr.decode(errors="replace") + out
-        if LOCKED not in told or time.monotonic() + PAUSE > end:
-            lines = filter(None, (it.strip() for it in told.splitlines()))
+        output = done.stderr.decode(errors="replace") + out
+        if LOCKED not in output or time.monotonic() + PAUSE > end:
+            lines = filter(None, (it.strip() for it in output.splitlines()))
             why = "; ".join(list(lines)[:3]) or f"status {done.returncode}"
             raise Failure(f"{shown(list(words))}: {why}", UNAVAILABLE)
         time.sleep(PAUSE)
@@ -78,7 +78,7 @@ def _ended(words: list[str], stdin: str, seconds: float) -> subprocess.Completed
         raise Failure(text, UNAVAILABLE) from None
 
 
-class Store(Protocol):
+class SignerStore(Protocol):
     """The database of a signer that runs, by its three verbs; and which options of signing an act
     may give it."""
 
@@ -91,11 +91,11 @@ class Store(Protocol):
     def now(self, known: list[Key]) -> Sets:
         """What is there now. These are the keys that the script knows."""
 
-    def publish(self, now: Sets, wanted: Sets, folder: Path) -> Iterator[Step]:
+    def publish(self, now: Sets, wanted: Sets, folder: Path) -> Iterator[SignerStep]:
         """The commands from what is there to what is wanted. Each leaves a chain. They may have
         files in this private folder."""
 
-    def renew(self) -> Iterator[Step]:
+    def renew(self) -> Iterator[SignerStep]:
         """The commands that have all be signed anew, under a higher serial, and served."""
 
     def ttls(self) -> dict[str, int]:
@@ -106,13 +106,13 @@ class Store(Protocol):
 
 
 @dataclass
-class Plan:
+class DaemonVersion:
     """What an act does."""
 
-    store: Store
+    store: SignerStore
     now: Sets
     wanted: Sets
-    steps: list[Step]
+    steps: list[SignerStep]
     known: list[Key]
 
     @property
@@ -157,7 +157,7 @@ class Plan:
 class Daemon:
     """A signer that runs, for an act."""
 
-    def __init__(self, store: Store, args: Namespace, act: Act) -> None:
+    def __init__(self, store: SignerStore, args: Namespace, act: Act) -> None:
         self.store, self.args, self.act = store, args, act
         self.known = [Key.of(file.data, name, file) for name, file in act.keys.every().items()]
         for name, usual in OF_FILES.items():
@@ -171,25 +171,25 @@ class Daemon:
     def now(self) -> Sets:
         return self.store.now(self.known)
 
-    def plan(self, wish: Wish) -> Plan:
+    def plan(self, wish: Wish) -> DaemonVersion:
         """What has to be changed, if all of it can be."""
         return self._from(self.now(), wish)
 
-    def _from(self, now: Sets, wish: Wish) -> Plan:
+    def _from(self, now: Sets, wish: Wish) -> DaemonVersion:
         lacks = list(self.lacks(wish.sets))
         if lacks:
             raise Failure("; ".join(lacks), UNAVAILABLE)
-        there = {By(key.algorithm, key.tag) for key in now.dnskey}
+        there = {KeyId(key.algorithm, key.tag) for key in now.dnskey}
         self.act.expect_own(there, self.store.name)
         for key in sorted(wish.sets.keys, key=str):
             if not self.store.fits(key):
                 text = f"{key} is neither in {self.store.name} nor, with its private half, here"
                 raise Failure(text, UNAVAILABLE)
         steps = [*self.store.publish(now, wish.sets, wish.folder), *self.store.renew()]
-        return Plan(self.store, now, wish.sets, steps, self.known)
+        return DaemonVersion(self.store, now, wish.sets, steps, self.known)
 
     @contextlib.contextmanager
-    def publish(self, wish: Wish) -> Iterator[Plan]:
+    def publish(self, wish: Wish) -> Iterator[DaemonVersion]:
         """The plan, with a folder for its files. The commands run when it is put."""
         now = self.now()
         if now == wish.sets:
@@ -200,9 +200,9 @@ class Daemon:
             yield self._from(now, replace(wish, folder=folder))
 
     @contextlib.contextmanager
-    def renew(self, wish: Wish) -> Iterator[Plan]:
+    def renew(self, wish: Wish) -> Iterator[DaemonVersion]:
         """The same, if nothing but signatures is due."""
-        yield Plan(self.store, wish.sets, wish.sets, list(self.store.renew()), self.known)
+        yield DaemonVersion(self.store, wish.sets, wish.sets, list(self.store.renew()), self.known)
 
 
 def is_here(file: KeyFile | None) -> bool:

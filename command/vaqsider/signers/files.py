@@ -17,8 +17,8 @@ from .. import place, serial, signing, words, zonefile
 from ..arguments import expect_other, file_name
 from ..errors import UNAVAILABLE, Failure
 from ..signing import Nsec3, Task, Tools
-from ..zonefile import By, Due, Row, Zone, parsed
-from . import Key, Planned, Sets, Wish, bind, ldns
+from ..zonefile import DueZone, KeyId, ZoneFile, ZoneRecord, parsed
+from . import Key, PlanSigner, Sets, Wish, bind, ldns
 from .daemon import is_here
 
 if TYPE_CHECKING:
@@ -28,15 +28,15 @@ TOOLS = {"bind": bind.TOOLS, "ldns": ldns.TOOLS}
 
 
 @dataclass
-class Plan:
+class FileVersion:
     """The next version: what is due, who signs it and how, and which signatures are kept. Once it
     is made it is in the file `ready`."""
 
-    signer: Files
+    signer: FileSigner
     unsigned: Path
-    due: Due
+    due: DueZone
     task: Task
-    kept: dict[str, Row]
+    kept: dict[str, ZoneRecord]
     ready: Path = Path("ready")
 
     def commands(self) -> list[list[str]]:
@@ -102,16 +102,16 @@ class Plan:
         }
 
 
-def _tags(keys: Iterable[By]) -> str:
+def _tags(keys: Iterable[KeyId]) -> str:
     return " ".join(str(by.tag) for by in sorted(keys)) or "no key"
 
 
-class Files:
+class FileSigner:
     """The signer of a script's zone file, for an act."""
 
     def __init__(self, args: Namespace, act: Act) -> None:
         self.args, self.act, self.keys = args, act, act.keys
-        name, beside = file_name(act.told["zone"]), Path(args.SCRIPT).parent
+        name, beside = file_name(act.zone_status["zone"]), Path(args.SCRIPT).parent
         self.zone_file = Path(args.zone_file or beside / f"{name}.zone")
         self.signed: Path = Path(args.out or f"{self.zone_file}.signed")
         self.name = args.signer or "bind"
@@ -127,7 +127,7 @@ class Files:
         return None if last is None else sets_of(last)
 
     @contextlib.contextmanager
-    def publish(self, wish: Wish) -> Iterator[Plan]:
+    def publish(self, wish: Wish) -> Iterator[FileVersion]:
         """Makes the next version in a folder beside its place."""
         with place.folder(self.signed) as folder:
             plan = self.plan(replace(wish, folder=folder))
@@ -137,7 +137,7 @@ class Files:
 
     renew = publish
 
-    def plan(self, wish: Wish) -> Plan:
+    def plan(self, wish: Wish) -> FileVersion:
         """Reads the zone and its last version, and says what comes next."""
         self.expect_two_files()
         unsigned, last = self.in_full(self.zone_file, wish.folder), self.last(wish.folder)
@@ -145,21 +145,21 @@ class Files:
         kept = self.keys.kept(last, wish.now)
         before = last.serial if last else None
         number = serial.following(self.args.serial, unsigned.serial, before, wish.now)
-        due = Due(self.keys.origin, number, self.sets(unsigned, kept), self.signers())
-        return Plan(self, unsigned.path, due, self.task(unsigned, last, wish), kept)
+        due = DueZone(self.keys.origin, number, self.sets(unsigned, kept), self.signers())
+        return FileVersion(self, unsigned.path, due, self.task(unsigned, last, wish), kept)
 
-    def in_full(self, path: Path, folder: Path) -> Zone:
+    def in_full(self, path: Path, folder: Path) -> ZoneFile:
         """A zone file as its signer's tool writes it."""
         made = zonefile.in_full(path, self.keys.origin, self.tools, folder)
-        return Zone.of(self.keys.origin, made)
+        return ZoneFile.of(self.keys.origin, made)
 
-    def last(self, folder: Path) -> Zone | None:
+    def last(self, folder: Path) -> ZoneFile | None:
         """The version that is in place now."""
         if not self.signed.is_file():
             return None
         try:
-            return Zone.of(self.keys.origin, self.signed)
-        except zonefile.NotFull:
+            return ZoneFile.of(self.keys.origin, self.signed)
+        except zonefile.PartialRecord:
             return self.in_full(self.signed, folder)
 
     def expect_two_files(self) -> None:
@@ -168,27 +168,27 @@ class Files:
             raise Failure(f"{self.signed} is the unsigned zone: choose another --out")
         expect_other(self.signed, self.args.SCRIPT)
 
-    def sets(self, unsigned: Zone, kept: dict[str, Row]) -> dict[str, list[Row]]:
+    def sets(self, unsigned: ZoneFile, kept: dict[str, ZoneRecord]) -> dict[str, list[ZoneRecord]]:
         """DNSKEY, and CDS and CDNSKEY with the TTL of the SOA record."""
         given, ttl = self.args.dnskey_ttl, self.keys.ttl() or unsigned.soa.ttl
         ttl = ttl if given is None else given
         signed = {parsed("RRSIG", row.data).original_ttl for row in kept.values()}
         if signed and given is not None and signed != {ttl}:
             raise Failure(f"the DNSKEY set is signed with the TTL {min(signed)}: it has to stay")
-        sets: dict[str, list[Row]] = {"DNSKEY": [], "CDS": [], "CDNSKEY": []}
+        sets: dict[str, list[ZoneRecord]] = {"DNSKEY": [], "CDS": [], "CDNSKEY": []}
         sets["DNSKEY"] = self.keys.dnskey(min(signed, default=ttl))
         if self.act.has_cds and self.keys.cds_signer():
             sets.update(self.keys.cds(unsigned.soa.ttl, self.act.digests))
         return sets
 
-    def signers(self) -> dict[str, frozenset[By]]:
+    def signers(self) -> dict[str, frozenset[KeyId]]:
         """Which keys sign DNSKEY, CDS and CDNSKEY, and the rest."""
         zone = self.keys.published["zone"]
         cds = self.keys.by([*self.keys.cds_signer(), *zone])
         signers = self.keys.by(self.keys.published["signers"])
         return {"DNSKEY": signers, "CDS": cds, "CDNSKEY": cds, "zone": self.keys.by(zone)}
 
-    def task(self, unsigned: Zone, last: Zone | None, wish: Wish) -> Task:
+    def task(self, unsigned: ZoneFile, last: ZoneFile | None, wish: Wish) -> Task:
         """Which keys sign, and how. NSEC3 stays as the last version has it."""
         names = self.keys.here()
         for lack in self.lacks(_signing(wish.sets, names)):
@@ -208,7 +208,7 @@ def lacks(name: str, wanted: Sets) -> Iterator[str]:
         yield "ldns can't sign a zone with a CSK beside a ZSK: use --signer bind"
 
 
-def planned(name: str, script: str, zone: str, folders: Sequence[str | Path]) -> Planned:
+def planned(name: str, script: str, zone: str, folders: Sequence[str | Path]) -> PlanSigner:
     """The tools of a signer, for a plan: a key that is away signs only by a ceremony."""
     from .. import ceremony
 
@@ -223,7 +223,7 @@ def planned(name: str, script: str, zone: str, folders: Sequence[str | Path]) ->
                 yield f"the private half of {key} isn't here, and it has signed no such DNSKEY " \
                     "set for that moment: 'vaqsider ceremony' asks for that by --roll"
 
-    return Planned(lambda wanted: lacks(name, wanted), folders, away)
+    return PlanSigner(lambda wanted: lacks(name, wanted), folders, away)
 
 
 def _signing(sets: Sets, names: list[str]) -> Sets:
@@ -231,10 +231,10 @@ def _signing(sets: Sets, names: list[str]) -> Sets:
     return replace(sets, signers=frozenset(it for it in sets.signers if it.name in names))
 
 
-def sets_of(zone: Zone) -> Sets:
+def sets_of(zone: ZoneFile) -> Sets:
     """What a signed zone has."""
     keys = {Key.of(row.data) for row in zone.top.get("DNSKEY", ())}
-    named = {By(key.algorithm, key.tag): key for key in keys}
+    named = {KeyId(key.algorithm, key.tag): key for key in keys}
 
     def by(kind: str) -> frozenset[Key]:
         made = zone.signed.get((zone.origin.lower(), kind), ())
@@ -244,7 +244,7 @@ def sets_of(zone: Zone) -> Sets:
     return Sets(frozenset(keys), by("DNSKEY"), by("SOA"), cds)
 
 
-def make(plan: Plan, folder: Path) -> Path:
+def make(plan: FileVersion, folder: Path) -> Path:
     """Makes the next version, `ready`, and verifies it."""
     whole, ready = folder / "whole", folder / "ready"
     zonefile.write(whole, plan.due.whole(zonefile.rows(plan.unsigned)))
@@ -253,15 +253,15 @@ def make(plan: Plan, folder: Path) -> Path:
             sign(plan, folder)
         else:
             whole.rename(ready)
-        plan.due.refuse(Zone.of(plan.due.origin, ready))
-    except zonefile.NotFull as error:
+        plan.due.refuse(ZoneFile.of(plan.due.origin, ready))
+    except zonefile.PartialRecord as error:
         raise Failure(f"the signed zone is wrong: {error}", UNAVAILABLE) from None
     if plan.task.keys:
         signing.run(plan.verifying(), folder)
     return ready
 
 
-def sign(plan: Plan, folder: Path) -> None:
+def sign(plan: FileVersion, folder: Path) -> None:
     """Signs `whole`. What isn't due goes, and signatures that are kept come in."""
     signing.run(plan.signer.tools.signs(plan.task.from_anywhere()), folder)
     signed = plan.due.without_others(zonefile.rows(folder / "draft"))

@@ -10,7 +10,7 @@ from typing import Any, Iterator
 
 from ..errors import UNAVAILABLE, Failure
 from . import SAID, Key, Sets
-from .daemon import Step
+from .daemon import SignerStep
 
 # For how many seconds the command may work on one verb.
 PATIENCE = 3600
@@ -24,13 +24,13 @@ class Hook:
     def __init__(self, origin: str, command: str) -> None:
         self.zone, self.command = origin, command.strip()
 
-    def _asking(self, verb: str, sets: Sets | None = None) -> Step:
+    def _asking(self, verb: str, sets: Sets | None = None) -> SignerStep:
         asked: dict[str, object] = {"verb": verb, "zone": self.zone}
         if sets is not None:
             asked["keys"] = [self._key(key, sets) for key in sorted(
                 sets.keys | sets.cds, key=lambda it: (str(it), it.data))]
         words = ("sh", "-c", self.command, "hook", verb)
-        return Step(words, stdin=json.dumps(asked), seconds=PATIENCE)
+        return SignerStep(words, stdin=json.dumps(asked), seconds=PATIENCE)
 
     @staticmethod
     def _key(key: Key, sets: Sets) -> dict[str, object]:
@@ -45,18 +45,18 @@ class Hook:
     def _answer(self, verb: str, sets: Sets | None = None) -> dict[str, Any]:
         text = self._asking(verb, sets).run()
         try:
-            told = json.loads(text)
-            if not isinstance(told, dict):
+            answer = json.loads(text)
+            if not isinstance(answer, dict):
                 raise ValueError("no object")
-            return told
+            return answer
         except ValueError as error:
             raise Failure(f"{self.command}: {verb}: what it says is no JSON: {error}",
                           UNAVAILABLE) from None
 
     def now(self, known: list[Key]) -> Sets:
-        told, names = self._answer("now"), {key: key for key in known}
+        answer, names = self._answer("now"), {key: key for key in known}
         try:
-            of = {kind: frozenset(names.get(it, it) for it in map(Key.of, told[kind]))
+            of = {kind: frozenset(names.get(it, it) for it in map(Key.of, answer[kind]))
                   for kind in SAID}
         except (KeyError, TypeError, ValueError) as error:
             raise Failure(f"{self.command}: now: it lacks sets of records: {error!r}",
@@ -67,8 +67,8 @@ class Hook:
         return iter(map(str, self._answer("lacks", wanted).get("lacks", ())))
 
     def ttls(self) -> dict[str, int]:
-        told = self._answer("ttls")
-        ttls = {kind: told.get(kind) for kind in ("dnskey", "zone")}
+        answer = self._answer("ttls")
+        ttls = {kind: answer.get(kind) for kind in ("dnskey", "zone")}
         found = {kind: it for kind, it in ttls.items() if type(it) is int and 0 <= it < 2**32}
         if len(found) != len(ttls):
             raise Failure(f"{self.command}: ttls: it says {ttls}", UNAVAILABLE)
@@ -78,9 +78,9 @@ class Hook:
         """It knows where its keys are."""
         return True
 
-    def publish(self, now: Sets, wanted: Sets, _: Path) -> Iterator[Step]:
+    def publish(self, now: Sets, wanted: Sets, _: Path) -> Iterator[SignerStep]:
         if now != wanted:
             yield self._asking("publish", wanted)
 
-    def renew(self) -> Iterator[Step]:
+    def renew(self) -> Iterator[SignerStep]:
         yield self._asking("renew")

@@ -24,7 +24,7 @@ from ..arguments import file_name
 from ..errors import UNAVAILABLE, Failure
 from ..keyfiles import KeyFile, read
 from . import DELETION, Key, Sets, bind, by_flags, files, lacks_by_flags
-from .daemon import Step, is_here, said
+from .daemon import SignerStep, is_here, said
 
 TIME = re.compile(r"(?P<name>[\w ]+): (?P<at>UNSET|\d+)")
 TIMES = {"Publish", "Activate", "Inactive", "Delete", "SYNC Publish", "SYNC Delete", "Revoke"}
@@ -36,11 +36,11 @@ SIGNING = re.compile(r"Signing with key (\d+)/")
 PAUSE, PATIENCE = 0.3, 60
 
 
-class Held:
+class InlineKey:
     """A key file in named's folder, with its times."""
 
-    def __init__(self, file: KeyFile, told: str, now: float) -> None:
-        found = {it["name"]: it["at"] for it in map(TIME.fullmatch, told.splitlines()) if it}
+    def __init__(self, file: KeyFile, output: str, now: float) -> None:
+        found = {it["name"]: it["at"] for it in map(TIME.fullmatch, output.splitlines()) if it}
         if not TIMES <= found.keys():
             raise Failure(f"dnssec-settime -p all {file.path}: times are missing", UNAVAILABLE)
         self.file, self.key, self.now = file, Key.of(file.data, file.path.name, file), now
@@ -85,12 +85,13 @@ class Inline:
 
     # What is there
 
-    def held(self) -> list[Held]:
+    def held(self) -> list[InlineKey]:
         """The keys of the zone in named's folder."""
         files = [read(path) for path in sorted(self.folder.glob("K*.key"))]
         of = [it for it in files if it.owner.rstrip(".").lower() == self.zone.rstrip(".").lower()]
-        return [Held(it, said(("dnssec-settime", "-u", "-p", "all", str(it.path.resolve()))),
-                     self.clock()) for it in of if it.private.is_file()]
+        words = "dnssec-settime", "-u", "-p", "all"
+        return [InlineKey(it, said((*words, str(it.path.resolve()))), self.clock())
+                for it in of if it.private.is_file()]
 
     def now(self, known: list[Key]) -> Sets:
         names = {key: key for key in known}
@@ -113,7 +114,7 @@ class Inline:
         """Those of the unsigned zone; the DNSKEY set has that of the key files, or of the SOA
         record."""
         with self._in_full(self.zone_file) as full:
-            unsigned = zonefile.Zone.of(self.origin, full)
+            unsigned = zonefile.ZoneFile.of(self.origin, full)
             highest = max(row.ttl for row in zonefile.rows(full))
         keys = [it.file.ttl for it in self.held()]
         return {"dnskey": max([unsigned.soa.ttl, *keys]), "zone": highest}
@@ -122,7 +123,7 @@ class Inline:
         """What named gives: the signed zone, which it keeps beside the unsigned one."""
         said(self.rndc("sync", self.zone))
         with self._in_full(Path(f"{self.zone_file}.signed")) as full:
-            return files.sets_of(zonefile.Zone.of(self.origin, full))
+            return files.sets_of(zonefile.ZoneFile.of(self.origin, full))
 
     @contextlib.contextmanager
     def _in_full(self, path: Path) -> Iterator[Path]:
@@ -132,7 +133,7 @@ class Inline:
 
     # What has to be done
 
-    def publish(self, now: Sets, wanted: Sets, folder: Path) -> Iterator[Step]:
+    def publish(self, now: Sets, wanted: Sets, folder: Path) -> Iterator[SignerStep]:
         self._expect_signing()
         for left in self.folder.glob(".K*.draft"):
             left.unlink()
@@ -142,7 +143,7 @@ class Inline:
         if without:
             kept = replace(now, cds=now.cds - set(without))
             yield from (self._timed(key, now, kept, folder) for key in without)
-            yield Step(self.rndc("sign", self.zone))
+            yield SignerStep(self.rndc("sign", self.zone))
             now = kept
         every = {key: key for key in (*now.keys, *now.cds, *wanted.keys, *wanted.cds)}
         changed = [key for key in sorted(every, key=str)
@@ -168,7 +169,7 @@ class Inline:
         except Failure as failure:
             return NO_POLICY not in str(failure)
 
-    def _timed(self, key: Key, now: Sets, wanted: Sets, folder: Path) -> Step:
+    def _timed(self, key: Key, now: Sets, wanted: Sets, folder: Path) -> SignerStep:
         signs, is_in, has_cds = self._uses(key, wanted)
         signed, was_in, had_cds = self._uses(key, now)
         times = []
@@ -189,13 +190,13 @@ class Inline:
             times += sync
         file = key.at_hand()
         words = ("dnssec-settime", *times, str(file.path))
-        return Step(words, lambda: _settime(file, times, folder))
+        return SignerStep(words, lambda: _settime(file, times, folder))
 
-    def renew(self) -> Iterator[Step]:
+    def renew(self) -> Iterator[SignerStep]:
         """named signs anew what expires soon, by itself."""
-        yield Step(self.rndc("sign", self.zone))
-        yield Step(self.rndc("signing", "-list", self.zone), self._when_signed)
-        yield Step(self.rndc("sync", self.zone), self._when_given)
+        yield SignerStep(self.rndc("sign", self.zone))
+        yield SignerStep(self.rndc("signing", "-list", self.zone), self._when_signed)
+        yield SignerStep(self.rndc("sync", self.zone), self._when_given)
 
     def _when_signed(self) -> tuple[str, ...]:
         """Nothing, once named has signed all by each of its active keys. By one that is only

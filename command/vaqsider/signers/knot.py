@@ -14,7 +14,7 @@ from typing import Any, Callable, Iterable, Iterator, Mapping
 
 from ..errors import UNAVAILABLE, Failure
 from . import DELETION, Key, Sets
-from .daemon import Step, is_here, said
+from .daemon import SignerStep, is_here, said
 
 # A moment that is over, and the times of a key that mean the others, for each of its uses.
 PAST, NEVER = "1", "0"
@@ -29,14 +29,14 @@ ROW = re.compile(r"^\[[^]]*\] \S+ (\d+) (\S+) ", re.MULTILINE)
 WANTED = {"manual": "on", "cds-cdnskey-publish": "rollover"}
 
 
-class Held:
+class KnotKey:
     """A key that Knot has."""
 
-    def __init__(self, told: Mapping[str, Any], data: str, now: float) -> None:
-        self.id, self.key = told["id"], Key.of(data)
-        self.is_ksk, self.is_zsk = told["ksk"], told["zsk"]
-        self.is_public_only = told["public-only"]
-        self.times = {name: int(told[name]) for name in TIMES}
+    def __init__(self, listed: Mapping[str, Any], data: str, now: float) -> None:
+        self.id, self.key = listed["id"], Key.of(data)
+        self.is_ksk, self.is_zsk = listed["ksk"], listed["zsk"]
+        self.is_public_only = listed["public-only"]
+        self.times = {name: int(listed[name]) for name in TIMES}
         self.now = now
 
     def is_past(self, name: str) -> bool:
@@ -77,7 +77,7 @@ class Knot:
         self.config = ["-c", config] if config else []
         self.clock = clock or time.time
         # The record of each key, by its number there: that never changes.
-        self.told: dict[str, str] = {}
+        self.records: dict[str, str] = {}
         if origin.startswith("-"):
             raise Failure(f"keymgr takes {origin} for an option")
 
@@ -89,25 +89,25 @@ class Knot:
 
     # What is there
 
-    def held(self) -> list[Held]:
+    def held(self) -> list[KnotKey]:
         """The keys of the store."""
         text = said(self.keymgr("list", "-j"))
         try:
-            told = json.loads(text) if text.strip() else []
-            return [Held(it, self._record(it["id"]), self.clock()) for it in told]
+            listed = json.loads(text) if text.strip() else []
+            return [KnotKey(it, self._record(it["id"]), self.clock()) for it in listed]
         except (ValueError, KeyError, TypeError) as error:
             raise Failure(f"keymgr list -j: it says what isn't known: {error}",
                           UNAVAILABLE) from None
 
     def _record(self, number: str) -> str:
         """The data of a key's DNSKEY record."""
-        if number not in self.told:
+        if number not in self.records:
             text = said(self.keymgr("dnskey", number))
             match = re.search(r"\sDNSKEY\s+(\d+ 3 \d+ .+)", text)
             if match is None:
                 raise Failure(f"keymgr dnskey {number}: no DNSKEY record", UNAVAILABLE)
-            self.told[number] = match[1]
-        return self.told[number]
+            self.records[number] = match[1]
+        return self.records[number]
 
     def now(self, known: list[Key]) -> Sets:
         names = {key: key for key in known}
@@ -117,7 +117,7 @@ class Knot:
             raise Failure(f"Knot rolls {' '.join(odd)} itself: let that end, and set manual: on",
                           UNAVAILABLE)
 
-        def those(is_so: Callable[[Held], bool]) -> frozenset[Key]:
+        def those(is_so: Callable[[KnotKey], bool]) -> frozenset[Key]:
             return frozenset(key for it, key in of if is_so(it))
 
         zone = those(lambda it: it.is_zsk and (it.is_active or self._signs_as_ready(it, of)))
@@ -126,7 +126,7 @@ class Knot:
                     those(lambda it: it.is_ready))
 
     @staticmethod
-    def _signs_as_ready(held: Held, of: list[tuple[Held, Key]]) -> bool:
+    def _signs_as_ready(held: KnotKey, of: list[tuple[KnotKey, Key]]) -> bool:
         """A CSK that is ready signs the zone, unless another key of its algorithm does."""
         others = (it for it, key in of if it.is_zsk and it.is_active
                   and key.algorithm == held.key.algorithm)
@@ -201,7 +201,7 @@ class Knot:
 
     # What has to be done
 
-    def publish(self, now: Sets, wanted: Sets, folder: Path) -> Iterator[Step]:
+    def publish(self, now: Sets, wanted: Sets, folder: Path) -> Iterator[SignerStep]:
         self._expect_policy()
         held = {it.key: it for it in self.held()}
         every = wanted.keys | {key for key in wanted.cds if key.file}
@@ -217,7 +217,7 @@ class Knot:
     def _uses(key: Key, sets: Sets) -> tuple[bool, ...]:
         return (key in sets.zone, key in sets.signers, key in sets.dnskey, key in sets.cds)
 
-    def _imported(self, key: Key, folder: Path) -> Step:
+    def _imported(self, key: Key, folder: Path) -> SignerStep:
         """A key comes in by a copy of its file with times that never come: it isn't used before it
         has times of its own."""
         file = key.at_hand()
@@ -231,9 +231,9 @@ class Knot:
                 f"{text}Publish: {FAR}\nActivate: {FAR}\n", encoding="ascii")
             return words
 
-        return Step(words, late)
+        return SignerStep(words, late)
 
-    def _timed(self, key: Key, wanted: Sets) -> Step:
+    def _timed(self, key: Key, wanted: Sets) -> SignerStep:
         is_used = key in wanted.signers or key in wanted.zone
         has_cds = key in wanted.cds
         times = {"publish": PAST if key in wanted.dnskey else NEVER,
@@ -250,10 +250,10 @@ class Knot:
                 raise Failure(f"Knot has lost {key}", UNAVAILABLE)
             return self.keymgr("set", ids[0], *given)
 
-        return Step(self.keymgr("set", f"ID of {key}", *given), late)
+        return SignerStep(self.keymgr("set", f"ID of {key}", *given), late)
 
-    def renew(self) -> Iterator[Step]:
-        yield Step(self.knotc("-b", "zone-sign", self.zone))
+    def renew(self) -> Iterator[SignerStep]:
+        yield SignerStep(self.knotc("-b", "zone-sign", self.zone))
 
 
 def _seconds(text: str) -> int:

@@ -20,7 +20,7 @@ from ..errors import UNAVAILABLE, Failure
 from ..signing import Nsec3
 from ..zonefile import parsed
 from . import DELETION, Key, Sets, by_flags, lacks_by_flags
-from .daemon import Step, is_here, said
+from .daemon import SignerStep, is_here, said
 
 # A key as `pdnsutil show-zone` has it, and the record of the line after it.
 ID = re.compile(r"ID = (?P<id>\d+) \((KSK|ZSK|CSK)\), flags = (?P<flags>\d+), tag = \d+, "
@@ -37,7 +37,7 @@ SETTING = re.compile(r"^(?P<name>[a-z0-9-]+)=(?P<value>.*)$", re.MULTILINE)
 
 
 @dataclass(frozen=True)
-class Held:
+class PdnsKey:
     """A key that PowerDNS has."""
 
     id: str
@@ -47,7 +47,7 @@ class Held:
 
 
 @dataclass(frozen=True)
-class Record:
+class StoredRecord:
     """A record of its database."""
 
     owner: str
@@ -66,15 +66,15 @@ class PowerDns:
 
     # What is there
 
-    def held(self) -> list[Held]:
+    def held(self) -> list[PdnsKey]:
         """The keys of the database."""
         raise NotImplementedError
 
-    def records(self) -> list[Record]:
+    def records(self) -> list[StoredRecord]:
         """The records of the zone."""
         raise NotImplementedError
 
-    def private(self, held: Held) -> str:
+    def private(self, held: PdnsKey) -> str:
         """The private half of a key, as BIND has it."""
         raise NotImplementedError
 
@@ -97,12 +97,12 @@ class PowerDns:
                           f"unset-publish-cds {self.zone}', 'pdnsutil unset-publish-cdnskey "
                           f"{self.zone}', and no default-publish- in pdns.conf", UNAVAILABLE)
 
-    def top(self, kind: str) -> list[Record]:
+    def top(self, kind: str) -> list[StoredRecord]:
         name = self.zone.lower()
         return [it for it in self.records()
                 if it.kind == kind and (it.owner.lower().rstrip(".") or ".") == name]
 
-    def soa(self) -> Record:
+    def soa(self) -> StoredRecord:
         found = self.top("SOA")
         if len(found) != 1:
             raise Failure(f"PowerDNS has no SOA record of {self.zone}", UNAVAILABLE)
@@ -154,7 +154,7 @@ class PowerDns:
 
     # What has to be done
 
-    def publish(self, now: Sets, wanted: Sets, _: Path) -> Iterator[Step]:
+    def publish(self, now: Sets, wanted: Sets, _: Path) -> Iterator[SignerStep]:
         ids = {it.key: it for it in self.held()}
         active = now.signers | now.zone
         due = wanted.signers | wanted.zone
@@ -166,24 +166,25 @@ class PowerDns:
         if now.cds != wanted.cds:
             yield from self._cds_steps(wanted.cds)
 
-    def imported(self, key: Key) -> Step:
+    def imported(self, key: Key) -> SignerStep:
         """A key comes in, neither published nor active."""
         raise NotImplementedError
 
-    def flagged(self, verb: str, held: Held) -> Step:
+    def flagged(self, verb: str, held: PdnsKey) -> SignerStep:
         """A key of the database is activated, deactivated, published or unpublished."""
         raise NotImplementedError
 
-    def _changed(self, verb: str, key: Key) -> Step:
-        def late() -> Step:
+    def _changed(self, verb: str, key: Key) -> SignerStep:
+        def late() -> SignerStep:
             found = next((it for it in self.held() if it.key == key), None)
             if found is None:
                 raise Failure(f"PowerDNS has lost {key}", UNAVAILABLE)
             return self.flagged(verb, found)
 
-        return Step(self.flagged(verb, Held(f"ID of {key}", key, False, False)).words, late)
+        unknown = PdnsKey(f"ID of {key}", key, False, False)
+        return SignerStep(self.flagged(verb, unknown).words, late)
 
-    def _cds_steps(self, keys: frozenset[Key]) -> Iterator[Step]:
+    def _cds_steps(self, keys: frozenset[Key]) -> Iterator[SignerStep]:
         """CDNSKEY and CDS for these keys, with the digest that CDS has to have (RFC 8624)."""
         if not keys:
             yield from self.placed({"CDS": [], "CDNSKEY": []}, 0)
@@ -199,7 +200,7 @@ class PowerDns:
         ]}
         yield from self.placed(data, int(self.soa().data.split()[-1]))
 
-    def placed(self, data: dict[str, list[str]], ttl: int) -> Iterator[Step]:
+    def placed(self, data: dict[str, list[str]], ttl: int) -> Iterator[SignerStep]:
         """The sets of the zone's name have these records, or go."""
         raise NotImplementedError
 
@@ -210,9 +211,9 @@ class PowerDns:
         how = Nsec3.of(self.nsec3)
         return f"{how.algorithm} {how.flags} {how.iterations} {how.salt}"
 
-    def renew(self) -> Iterator[Step]:
+    def renew(self) -> Iterator[SignerStep]:
         """A higher serial, for PowerDNS signs anew each week under the same; and the server learns
-        that its caches are old, and tells secondaries."""
+        that its caches are old, and notifies secondaries."""
         raise NotImplementedError
 
 
@@ -228,10 +229,10 @@ class Pdnsutil(PowerDns):
     def words(self, *words: str) -> tuple[str, ...]:
         return ("pdnsutil", *self.config, *words)
 
-    def step(self, *words: str) -> Step:
-        return Step(self.words(*words))
+    def step(self, *words: str) -> SignerStep:
+        return SignerStep(self.words(*words))
 
-    def held(self) -> list[Held]:
+    def held(self) -> list[PdnsKey]:
         text = said(self.words("show-zone", self.zone))
         if PRESIGNED in text:
             raise presigned(self.zone)
@@ -243,27 +244,28 @@ class Pdnsutil(PowerDns):
             found = ID.fullmatch(line)
             if not (found and record):
                 raise Failure(f"pdnsutil show-zone: a line that isn't known: {line}", UNAVAILABLE)
-            held.append(Held(found["id"], Key.of(record["data"]), found["active"] == "Active",
-                             found["published"] == "Published"))
+            held.append(PdnsKey(found["id"], Key.of(record["data"]), found["active"] == "Active",
+                                found["published"] == "Published"))
         if "keys:" not in text and "Zone is not actively secured" not in text:
             raise Failure("pdnsutil show-zone: it says nothing of keys", UNAVAILABLE)
         return held
 
-    def records(self) -> list[Record]:
+    def records(self) -> list[StoredRecord]:
         found = map(LISTED.fullmatch, said(self.words("list-zone", self.zone)).splitlines())
-        return [Record(it["owner"], int(it["ttl"]), it["kind"], it["data"]) for it in found if it]
+        return [StoredRecord(it["owner"], int(it["ttl"]), it["kind"], it["data"])
+                for it in found if it]
 
-    def private(self, held: Held) -> str:
+    def private(self, held: PdnsKey) -> str:
         return said(self.words("export-zone-key", self.zone, held.id))
 
-    def imported(self, key: Key) -> Step:
+    def imported(self, key: Key) -> SignerStep:
         kind, private = "ksk" if key.is_sep else "zsk", str(key.at_hand().private.resolve())
         return self.step("import-zone-key", self.zone, private, "inactive", kind, "unpublished")
 
-    def flagged(self, verb: str, held: Held) -> Step:
+    def flagged(self, verb: str, held: PdnsKey) -> SignerStep:
         return self.step(f"{verb}-zone-key", self.zone, held.id)
 
-    def placed(self, data: dict[str, list[str]], ttl: int) -> Iterator[Step]:
+    def placed(self, data: dict[str, list[str]], ttl: int) -> Iterator[SignerStep]:
         for kind, rows in data.items():
             yield self.step("replace-rrset", self.zone, "@", kind, str(ttl), *rows) if rows else \
                 self.step("delete-rrset", self.zone, "@", kind)
@@ -276,15 +278,15 @@ class Pdnsutil(PowerDns):
         text = said(("pdns_control", *self.config, "current-config"))
         return {it["name"]: it["value"] for it in SETTING.finditer(text)}
 
-    def renew(self) -> Iterator[Step]:
+    def renew(self) -> Iterator[SignerStep]:
         params = self.params()
         if params is not None:
             yield self.step("set-nsec3", self.zone, params) if params else \
                 self.step("unset-nsec3", self.zone)
         yield self.step("increase-serial", self.zone)
         yield self.step("rectify-zone", self.zone)
-        yield Step(("pdns_control", *self.config, "purge", f"{self.zone}$"))
-        yield Step(("pdns_control", *self.config, "notify", self.zone))
+        yield SignerStep(("pdns_control", *self.config, "purge", f"{self.zone}$"))
+        yield SignerStep(("pdns_control", *self.config, "notify", self.zone))
 
 
 def presigned(zone: str) -> Failure:

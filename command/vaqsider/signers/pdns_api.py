@@ -14,8 +14,8 @@ from typing import Any, Iterator, Mapping
 
 from ..errors import UNAVAILABLE, USAGE, Failure
 from . import Key
-from .daemon import LOCKED, PAUSE, SECONDS, Step
-from .pdns import Held, PowerDns, Record, presigned
+from .daemon import LOCKED, PAUSE, SECONDS, SignerStep
+from .pdns import PdnsKey, PowerDns, StoredRecord, presigned
 
 FLAGS = {"activate": {"active": True}, "deactivate": {"active": False},
          "publish": {"published": True}, "unpublish": {"published": False}}
@@ -24,14 +24,14 @@ PATHS = "/api/v1/servers/localhost"
 UNSAID = b"Internal Server Error"
 
 
-class Stays(urllib.request.HTTPRedirectHandler):
+class NoRedirect(urllib.request.HTTPRedirectHandler):
     """The key of the API goes to no other place."""
 
     def redirect_request(self, *_: object) -> None:
         return None
 
 
-OPENER = urllib.request.build_opener(Stays, urllib.request.ProxyHandler({}))
+OPENER = urllib.request.build_opener(NoRedirect, urllib.request.ProxyHandler({}))
 
 
 def exchange(method: str, url: str, secret: str, body: bytes | None) -> tuple[int, bytes]:
@@ -94,15 +94,15 @@ class Api(PowerDns):
         if text.strip() == UNSAID:
             raise Failure(f"{where}: {UNSAID.decode()}: its log says why", UNAVAILABLE)
         try:
-            told = json.loads(text) if text.strip() else None
+            answer = json.loads(text) if text.strip() else None
         except ValueError:
             raise Failure(f"{where}: what it says is no JSON", UNAVAILABLE) from None
         if not 200 <= status < 300:
-            why = told.get("error") if isinstance(told, dict) else None
+            why = answer.get("error") if isinstance(answer, dict) else None
             raise Failure(f"{where}: {why or 'refused'}", UNAVAILABLE)
-        return told
+        return answer
 
-    def step(self, method: str, path: str, body: Any = None, shown: Any = None) -> Step:
+    def step(self, method: str, path: str, body: Any = None, shown: Any = None) -> SignerStep:
         """A request. What is secret of it is shown otherwise."""
         text = "" if body is None else json.dumps(shown or body)
 
@@ -110,7 +110,7 @@ class Api(PowerDns):
             self.ask(method, self.at(path), body)
             return ()
 
-        return Step(tuple(filter(None, (method, f"{self.url}{PATHS}{path}", text))), late)
+        return SignerStep(tuple(filter(None, (method, f"{self.url}{PATHS}{path}", text))), late)
 
     def at(self, path: str) -> str:
         """A path, with what the API calls the zone."""
@@ -133,38 +133,39 @@ class Api(PowerDns):
 
     # What is there
 
-    def zone_told(self) -> dict[str, Any]:
-        told = self.ask("GET", self.at("/zones/ZONE"))
-        if not isinstance(told, dict) or not isinstance(told.get("rrsets"), list):
+    def zone_answer(self) -> dict[str, Any]:
+        answer = self.ask("GET", self.at("/zones/ZONE"))
+        if not isinstance(answer, dict) or not isinstance(answer.get("rrsets"), list):
             raise self._odd("the zone")
-        if told.get("presigned"):
+        if answer.get("presigned"):
             raise presigned(self.zone)
-        return told
+        return answer
 
-    def held(self) -> list[Held]:
-        self.zone_told()
+    def held(self) -> list[PdnsKey]:
+        self.zone_answer()
         try:
             return [self._held(it) for it in self.ask("GET", self.at("/zones/ZONE/cryptokeys"))]
         except (KeyError, TypeError, ValueError):
             raise self._odd("keys") from None
 
     @staticmethod
-    def _held(told: Mapping[str, Any]) -> Held:
-        if not isinstance(told["active"], bool) or not isinstance(told["published"], bool):
+    def _held(answer: Mapping[str, Any]) -> PdnsKey:
+        is_active, is_published = answer["active"], answer["published"]
+        if not isinstance(is_active, bool) or not isinstance(is_published, bool):
             raise ValueError("flags")
-        return Held(str(told["id"]), Key.of(told["dnskey"]), told["active"], told["published"])
+        return PdnsKey(str(answer["id"]), Key.of(answer["dnskey"]), is_active, is_published)
 
-    def records(self) -> list[Record]:
+    def records(self) -> list[StoredRecord]:
         try:
-            return [Record(of["name"], int(of["ttl"]), of["type"], it["content"])
-                    for of in self.zone_told()["rrsets"] for it in of["records"]
+            return [StoredRecord(of["name"], int(of["ttl"]), of["type"], it["content"])
+                    for of in self.zone_answer()["rrsets"] for it in of["records"]
                     if not it["disabled"]]
         except (KeyError, TypeError, ValueError):
             raise self._odd("records") from None
 
-    def private(self, held: Held) -> str:
-        told = self.ask("GET", self.at(f"/zones/ZONE/cryptokeys/{held.id}"))
-        private = told.get("privatekey") if isinstance(told, dict) else None
+    def private(self, held: PdnsKey) -> str:
+        answer = self.ask("GET", self.at(f"/zones/ZONE/cryptokeys/{held.id}"))
+        private = answer.get("privatekey") if isinstance(answer, dict) else None
         if not isinstance(private, str):
             raise self._odd(f"the private half of {held.key}")
         return private
@@ -184,20 +185,20 @@ class Api(PowerDns):
 
     # What has to be done
 
-    def imported(self, key: Key) -> Step:
+    def imported(self, key: Key) -> SignerStep:
         kind = "ksk" if key.is_sep else "zsk"
         body = {"keytype": kind, "active": False, "published": False}
         private = key.at_hand().private.read_text(encoding="ascii")
         return self.step("POST", "/zones/ZONE/cryptokeys", {**body, "privatekey": private},
                          {**body, "privatekey": f"that of {key}"})
 
-    def flagged(self, verb: str, held: Held) -> Step:
+    def flagged(self, verb: str, held: PdnsKey) -> SignerStep:
         """The API wants both flags: what isn't said of `published` is true."""
         body = {"active": held.is_active, "published": held.is_published, **FLAGS[verb]}
         path = f"/zones/ZONE/cryptokeys/{held.id}"
         return self.step("PUT", path, body, FLAGS[verb])
 
-    def placed(self, data: dict[str, list[str]], ttl: int) -> Iterator[Step]:
+    def placed(self, data: dict[str, list[str]], ttl: int) -> Iterator[SignerStep]:
         """All sets by one request."""
         yield self.step("PATCH", "/zones/ZONE", {"rrsets": [
             self._set(kind, ttl, rows) for kind, rows in data.items()]})
@@ -210,25 +211,25 @@ class Api(PowerDns):
         return {"name": name, "type": kind, "ttl": ttl, "changetype": "REPLACE",
                 "records": records}
 
-    def renew(self) -> Iterator[Step]:
+    def renew(self) -> Iterator[SignerStep]:
         """A changed SOA record has PowerDNS forget what it has in its caches."""
         params = self.params()
         if params is not None:
             yield self.step("PUT", "/zones/ZONE", {"nsec3param": params})
         path = "/zones/ZONE"
-        yield Step(("PATCH", f"{self.url}{PATHS}{path}", "the SOA record with a higher serial"),
-                   self._raised)
-        yield Step(("PUT", f"{self.url}{PATHS}{path}/rectify"), self._rectified)
+        words = "PATCH", f"{self.url}{PATHS}{path}", "the SOA record with a higher serial"
+        yield SignerStep(words, self._raised)
+        yield SignerStep(("PUT", f"{self.url}{PATHS}{path}/rectify"), self._rectified)
         yield self.step("PUT", "/zones/ZONE/notify")
 
-    def _raised(self) -> Step:
+    def _raised(self) -> SignerStep:
         soa = self.soa()
         mname, rname, serial, *rest = soa.data.split()
         higher = str((int(serial) + 1) % 2**32 or 1)
         made = self._set("SOA", soa.ttl, [" ".join([mname, rname, higher, *rest])])
         return self.step("PATCH", "/zones/ZONE", {"rrsets": [made]})
 
-    def _rectified(self) -> Step | tuple[str, ...]:
+    def _rectified(self) -> SignerStep | tuple[str, ...]:
         """The API rectifies only what is signed."""
         if not any(it.is_active for it in self.held()):
             return ()

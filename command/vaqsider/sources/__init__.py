@@ -13,7 +13,7 @@ from ..signers import Key
 
 
 @dataclass(frozen=True)
-class Found:
+class SourceKey:
     """A key that a system uses for a zone: what it signs; what gives its private half, if that may
     come out; its file, if it has one; and what its private half is called in its store."""
 
@@ -30,17 +30,17 @@ class Found:
 
 
 @dataclass(frozen=True)
-class Told:
+class Inventory:
     """What a source says of a zone: its keys that are in use; what is in progress, each in words
     with what to wait for; and what its system has to stop doing, in order."""
 
-    keys: list[Found]
+    keys: list[SourceKey]
     moving: list[str]
     stops: list[str]
 
 
 @dataclass(frozen=True)
-class Asked:
+class SourceOptions:
     """What a source may need: where its settings are, where its private halves, the DNSKEY records
     that the zone's servers give, and whether private halves that could come out stay there."""
 

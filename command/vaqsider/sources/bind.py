@@ -10,8 +10,8 @@ from ..errors import UNAVAILABLE, Failure
 from ..keyfiles import KeyFile, read
 from ..signers import Key
 from ..signers.daemon import said
-from ..signers.inline import Held
-from . import Asked, Found, Told, expect, fields_of, read_text
+from ..signers.inline import InlineKey
+from . import Inventory, SourceKey, SourceOptions, expect, fields_of, read_text
 
 STATES = {"DNSKEYState": "its DNSKEY record", "KRRSIGState": "its signature of the DNSKEY set",
           "ZRRSIGState": "its signatures of the zone", "DSState": "its DS record"}
@@ -31,9 +31,9 @@ STOPS = (
 )
 
 
-def tell(zone: str, asked: Asked) -> Told:
+def inventory(zone: str, options: SourceOptions) -> Inventory:
     """What named's folder says."""
-    folder = Path(asked.source or ".")
+    folder = Path(options.source or ".")
     expect(folder.is_dir(), f"{folder}: it is no folder: name named's key-directory by --source")
     files = [read(path) for path in sorted(folder.glob("K*.key"))]
     files = [it for it in files if it.owner.rstrip(".").lower() == zone.rstrip(".").lower()]
@@ -45,19 +45,19 @@ def tell(zone: str, asked: Asked) -> Told:
         keys += [found] if found else []
         moving += said_of_it
     stops = [it.format(zone=zone, folder=folder) for it in STOPS]
-    return Told(keys, moving, stops)
+    return Inventory(keys, moving, stops)
 
 
-def _by_state(file: KeyFile, path: Path) -> tuple[Found | None, list[str]]:
+def _by_state(file: KeyFile, path: Path) -> tuple[SourceKey | None, list[str]]:
     """A key as a dnssec-policy has it."""
-    told = fields_of(read_text(path))
-    is_ksk, is_zsk = (told.get(it) == "yes" for it in ("KSK", "ZSK"))
+    fields = fields_of(read_text(path))
+    is_ksk, is_zsk = (fields.get(it) == "yes" for it in ("KSK", "ZSK"))
     of_kind = {"DNSKEYState": True, "KRRSIGState": is_ksk, "ZRRSIGState": is_zsk, "DSState": is_ksk}
-    states = {name: told.get(name, "") for name, counts in of_kind.items() if counts}
+    states = {name: fields.get(name, "") for name, counts in of_kind.items() if counts}
     odd = {it for it in states.values() if it not in (HIDDEN, THERE, "rumoured", "unretentive")}
     if odd or not (is_ksk or is_zsk):
         raise Failure(f"{path}: a state file that isn't known", UNAVAILABLE)
-    goal = told.get("GoalState", THERE)
+    goal = fields.get("GoalState", THERE)
     if goal == HIDDEN and set(states.values()) == {HIDDEN}:
         return None, []
     moving = [f"{file.path.name}: {STATES[name]} is {state}, and is to be {goal}: wait until "
@@ -68,10 +68,10 @@ def _by_state(file: KeyFile, path: Path) -> tuple[Found | None, list[str]]:
     return _found(file, is_ksk, is_zsk), moving
 
 
-def _by_times(file: KeyFile, _: Path) -> tuple[Found | None, list[str]]:
+def _by_times(file: KeyFile, _: Path) -> tuple[SourceKey | None, list[str]]:
     """A key without a state: by its times."""
     words = ("dnssec-settime", "-u", "-p", "all", str(file.path.resolve()))
-    held = Held(file, said(words), now := time.time())
+    held = InlineKey(file, said(words), now := time.time())
     if not (held.is_published or held.is_active):
         coming = min((at for name, at in held.times.items()
                       if at > now and name in ("Publish", "Activate")), default=None)
@@ -88,5 +88,5 @@ def _by_times(file: KeyFile, _: Path) -> tuple[Found | None, list[str]]:
     return _found(file, file.is_sep, not file.is_sep), moving
 
 
-def _found(file: KeyFile, is_ksk: bool, is_zsk: bool) -> Found:
-    return Found(Key.of(file.data, file.path.name, file), is_ksk, is_zsk, None, file.path)
+def _found(file: KeyFile, is_ksk: bool, is_zsk: bool) -> SourceKey:
+    return SourceKey(Key.of(file.data, file.path.name, file), is_ksk, is_zsk, None, file.path)

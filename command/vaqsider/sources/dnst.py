@@ -10,7 +10,7 @@ from urllib.parse import unquote, urlparse
 from ..errors import UNAVAILABLE, Failure
 from ..keyfiles import read
 from ..signers import Key
-from . import Asked, Found, Told, expect, read_text
+from . import Inventory, SourceKey, SourceOptions, expect, read_text
 
 FLAGS = ("old", "signer", "present", "at_parent")
 STOPS = (
@@ -20,13 +20,13 @@ STOPS = (
 )
 
 
-def tell(zone: str, asked: Asked) -> Told:
+def inventory(zone: str, options: SourceOptions) -> Inventory:
     """What a state file says."""
-    path = Path(asked.source or f"{zone.rstrip('.')}-keyset.json")
+    path = Path(options.source or f"{zone.rstrip('.')}-keyset.json")
     try:
         state = json.loads(read_text(path))
-        told = state.get("keyset", state)
-        name, keys, rolls = told["name"], told["keys"], told["rollstates"]
+        key_set = state.get("keyset", state)
+        name, keys, rolls = key_set["name"], key_set["keys"], key_set["rollstates"]
         found = [_found(ref, key, path.parent) for ref, key in sorted(keys.items())]
     except (ValueError, KeyError, TypeError, AttributeError) as error:
         raise Failure(f"{path}: no state of dnst keyset: {error!r}", UNAVAILABLE) from None
@@ -35,16 +35,16 @@ def tell(zone: str, asked: Asked) -> Told:
     moving = [f"{roll} is in progress ({_phase(phase)}): let it end by 'dnst keyset', or end it "
               "there" for roll, phase in sorted(rolls.items())]
     moving += [text for _, text in found if text]
-    return Told([it for it, _ in found if it], moving, list(STOPS))
+    return Inventory([it for it, _ in found if it], moving, list(STOPS))
 
 
 def _phase(phase: object) -> str:
     return str(next(iter(phase))) if isinstance(phase, dict) else str(phase)
 
 
-def _found(reference: str, told: Mapping[str, Any], folder: Path) -> tuple[Found | None, str]:
+def _found(reference: str, fields: Mapping[str, Any], folder: Path) -> tuple[SourceKey | None, str]:
     """A key, or None if it is not in use; and what is in progress with it."""
-    (kind, roles), = told["keytype"].items()
+    (kind, roles), = fields["keytype"].items()
     roles = roles if kind == "Csk" else [roles]
     flags = [{name: bool(role[name]) for name in FLAGS} for role in roles]
     used = [it["signer"] or it["present"] or it["at_parent"] for it in flags]
@@ -57,18 +57,18 @@ def _found(reference: str, told: Mapping[str, Any], folder: Path) -> tuple[Found
     at_parent = kind == "Zsk" or flags[0]["at_parent"]
     text = "" if whole and at_parent else f"{reference} is neither in use wholly nor out"
     file = read(_path(reference, folder))
-    if (file.tag, file.algorithm) != (told["key_tag"], _algorithm(told["algorithm"])):
+    if (file.tag, file.algorithm) != (fields["key_tag"], _algorithm(fields["algorithm"])):
         raise Failure(f"{file.path}: its tag or algorithm isn't that of the state", UNAVAILABLE)
     key = Key.of(file.data, file.path.name, file)
-    return Found(key, kind != "Zsk", kind != "Ksk", None, file.path), text
+    return SourceKey(key, kind != "Zsk", kind != "Ksk", None, file.path), text
 
 
 NUMBERS = {"RSASHA256": 8, "RSASHA512": 10, "ECDSAP256SHA256": 13, "ECDSAP384SHA384": 14,
            "ED25519": 15, "ED448": 16}
 
 
-def _algorithm(told: str | int) -> int:
-    return NUMBERS.get(str(told).upper()) or int(told)
+def _algorithm(value: str | int) -> int:
+    return NUMBERS.get(str(value).upper()) or int(value)
 
 
 def _path(reference: str, folder: Path) -> Path:

@@ -8,8 +8,8 @@ from typing import TYPE_CHECKING, Callable
 
 from ..errors import UNAVAILABLE, Failure
 from ..signers import Key
-from ..signers.knot import Held, Knot
-from . import Asked, Found, Told, expect, in_private
+from ..signers.knot import Knot, KnotKey
+from . import Inventory, SourceKey, SourceOptions, expect, in_private
 
 if TYPE_CHECKING:
     from cryptography.hazmat.primitives.asymmetric import ec, ed448, ed25519, rsa
@@ -26,21 +26,21 @@ OF_RSA = ("Modulus", "PublicExponent", "PrivateExponent", "Prime1", "Prime2", "E
           "Exponent2", "Coefficient")
 
 
-def tell(zone: str, asked: Asked) -> Told:
+def inventory(zone: str, options: SourceOptions) -> Inventory:
     """What Knot's store has."""
-    store = Knot(zone.rstrip(".") + ".", asked.source)
+    store = Knot(zone.rstrip(".") + ".", options.source)
     held = store.held()
     expect(bool(held), f"Knot has no keys for {zone}")
     keys, moving = [], []
     for it in held:
         moving += _moving(it)
         if it.is_published or it.is_active:
-            pem, name = _pem(it, asked.store), f"knot:{it.id}"
-            keys.append(Found(it.key, it.is_ksk, it.is_zsk, pem, reference=name))
-    return Told(keys, moving, [text.format(zone=zone) for text in STOPS])
+            pem, name = _pem(it, options.store), f"knot:{it.id}"
+            keys.append(SourceKey(it.key, it.is_ksk, it.is_zsk, pem, reference=name))
+    return Inventory(keys, moving, [text.format(zone=zone) for text in STOPS])
 
 
-def _moving(held: Held) -> list[str]:
+def _moving(held: KnotKey) -> list[str]:
     """What is in progress with a key. Times of the past that have led to its place don't count."""
     tag, times, now = held.key.tag, held.times, held.now
     if not (held.is_published or held.is_active):
@@ -57,7 +57,7 @@ def _moving(held: Held) -> list[str]:
     return []
 
 
-def _pem(held: Held, store: str | None) -> Callable[[], str] | None:
+def _pem(held: KnotKey, store: str | None) -> Callable[[], str] | None:
     """The private half, if a folder of Knot's keys is named."""
     if store is None:
         return None

@@ -8,7 +8,7 @@ import re
 from ..errors import UNAVAILABLE, Failure
 from ..signers import Key
 from ..signers.daemon import said
-from . import Asked, Found, Told, expect
+from . import Inventory, SourceKey, SourceOptions, expect
 
 THERE, OUT, NONE, COMES, GOES = "omnipresent", "hidden", "NA", "rumoured", "unretentive"
 # A key that the enforcer has only just made has no states yet.
@@ -37,10 +37,10 @@ STOPS = (
 )
 
 
-def tell(zone: str, asked: Asked) -> Told:
+def inventory(zone: str, options: SourceOptions) -> Inventory:
     """What the enforcer says. The records of its keys are taken from the servers."""
-    rows, tags = _rows(zone, asked.source), _tags(asked.source)
-    records = {(it.tag, it.algorithm): it for it in asked.records()}
+    rows, tags = _rows(zone, options.source), _tags(options.source)
+    records = {(it.tag, it.algorithm): it for it in options.records()}
     keys, moving, ids = [], [], []
     for row in rows:
         counts = _states(row)
@@ -56,12 +56,12 @@ def tell(zone: str, asked: Asked) -> Told:
         elif not is_moving:
             raise Failure(f"the servers give no DNSKEY record of the key {at or row['id']}",
                           UNAVAILABLE)
-    return Told(keys, moving, [it.format(ids=" ".join(ids)) for it in STOPS])
+    return Inventory(keys, moving, [it.format(ids=" ".join(ids)) for it in STOPS])
 
 
-def _found(row: re.Match[str], key: Key) -> Found:
+def _found(row: re.Match[str], key: Key) -> SourceKey:
     role = row["role"].upper()
-    return Found(key, role != "ZSK", role != "KSK", reference=_uri(row["id"]))
+    return SourceKey(key, role != "ZSK", role != "KSK", reference=_uri(row["id"]))
 
 
 def _uri(number: str) -> str:

@@ -9,7 +9,7 @@ from ..errors import USAGE, Failure
 from ..signers import by_flags
 from ..signers.pdns import Pdnsutil, PowerDns
 from ..signers.pdns_api import Api
-from . import Asked, Found, Told, expect
+from . import Inventory, SourceKey, SourceOptions, expect
 
 STOPS = (
     "nobody may roll by pdnsutil any more: the script says which keys are published and active",
@@ -21,19 +21,20 @@ STOPS = (
 )
 
 
-def tell(zone: str, asked: Asked) -> Told:
+def inventory(zone: str, options: SourceOptions) -> Inventory:
     """What PowerDNS has, by its tool."""
-    return _told(zone, Pdnsutil(zone.rstrip(".") + ".", asked.source), asked.stay)
+    return _inventory(zone, Pdnsutil(zone.rstrip(".") + ".", options.source), options.stay)
 
 
-def tell_by_api(zone: str, asked: Asked) -> Told:
+def inventory_by_api(zone: str, options: SourceOptions) -> Inventory:
     """What PowerDNS has, by its API."""
-    if asked.source is None:
+    if options.source is None:
         raise Failure("--source: say the URL of PowerDNS's API", USAGE)
-    return _told(zone, Api(zone.rstrip(".") + ".", asked.source, asked.store), asked.stay)
+    api = Api(zone.rstrip(".") + ".", options.source, options.store)
+    return _inventory(zone, api, options.stay)
 
 
-def _told(zone: str, store: PowerDns, stay: bool) -> Told:
+def _inventory(zone: str, store: PowerDns, stay: bool) -> Inventory:
     """Its users roll by hand: a key of which only one of both flags is set is in mid-roll."""
     held = store.held()
     expect(bool(held), f"PowerDNS has no keys for {zone}")
@@ -48,6 +49,6 @@ def _told(zone: str, store: PowerDns, stay: bool) -> Told:
             moving.append(f"key {tag} is active and not published: deactivate-zone-key first")
         if it.is_active or it.is_published:
             private = None if stay else partial(store.private, it)
-            keys.append(Found(it.key, it.key in signers, it.key in signs, private,
-                              reference=f"pdns:{it.id}"))
-    return Told(keys, moving, [it.format(zone=zone) for it in STOPS])
+            keys.append(SourceKey(it.key, it.key in signers, it.key in signs, private,
+                                  reference=f"pdns:{it.id}"))
+    return Inventory(keys, moving, [it.format(zone=zone) for it in STOPS])
