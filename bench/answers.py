@@ -39,7 +39,7 @@ BEFORE = "before 3600 3600 3600"
 
 
 @dataclass
-class Row:
+class Load:
     """A script by its length, for a word of the program, and the longest of three lengths; how many
     of its calls are accepted then; and by what exponent its cost may grow."""
 
@@ -179,22 +179,23 @@ def toggled_then_ended(count):
 
 NOTES, STATUS = "notes", "status"
 ROWS = [
-    Row("rolls, and as many questions", NOTES, 8_000, rolls_with_questions, 4000),
-    Row("a reference of 1 MB, refused calls, one question", NOTES, 4_000, long_reference_noted, 10),
-    Row("published keys, refused calls, one question", NOTES, 16_000, published_noted, 8008, 2),
-    Row("notes of one kind, one question", NOTES, 32_000, notes_of_one_kind, 10),
-    Row("notes of one kind, and as many questions", NOTES, 8_000, notes_and_questions, 10, 2),
-    Row("scripts of ten lines, each with a question", NOTES, 32_000, zones, 10),
-    Row("rolls", STATUS, 32_000, rolls, 32_000),
-    Row("keys", STATUS, 32_000, lambda count: zone(adds("zsk", count)), 32_008),
-    Row("a roll in progress that lists all keys", STATUS, 32_000, listed, 32_015),
-    Row("a start that lists one key often", STATUS, 16_000, one_listed_often, 16_009),
-    Row("KSK rolls beside a ZSK roll that lists all keys", STATUS, 16_000, rolls_beside_listed,
-        12_015, 2),
-    Row("keys deleted beside a roll that lists all others", STATUS, 16_000, deletes_beside_listed,
-        16_015, 2),
-    Row("a listed reference of 1 MB, and other keys", STATUS, 16_000, long_reference_listed,
-        16_010),
+    Load("rolls, and as many questions", NOTES, 8_000, rolls_with_questions, 4000),
+    Load("a reference of 1 MB, refused calls, one question", NOTES, 4_000, long_reference_noted,
+         10),
+    Load("published keys, refused calls, one question", NOTES, 16_000, published_noted, 8008, 2),
+    Load("notes of one kind, one question", NOTES, 32_000, notes_of_one_kind, 10),
+    Load("notes of one kind, and as many questions", NOTES, 8_000, notes_and_questions, 10, 2),
+    Load("scripts of ten lines, each with a question", NOTES, 32_000, zones, 10),
+    Load("rolls", STATUS, 32_000, rolls, 32_000),
+    Load("keys", STATUS, 32_000, lambda count: zone(adds("zsk", count)), 32_008),
+    Load("a roll in progress that lists all keys", STATUS, 32_000, listed, 32_015),
+    Load("a start that lists one key often", STATUS, 16_000, one_listed_often, 16_009),
+    Load("KSK rolls beside a ZSK roll that lists all keys", STATUS, 16_000, rolls_beside_listed,
+         12_015, 2),
+    Load("keys deleted beside a roll that lists all others", STATUS, 16_000, deletes_beside_listed,
+         16_015, 2),
+    Load("a listed reference of 1 MB, and other keys", STATUS, 16_000, long_reference_listed,
+         16_010),
 ]
 
 

@@ -122,7 +122,7 @@ def busy(count: int) -> None:
             policy.write_text(policy.read_text().replace(f".z{like}", f".z{number}"))
             worlds[number] = copy.deepcopy(worlds[like])
         scripts = [f"{place}/z{number}/{ZONE}.script" for number in range(count)]
-        with folder(), living(Many(worlds), asks=False):
+        with folder(), living(ManyZones(worlds), asks=False):
             for what in ("in the midst of their rolls", "once more"):
                 took, said, _ = measured(lambda: typed(["tick", *scripts], NOW))
                 row(f"{count} zones {what}", took, deeds_of(said))
@@ -149,7 +149,7 @@ def stage(here: Path, begin: int, number: int) -> World:
     return world
 
 
-class Many(World):
+class ManyZones(World):
     """The servers of many zones of one name, by the names of servers."""
 
     def __init__(self, worlds: dict[int, World]) -> None:

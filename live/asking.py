@@ -4,7 +4,7 @@ import asyncio
 import time
 
 from dnspython import dns
-from processes import Failed
+from processes import SceneFailure
 
 PATIENCE = 40
 
@@ -71,5 +71,5 @@ async def watch(servers, port, zone, kind, is_so, what):
             if answer is not None and is_so(answer):
                 break
             if time.monotonic() > until:
-                raise Failed(f"{address} doesn't give {what} of {zone}:\n{answer}")
+                raise SceneFailure(f"{address} doesn't give {what} of {zone}:\n{answer}")
             await asyncio.sleep(0.1)

@@ -9,10 +9,10 @@ import time
 from pathlib import Path
 
 from dnspython import dns
-from keys import Version, plain_records, run
+from keys import ZoneVersion, plain_records, run
 from parent import NEGATIVE
 from places import PARENT, UNBOUND
-from processes import PATHS, Failed, outcome
+from processes import PATHS, SceneFailure, outcome
 
 HERE = Path(__file__).resolve().parent
 # The command, and what has it look names up at one of the resolvers.
@@ -53,7 +53,7 @@ class Operator:
             env=self.environment(),
         )
         if status not in ends:
-            raise Failed(f"vaqsider {' '.join(map(str, words))}: {status}: {out}{err}")
+            raise SceneFailure(f"vaqsider {' '.join(map(str, words))}: {status}: {out}{err}")
         return out
 
     async def key(self, *flag, algorithm="13"):
@@ -68,7 +68,7 @@ class Operator:
 
     def records(self):
         """The zone without DNSSEC."""
-        version = Version(self.serial, TTL, TTL)
+        version = ZoneVersion(self.serial, TTL, TTL)
         return list(plain_records(self.zone.name, version, self.zone.letters))
 
     async def act(self, *how):

@@ -20,13 +20,13 @@ from typing import Optional
 
 from asking import ask, data_of, is_signed_by_ds
 from by_command import DS_TTL, OK, TTL
-from knot_signers import Knot
+from knot_signers import KnotSigner
 from parent import NEGATIVE
 from pdns_signers import Pdns
 from places import CHILD, PARENT
-from processes import Failed, end
-from running import Running
-from signers import Named, replace
+from processes import SceneFailure, end
+from running import SignerOperator
+from signers import NamedSigner, replace
 
 # For how long each scene is played, that of a signer that runs, and the most that one may take with
 # its end, in seconds.
@@ -69,7 +69,7 @@ ON_EVENT = "#!/bin/sh\ncat >>events\n"
 
 
 @dataclass(frozen=True)
-class Wanted:
+class PolicyCase:
     """A policy: its rolls, how long keys live by it, how the parent gets the DS set, what signs,
     for how long nobody touches the zone, and what rolls it has later, in turn."""
 
@@ -90,32 +90,32 @@ class Wanted:
             rolls="\n".join(lines), parent=parent, clock=CLOCK, keygen=keygen, **places)
 
 
-WANTED = {
-    "by-itself": Wanted("policy 13 ksk-roll zsk-roll", {"ksk": 150, "zsk": 70}),
-    "by-itself-other-rolls": Wanted(
+CASES = {
+    "by-itself": PolicyCase("policy 13 ksk-roll zsk-roll", {"ksk": 150, "zsk": 70}),
+    "by-itself-other-rolls": PolicyCase(
         "policy 13 ksk-double-ds-roll zsk-double-signature-roll", {"ksk": 170, "zsk": 90}, True),
-    "by-itself-csk": Wanted("policy 13 csk-roll", {"csk": 100}),
-    "by-itself-algorithms": Wanted("policy 13 ksk-roll zsk-roll", {}, later=(
+    "by-itself-csk": PolicyCase("policy 13 csk-roll", {"csk": 100}),
+    "by-itself-algorithms": PolicyCase("policy 13 ksk-roll zsk-roll", {}, later=(
         "policy 14 csk-roll", "policy 13 csk-roll", "policy 14 ksk-roll zsk-roll")),
-    "by-itself-pdns": Wanted(
+    "by-itself-pdns": PolicyCase(
         "policy 13 ksk-roll zsk-roll", {"ksk": 110, "zsk": 60}, False, Pdns, OF_SIGNER),
-    "by-itself-knot": Wanted("policy 13 ksk-double-ds-roll zsk-double-signature-roll",
-                             {"ksk": 110, "zsk": 60}, False, Knot, OF_SIGNER),
-    "by-itself-inline": Wanted(
-        "policy 13 ksk-roll zsk-roll", {"ksk": 110, "zsk": 60}, True, Named, OF_SIGNER),
+    "by-itself-knot": PolicyCase("policy 13 ksk-double-ds-roll zsk-double-signature-roll",
+                                 {"ksk": 110, "zsk": 60}, False, KnotSigner, OF_SIGNER),
+    "by-itself-inline": PolicyCase(
+        "policy 13 ksk-roll zsk-roll", {"ksk": 110, "zsk": 60}, True, NamedSigner, OF_SIGNER),
 }
 
 
-class Unattended(Running):
+class Timer(SignerOperator):
     """Nobody: a timer runs ticks. The primary loads what they have written, and the parent does
     what it reads, or what its registrar gets."""
 
-    def __init__(self, zone, wanted):
+    def __init__(self, zone, case):
         super().__init__(zone)
-        self.wanted, self.dice, self.counts = wanted, random.Random(zone.dice.random()), Counter()
+        self.case, self.dice, self.counts = case, random.Random(zone.dice.random()), Counter()
         self.script = self.folder / "by-itself.script"
-        self.until, self.wrong_by, self.last = time.monotonic() + wanted.seconds, 0, ""
-        self.signer = wanted.signer(self) if wanted.signer else None
+        self.until, self.wrong_by, self.last = time.monotonic() + case.seconds, 0, ""
+        self.signer = case.signer(self) if case.signer else None
 
     async def begin(self):
         """An unsigned zone and a policy. These ten lines are all that anybody writes."""
@@ -123,7 +123,7 @@ class Unattended(Running):
             await self.changes()
         else:
             await self.signer.start(FIRST)
-        self.write_policy(self.wanted.rolls)
+        self.write_policy(self.case.rolls)
         for name, text in (("on-ds", ON_DS), ("on-event", ON_EVENT)):
             (self.folder / name).write_text(text)
             (self.folder / name).chmod(0o755)
@@ -134,7 +134,7 @@ class Unattended(Running):
         await self.type("policy", "check", self.script, ends=(OK, NEEDED))
 
     def write_policy(self, rolls):
-        text = self.wanted.text(
+        text = self.case.text(
             rolls, servers=" ".join(self.zone.servers), parents=" ".join(PARENT),
             port=self.zone.world.port, folder=self.folder, signing=self.signing())
         replace(self.script.with_suffix(".policy"), text)
@@ -192,7 +192,7 @@ class Unattended(Running):
             self.kill(process)
         out, _ = await ended
         if process.returncode >= NEEDED:
-            raise Failed(f"a tick ends with {process.returncode}: {out.decode()}")
+            raise SceneFailure(f"a tick ends with {process.returncode}: {out.decode()}")
 
     def kill(self, process):
         """Kills it, or all that it has started too."""
@@ -238,8 +238,8 @@ class Unattended(Running):
 
     async def wishing(self):
         """Somebody wants other keys, by another algorithm or in other roles."""
-        later = self.wanted.later
-        for rolls in itertools.cycle((*later, self.wanted.rolls)) if later else ():
+        later = self.case.later
+        for rolls in itertools.cycle((*later, self.case.rolls)) if later else ():
             await asyncio.sleep(min(CHANGES, self.until - time.monotonic()))
             if self.is_over():
                 return
@@ -262,7 +262,7 @@ class Unattended(Running):
         """It looks now and then, and is at work for a while on what is new."""
         while not self.is_over():
             await asyncio.sleep(self.dice.uniform(0.5, 4))
-            wanted = self.registrar_ds() if self.wanted.is_by_registrar else await self.read()
+            wanted = self.registrar_ds() if self.case.is_by_registrar else await self.read()
             if wanted and wanted != self.zone.ds():
                 await asyncio.sleep(self.dice.choice((0, 1, 2, 20)))
                 is_first = not self.zone.ds()
@@ -302,20 +302,20 @@ class Unattended(Running):
             longest = max(b - a for a, b in zip(moments, [*moments[1:], time.time() - CLOCK]))
             self.counts[f"{roll}s"] = len(moments) - 1
             if longest > lifetime + BOUND or len(moments) < 2:
-                raise Failed(f"{roll}: a key was there for {longest:.0f} s: {starts}")
+                raise SceneFailure(f"{roll}: a key was there for {longest:.0f} s: {starts}")
         here = {path.name for path in self.folder.glob("K*.key")}
         known = {words[1] for words in lines if words[0].startswith("add-")}
         gone = {words[1] for words in lines if words[0] == "delete"}
         if here - (known - gone) - self.new():
-            raise Failed(f"these key files are left over: {here - (known - gone)}")
+            raise SceneFailure(f"these key files are left over: {here - (known - gone)}")
         await self.type("check", self.script, "--json", ends=(0, 1))
 
     def expected(self):
         """Each roll, and how long keys live until it comes."""
-        if self.wanted.later:
+        if self.case.later:
             return [("algorithm-roll", CHANGES)]
-        rolls = self.wanted.rolls.split()[2:]
-        return [(roll, self.wanted.lifetimes[roll[:3]]) for roll in rolls]
+        rolls = self.case.rolls.split()[2:]
+        return [(roll, self.case.lifetimes[roll[:3]]) for roll in rolls]
 
     def new(self):
         """Files of keys that the last tick has deleted, and was killed before it moved them."""
@@ -363,7 +363,7 @@ async def side_by_side(*parts):
 
 def scene(name):
     async def played(zone):
-        operator = Unattended(zone, WANTED[name])
+        operator = Timer(zone, CASES[name])
         await operator.begin()
         parts = [operator.goes_on()]
         if name == FAILS:
@@ -376,5 +376,5 @@ def scene(name):
     return played
 
 
-HONEST = {name: scene(name) for name, wanted in WANTED.items() if wanted.signer is None}
-OF_SIGNERS = {name: scene(name) for name in WANTED if name not in HONEST}
+HONEST = {name: scene(name) for name, case in CASES.items() if case.signer is None}
+OF_SIGNERS = {name: scene(name) for name in CASES if name not in HONEST}

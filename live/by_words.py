@@ -13,7 +13,7 @@ from commanded import expect, is_everywhere
 from parent import NEGATIVE
 from places import PARENT
 from processes import outcome
-from running import Running
+from running import SignerOperator
 from signers import replace
 
 # For how long servers and the parent may lack something, and the most that one thing may take, in
@@ -38,7 +38,7 @@ KEEPS, FAILS = "#!/bin/sh\ncat >>{file}\n", "#!/bin/sh\nexit 9\n"
 TO_PARENT = re.compile(r" IN DS ([^;\n]+)")
 
 
-class Person(Running):
+class Person(SignerOperator):
     """Types words. After each of them the servers get what it has signed."""
 
     def __init__(self, zone):
@@ -145,7 +145,7 @@ async def words(zone):
     await person.looks()
 
 
-class Watchful(Person):
+class PersonOnCall(Person):
     """Ticks run, and say to a person what needs one."""
 
     async def begin(self, *policy):
@@ -182,7 +182,7 @@ class Watchful(Person):
 async def events(zone):
     """A person hears, once each, that the parent lacks the DS set, that a server lacks a version,
     that a roll can't be signed, that the signer fails and that signatures run low; and mends it."""
-    person = Watchful(zone)
+    person = PersonOnCall(zone)
     await person.begin()
     await parent_lacks(person)
     await server_stays_behind(person)

@@ -32,7 +32,7 @@ class Question(NamedTuple):
     has_address: bool
 
 
-class Fault(NamedTuple):
+class FalseAnswer(NamedTuple):
     """An answer that a client must not get."""
 
     moment: float
@@ -161,7 +161,7 @@ class Clients:
 
     def fault(self, resolver, question, asked, what):
         self.counts[what.split(" ")[0]] += 1
-        self.faults.append(Fault(asked, resolver, question, what))
+        self.faults.append(FalseAnswer(asked, resolver, question, what))
 
 
 def records(answer):

@@ -9,7 +9,7 @@ from by_command import BROKEN, DUE, KSK, LOCKED, OK, TTL, WARNING, ZSK, Operator
 from dnspython import dns
 from keys import private_key, run, zsks_of_one_tag
 from places import CHILD
-from processes import Failed
+from processes import SceneFailure
 
 # The DS TTL to which the registry raises the present set, and the unsigned zone's serial as a date.
 RAISED, DATE = 25, 2026112701
@@ -21,7 +21,7 @@ TIMES = 5
 
 def expect(is_so, what):
     if not is_so:
-        raise Failed(what)
+        raise SceneFailure(what)
 
 
 async def is_everywhere(zone):
@@ -152,7 +152,7 @@ async def comes_back_old(zone):
     await asyncio.sleep(10)
 
 
-class LooksUp(Operator):
+class OperatorByNames(Operator):
     """The command asks all servers that NS records name."""
 
     def parents(self):
@@ -165,7 +165,7 @@ class LooksUp(Operator):
 async def without_address(zone):
     """One server gets no new version, and the address of its name can't be looked up. The command
     doesn't report before it has asked that server."""
-    operator = LooksUp(zone)
+    operator = OperatorByNames(zone)
     _, zsk = await operator.first_keys()
     new = await operator.key(*ZSK)
     await operator.call(f"add {new}")

@@ -5,10 +5,10 @@ import asyncio
 from contextlib import asynccontextmanager
 
 from one_signer import KEYS, first_keys, go_unsigned
-from processes import Failed
+from processes import SceneFailure
 from provider import Provider
 from rolls import ALGORITHM, CSK, DOUBLE_DS, DOUBLE_SIGNATURE, KSK, ZSK, Roll, at_moment
-from script import Refused, rounded_down, rounded_up
+from script import CallRefusal, rounded_down, rounded_up
 
 # For each roll the setters that bring in another new key, and those of its stamps.
 REPLACING = {
@@ -237,8 +237,8 @@ async def false_lines(zone):
     script.lines[-1] = f"{true}0"
     try:
         await roll.make(lambda: f"wait1 {KSK} {rounded_down()}")
-        raise Failed("the false moment made no difference")
-    except Refused:
+        raise SceneFailure("the false moment made no difference")
+    except CallRefusal:
         script.lines[-1] = true
     script.call(f"wait1 {KSK} {rounded_down()}0")
     script.lines.pop()

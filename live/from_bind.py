@@ -7,9 +7,9 @@ import socket
 from by_command import DS_TTL, KSK, TTL, WARNING, ZSK, Operator
 from commanded import DATE, expect
 from dnspython import dns
-from keys import Version, plain_records
+from keys import ZoneVersion, plain_records
 from parent import NEGATIVE
-from processes import Failed
+from processes import SceneFailure
 
 HERE = "127.0.0.1"
 NAMED = """\
@@ -62,7 +62,7 @@ class Bind:
         self.folder.mkdir()
 
     def start(self, **policy):
-        version = Version(self.serial, TTL, TTL)
+        version = ZoneVersion(self.serial, TTL, TTL)
         records = plain_records(self.zone.name, version, self.zone.letters)
         (self.folder / "zone").write_text(f"$TTL {TTL}\n" + "\n".join(records) + "\n")
         conf = self.folder / "conf"
@@ -79,7 +79,7 @@ class Bind:
             made = await self.given()
             if made is not None and is_signed(made, denial):
                 return made
-        raise Failed(f"BIND doesn't sign {self.zone.name}")
+        raise SceneFailure(f"BIND doesn't sign {self.zone.name}")
 
     async def given(self):
         return await zone_at(self.zone.name, self.port)

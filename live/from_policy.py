@@ -5,11 +5,11 @@ import signal
 
 from by_command import DS_TTL, TTL, WARNING, Operator
 from from_bind import HERE, Bind, free_port, publish
-from keys import Version, plain_records, run
-from knot_signers import Knot
+from keys import ZoneVersion, plain_records, run
+from knot_signers import KnotSigner
 from pdns_signers import Pdns
 from processes import end
-from running import Running, come, is_right, replace_one, words_of_import
+from running import SignerOperator, come, is_right, replace_one, words_of_import
 from signers import RNDC, SECRET
 
 POLICY = """\
@@ -31,14 +31,14 @@ zone "{zone}" {{
 """
 
 
-class Policy(Bind):
+class BindByPolicy(Bind):
     """BIND, which signs by a policy and takes a word that the parent has the DS."""
 
     def begin(self):
         self.control = free_port()
         settings = {"folder": self.folder, "here": HERE, "control": self.control}
         (self.folder / "rndc.conf").write_text(RNDC.format(**settings, secret=SECRET))
-        version = Version(self.serial, TTL, TTL)
+        version = ZoneVersion(self.serial, TTL, TTL)
         records = plain_records(self.zone.name, version, self.zone.letters)
         (self.folder / "zone").write_text(f"$TTL {TTL}\n" + "\n".join(records) + "\n")
         (self.folder / "conf").write_text(POLICY.format(
@@ -57,15 +57,15 @@ class Policy(Bind):
 async def round_trip(zone):
     """docs/COMING-FROM.md: BIND signs by a policy. Its keys come in, and PowerDNS signs, then Knot,
     then `act` by BIND's tools. With each signer a key rolls."""
-    operator = Running(zone)
-    bind = Policy(zone, operator.serial)
+    operator = SignerOperator(zone)
+    bind = BindByPolicy(zone, operator.serial)
     bind.begin()
     await publish(operator, await bind.signed("NSEC"))
     await operator.type(*words_of_import(operator, bind), ends=(WARNING,))
     await bind.has_ds()
     await come(operator, words_of_import(operator, bind))
     await stop(operator, bind)
-    for maker, roll in ((Pdns, "zsk-roll"), (Knot, "ksk-roll")):
+    for maker, roll in ((Pdns, "zsk-roll"), (KnotSigner, "ksk-roll")):
         operator.signer = maker(operator)
         await operator.signer.start(operator.served + 1)
         await operator.act()

@@ -10,12 +10,12 @@ import sys
 from pathlib import Path
 
 from by_command import TTL
-from keys import Key, Signing, Version
+from keys import ZoneKey, ZoneSigner, ZoneVersion
 
 KINDS = ("dnskey", "signers", "zone", "cds")
 
 
-class Hooked:
+class HookService:
     """The service, for one zone."""
 
     def __init__(self, folder, letters, zone):
@@ -39,16 +39,16 @@ class Hooked:
         state = self.read()
         serial, keys = state["serial"] + 1, state["keys"]
         of = {kind: tuple(self.key(it) for it in keys if it[kind]) for kind in KINDS}
-        version = Version(serial, TTL, TTL, of["dnskey"], of["signers"], of["zone"], of["zone"],
-                          of["cds"] or None, of["signers"])
-        signing = Signing(self.folder, self.zone, self.letters, f"{os.getpid()}-")
+        version = ZoneVersion(serial, TTL, TTL, of["dnskey"], of["signers"], of["zone"], of["zone"],
+                              of["cds"] or None, of["signers"])
+        signing = ZoneSigner(self.folder, self.zone, self.letters, f"{os.getpid()}-")
         self.replace(self.folder / "zone.signed", asyncio.run(signing.text(version)))
         self.put({**state, "serial": serial})
 
     def key(self, entry):
         path = str(Path(entry["file"]).with_suffix(""))
         algorithm, tag, record = entry["algorithm"], entry["tag"], entry["record"]
-        return Key(entry["key"], "", algorithm, tag, path, self.zone, record)
+        return ZoneKey(entry["key"], "", algorithm, tag, path, self.zone, record)
 
     def put(self, value):
         self.replace(self.state, json.dumps(value))
@@ -63,7 +63,7 @@ class Hooked:
 def main():
     folder, letters, verb = Path(sys.argv[1]), *sys.argv[2:]
     asked = json.load(sys.stdin)
-    service = Hooked(folder, letters, asked["zone"])
+    service = HookService(folder, letters, asked["zone"])
     if verb == "now":
         print(json.dumps(service.now()))
     elif verb == "lacks":

@@ -8,14 +8,14 @@ from typing import Optional
 
 from dnspython import dns, ec
 from places import CHILD
-from processes import Failed, outcome, program
+from processes import SceneFailure, outcome, program
 
 RSA, ECDSA = 8, 13
 HOSTS = 12
 
 
 @dataclass
-class Key:
+class ZoneKey:
     """A key of a zone, by the reference that scripts have for it."""
 
     ref: str
@@ -39,7 +39,7 @@ async def run(folder, *command):
     """Runs a tool in a folder to its end, and gives what it prints."""
     status, out, err = await outcome(program(command[0]), *command[1:], cwd=folder)
     if status:
-        raise Failed(f"{command[0]}: {err}")
+        raise SceneFailure(f"{command[0]}: {err}")
     return out
 
 
@@ -54,11 +54,11 @@ async def make_key(folder, zone, ref, kind, algorithm):
     lines = path.with_name(path.name + ".key").read_text().splitlines()
     text = next(line for line in lines if not line.startswith(";")).split(" DNSKEY ")[1]
     dnskey = dns.rdata.from_text("IN", "DNSKEY", text).to_text()
-    return Key(ref, kind, algorithm, int(path.name.split("+")[2]), str(path), zone, dnskey)
+    return ZoneKey(ref, kind, algorithm, int(path.name.split("+")[2]), str(path), zone, dnskey)
 
 
 @dataclass(frozen=True)
-class Version:
+class ZoneVersion:
     """What is published of a zone. `cds` has the keys of CDS and CDNSKEY. It is empty for the entry
     that deletes, and None if there are no such sets. The keys of `cds_signers` sign them, and those
     of `changing`: these sign all that changes in the zone, and are the keys of `zone`, if none of
@@ -169,7 +169,7 @@ def sets_of(lines):
     return sets
 
 
-class Signing:
+class ZoneSigner:
     """Signs the versions of one zone in a folder. `letter` stands for the signer."""
 
     def __init__(self, folder, zone, providers, letter=""):

@@ -7,7 +7,7 @@ import time
 from from_bind import HERE
 from keys import run
 from processes import program
-from signers import Signer
+from signers import SceneSigner
 
 KNOT = """\
 server:
@@ -51,7 +51,7 @@ def is_past(moment):
     return 0 < moment <= time.time()
 
 
-class Knot(Signer):
+class KnotSigner(SceneSigner):
     name, tools, source, rolls_to_csk = "knot", ("keymgr", "knotc"), "knot", True
     keystore, kept_in, automatic = "", "", "cds-cdnskey-publish: rollover"
 
@@ -117,7 +117,7 @@ class Knot(Signer):
         return given, those("active", "retire") | those("ready", "active") & given
 
 
-class KnotByPkcs11(Knot):
+class KnotByPkcs11(KnotSigner):
     """Its keys are in SoftHSM, and never leave it."""
 
     name, keystore, kept_in = "knot-pkcs11", KEYSTORE, "\n    keystore: hsm"

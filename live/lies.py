@@ -14,7 +14,7 @@ from two_signers import (
 AHEAD = 100_000
 
 
-class AheadOfTheClock(Roll):
+class RollAheadOfTheClock(Roll):
     """Each wait is made at once, with a moment far ahead of the clock."""
 
     async def wait(self, number):
@@ -22,14 +22,14 @@ class AheadOfTheClock(Roll):
         await self.perform()
 
 
-class TtlOf0(Roll):
+class RollOfTtl0(Roll):
     """Each report has a TTL of 0."""
 
     async def report(self, number, ttl=None):
         await super().report(number, 0)
 
 
-class BeforePublishing(Roll):
+class RollBeforePublishing(Roll):
     """The first report is made when nothing is published yet; all is published at the first
     wait."""
 
@@ -43,7 +43,7 @@ class BeforePublishing(Roll):
         await self.perform()
 
 
-class WaitOfTheOriginal(Roll):
+class RollWithTheOriginalsWait(Roll):
     """The original takes the second wait of a Double-DS roll for over at once, as if the old DNSKEY
     set had a TTL of 0 (docs/DIFFERENCES.md)."""
 
@@ -51,7 +51,7 @@ class WaitOfTheOriginal(Roll):
         await super().report(number, 0 if number == 2 else ttl)
 
 
-class WithoutTheOther(Roll):
+class RollWithoutTheOther(Roll):
     """The TTLs of the other signer's DNSKEY sets are left out."""
 
     def ttl(self, number, moment):
@@ -60,9 +60,9 @@ class WithoutTheOther(Roll):
 
 
 LIES = {
-    "wait-ahead-of-the-clock": AheadOfTheClock,
-    "ttl-of-0": TtlOf0,
-    "report-before-publishing": BeforePublishing,
+    "wait-ahead-of-the-clock": RollAheadOfTheClock,
+    "ttl-of-0": RollOfTtl0,
+    "report-before-publishing": RollBeforePublishing,
 }
 # The TTL of the set that caches have to hold for the lie to show: if the operator waits for that
 # set too, and if not.
@@ -71,11 +71,11 @@ LONG, LONGER = 20, 60
 
 def long_kind(name, roll):
     """The kind of the set whose old version breaks the zone because of a lie."""
-    if roll is WaitOfTheOriginal:
+    if roll is RollWithTheOriginalsWait:
         return "dnskey"
     if name == DOUBLE_DS:
         return "ds"
-    is_of_ds = name not in (ZSK, DOUBLE_SIGNATURE) and roll is not BeforePublishing
+    is_of_ds = name not in (ZSK, DOUBLE_SIGNATURE) and roll is not RollBeforePublishing
     return "ds" if is_of_ds else "dnskey"
 
 
@@ -85,7 +85,7 @@ def lying(name, roll):
     async def scene(zone):
         zone.reads_cds = False
         zone.ttls.zone, zone.ttls.dnskey, zone.ttls.ds = 3, 2, 2
-        long = LONG if roll is BeforePublishing else LONGER
+        long = LONG if roll is RollBeforePublishing else LONGER
         setattr(zone.ttls, long_kind(name, roll), long)
         provider = await first_keys(zone, "K1", "Z1")
         old, *more = KEYS[name]
@@ -106,7 +106,7 @@ async def ttl_of_the_other(zone):
     await asyncio.sleep(LONGER / 2)
     await a.make("Z2")
     await b.take_in(*shared(a, ["Z2"]))
-    await WithoutTheOther(a, ZSK).whole(["Z1"], ["Z2"])
+    await RollWithoutTheOther(a, ZSK).whole(["Z1"], ["Z2"])
 
 
 async def ds_of_one_signer(zone):
@@ -197,7 +197,7 @@ async def signatures_not_renewed(zone):
 
 LYING = {
     **{f"{name}-{lie}": lying(name, roll) for lie, roll in LIES.items() for name in KEYS},
-    f"{DOUBLE_DS}-wait-of-the-original": lying(DOUBLE_DS, WaitOfTheOriginal),
+    f"{DOUBLE_DS}-wait-of-the-original": lying(DOUBLE_DS, RollWithTheOriginalsWait),
     "signatures-not-renewed": signatures_not_renewed,
     "least-ttl-left-out": least_ttl_left_out,
     "lost-before-its-signatures": lost_before_its_signatures,

@@ -11,7 +11,7 @@ from by_command import DUE, TTL, ZSK
 from commanded import expect
 from dnspython import ec, hashes, utils
 from keys import private_key
-from signers import OfBind, OfLdns
+from signers import BindTools, LdnsTools
 
 QUARTER, MONTH = 90 * 86400, 30 * 86400
 
@@ -51,7 +51,7 @@ def offline(maker):
     signed its sets; then one does, by signatures that were made ahead."""
 
     async def scene(zone):
-        operator = running.Running(zone)
+        operator = running.SignerOperator(zone)
         operator.signer = maker(operator)
         await operator.signer.start(2)
         ksk, zsk = await operator.first_keys()
@@ -99,4 +99,4 @@ async def serves(operator, asked):
            f"servers give the signature {given}")
 
 
-HONEST = {"offline-bind": offline(OfBind), "offline-ldns": offline(OfLdns)}
+HONEST = {"offline-bind": offline(BindTools), "offline-ldns": offline(LdnsTools)}

@@ -288,7 +288,7 @@ async def ended_early_beside(zone):
         await going
 
 
-class Raised(Roll):
+class RollOfRaisedTtls(Roll):
     """Just before each report all TTLs rise. They fall again after it."""
 
     async def report(self, number, ttl=None):
@@ -312,9 +312,9 @@ async def raised_ttls(zone):
     zone.ttls.ds = 9
     provider = await first_keys(zone, "K1", "Z1")
     await provider.make("K2", "Z2", "C3")
-    await Raised(provider, DOUBLE_DS).whole(["K1"], ["K2"])
-    await Raised(provider, ZSK).whole(["Z1"], ["Z2"])
-    await Raised(provider, CSK).whole(["K2", "Z2"], ["C3"])
+    await RollOfRaisedTtls(provider, DOUBLE_DS).whole(["K1"], ["K2"])
+    await RollOfRaisedTtls(provider, ZSK).whole(["Z1"], ["Z2"])
+    await RollOfRaisedTtls(provider, CSK).whole(["K2", "Z2"], ["C3"])
 
 
 async def nsec3(zone):
@@ -332,7 +332,7 @@ async def nsec3(zone):
         await roll.finish()
 
 
-class Restarting(Roll):
+class RollOfRestarts(Roll):
     """In each phase a resolver restarts with an empty cache."""
 
     resolvers = itertools.cycle(RESOLVERS)
@@ -351,10 +351,11 @@ async def restarted(zone):
     provider = await first_keys(zone, "K1", "Z1")
     await provider.make("K2", "Z2")
     await asyncio.gather(
-        Restarting(provider, KSK).whole(["K1"], ["K2"]), Roll(provider, ZSK).whole(["Z1"], ["Z2"])
+        RollOfRestarts(provider, KSK).whole(["K1"], ["K2"]),
+        Roll(provider, ZSK).whole(["Z1"], ["Z2"]),
     )
     await provider.make("C3", algorithm=15)
-    await Restarting(provider, ALGORITHM).whole(["K2", "Z2"], ["C3"])
+    await RollOfRestarts(provider, ALGORITHM).whole(["K2", "Z2"], ["C3"])
 
 
 LONG = {

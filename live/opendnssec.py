@@ -10,9 +10,9 @@ from pathlib import Path
 from by_command import DS_TTL, TTL
 from from_bind import HERE
 from keys import run
-from knot_signers import FAR, KEYSTORE, PIN, SOFTHSM, Knot, KnotByPkcs11
-from processes import Failed, end, outcome, program
-from signers import OfFiles
+from knot_signers import FAR, KEYSTORE, PIN, SOFTHSM, KnotByPkcs11, KnotSigner
+from processes import SceneFailure, end, outcome, program
+from signers import FileTools
 
 SCHEMA = Path("/usr/share/opendnssec/schema.sqlite")
 VERSION = "INSERT INTO databaseVersion (version) VALUES (1);"
@@ -105,7 +105,7 @@ RESTS = r"\A(?!.*(?:rumoured|unretentive|null))"
 PATIENCE, APART = 60, 3
 
 
-class OpenDnssec(OfFiles):
+class OpenDnssec(FileTools):
     """OpenDNSSEC signs the zone by keys of its token, and rolls them by a policy."""
 
     name, source = "opendnssec", "opendnssec"
@@ -160,7 +160,7 @@ class OpenDnssec(OfFiles):
             if not status:
                 return
             await asyncio.sleep(0.5)
-        raise Failed(f"ods-{daemon}d doesn't start")
+        raise SceneFailure(f"ods-{daemon}d doesn't start")
 
     def socket(self, daemon):
         return self.folder / "run" / SOCKETS[daemon]
@@ -183,7 +183,7 @@ class OpenDnssec(OfFiles):
             if found := re.search(what, output, re.DOTALL | re.MULTILINE):
                 return found
             await asyncio.sleep(0.5)
-        raise Failed(f"the enforcer doesn't show {what}: {output}")
+        raise SceneFailure(f"the enforcer doesn't show {what}: {output}")
 
     async def has_ds(self):
         """Its operator says so, once the enforcer waits for that."""
@@ -225,7 +225,7 @@ class KnotOfItsToken(KnotByPkcs11):
     async def start_after(self, before, serial):
         """Knot finds the token, and gives the zone unsigned until the first act."""
         self.settings = before.token
-        await Knot.start(self, serial)
+        await KnotSigner.start(self, serial)
 
     async def take(self, script):
         """The keys of the script come in by what it calls them, with times that never come."""

@@ -10,7 +10,7 @@ from dnspython import dns, ec
 from from_bind import HERE, free_port
 from keys import run
 from postgres import Postgres
-from signers import SECRET, Signer
+from signers import SECRET, SceneSigner
 
 PDNS = """\
 socket-dir={folder}
@@ -42,7 +42,7 @@ def tag_of_private(text, flags):
     return dns.dnssec.key_id(dns.dnssec.make_dnskey(public, algorithm, flags))
 
 
-class Pdns(Signer):
+class Pdns(SceneSigner):
     """By pdnsutil, on SQLite."""
 
     name, tools, source = "pdns", ("pdnsutil", "pdns_control"), "pdns"

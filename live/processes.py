@@ -47,7 +47,7 @@ LIBRARIES = {
 PATHS = os.pathsep.join((os.environ.get("PATH", ""), "/usr/sbin", "/sbin"))
 
 
-class Failed(Exception):
+class SceneFailure(Exception):
     """A program that the test needs doesn't do its work."""
 
 
@@ -124,7 +124,7 @@ class Processes:
         for name, process in self.running.items():
             if process.poll() is not None and name not in self.restarting:
                 said = (self.folder / f"{name}.log").read_text(errors="replace")[-2000:]
-                raise Failed(f"{name} ended with status {process.returncode}:\n{said}")
+                raise SceneFailure(f"{name} ended with status {process.returncode}:\n{said}")
 
     def stop(self):
         """Ends all servers, first gently."""

@@ -5,7 +5,7 @@ import time
 from dataclasses import replace
 
 from asking import data_of, tags_of, watch
-from keys import Signing, make_key
+from keys import ZoneSigner, make_key
 from script import Script, rounded_down
 from zone import Notes
 
@@ -22,7 +22,7 @@ class Provider:
         self.begin_script()
         self.keys, self.notes = {}, Notes(zone.least)
         self.ttls = zone.ttls_of.get(letter, zone.ttls)
-        self.signing = Signing(zone.folder, zone.name, zone.letters, letter)
+        self.signing = ZoneSigner(zone.folder, zone.name, zone.letters, letter)
         self.version = zone.first
         self.versions, self.publishing = {}, asyncio.Lock()
         # Whether the DNSKEY TTL must not rise.

@@ -5,7 +5,7 @@ import sys
 import time
 from pathlib import Path
 
-from script import EARLY, Refused, rounded_down, rounded_up
+from script import EARLY, CallRefusal, rounded_down, rounded_up
 
 sys.path.append(str(Path(__file__).resolve().parent.parent / "library" / "python"))
 
@@ -83,14 +83,14 @@ class Roll:
                 await self.make(lambda: f"wait{number} {self.name} {rounded_down()}")
                 self.provider.is_steady = False
                 return
-            except Refused as refused:
+            except CallRefusal as refused:
                 await self.sleep(str(refused))
 
     async def sleep(self, refused):
         """Sleeps for as long as a refused wait says."""
         _, early, seconds = refused.partition(EARLY)
         if not early:
-            raise Refused(refused)
+            raise CallRefusal(refused)
         moment = rounded_down() + int(seconds.rstrip("s"))
         await at_moment(moment)
 

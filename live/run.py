@@ -16,7 +16,7 @@ from pathlib import Path
 
 sys.dont_write_bytecode = True
 
-from processes import Failed, is_taken, missing
+from processes import SceneFailure, is_taken, missing
 
 TOP = Path(__file__).resolve().parent.parent
 KEYSET = TOP / "crates" / "keyset" / "out" / "keyset"
@@ -203,17 +203,17 @@ def main():
 
 def failures(scenes, arguments):
     """Plays scenes in one world. Gives how many have failed."""
-    from world import World
+    from world import LiveWorld
     limit = arguments.limit or (SHORT if arguments.short else WHOLE)
     print(f"seed {arguments.seed}")
     with folder_of(arguments) as folder:
         zones = {scene.zone: scene.letters for scene in scenes}
-        world = World(Path(folder), arguments.port, arguments.keyset, zones, arguments.seed)
+        world = LiveWorld(Path(folder), arguments.port, arguments.keyset, zones, arguments.seed)
         run = Run(world, scenes, arguments.at_once)
         with contextlib.closing(world):
             try:
                 asyncio.run(main_task(run, limit))
-            except (*ENDS, Failed) as error:
+            except (*ENDS, SceneFailure) as error:
                 left = " ".join(scene.name for scene in run.left)
                 sys.exit(f"{ENDS.get(type(error), error)}\nnot played to the end: {left}")
     return run.failed

@@ -14,10 +14,10 @@ from by_command import DS_TTL, DUE, KSK, OK, TTL, UNAVAILABLE, ZSK, Operator
 from dnspython import dns
 from from_bind import is_signed
 from keys import run
-from knot_signers import Knot, KnotByPkcs11
+from knot_signers import KnotByPkcs11, KnotSigner
 from pdns_signers import PdnsByApi, PdnsOfItsOwnKeys
-from processes import Failed, end, outcome
-from signers import Hooked, Named, OfBind, OfLdns
+from processes import SceneFailure, end, outcome
+from signers import BindTools, HookSigner, LdnsTools, NamedSigner
 
 # The algorithm of the keys after an algorithm roll.
 OTHER = "14"
@@ -28,7 +28,7 @@ SOON, LATER = 0.2, 0.3
 BESIDE, LACK = "NS signed by", re.compile(r"127\.\S+: ")
 
 
-class Running(Operator):
+class SignerOperator(Operator):
     """An operator whose signer runs. What it gives goes to the servers, as by transfers."""
 
     def __init__(self, zone, serial=1):
@@ -48,7 +48,7 @@ class Running(Operator):
         made = await self.signer.key(*flag, algorithm=algorithm) if self.signer else None
         if made is None:
             made = await super().key(*flag, algorithm=algorithm)
-            await run(self.folder, "dnssec-settime", *Named.times_of_keys, made)
+            await run(self.folder, "dnssec-settime", *NamedSigner.times_of_keys, made)
         return made
 
     def words_of_act(self):
@@ -76,11 +76,11 @@ class Running(Operator):
         return status, out or err
 
     async def watch(self, *how, ends=(OK,), **more):
-        is_named = self.signer is not None and self.signer.name == Named.name
+        is_named = self.signer is not None and self.signer.name == NamedSigner.name
         output = await super().watch(*how, ends=(*ends, DUE) if is_named else ends, **more)
         wrong = [it for it in output.splitlines() if LACK.match(it) and BESIDE not in it]
         if wrong and DUE not in ends:
-            raise Failed(f"watch says {output}")
+            raise SceneFailure(f"watch says {output}")
         return output
 
     async def broken_off(self, *how):
@@ -127,7 +127,7 @@ class Running(Operator):
         """Gives the servers what the signer gives now, as a transfer does."""
         made = await self.signer.given()
         if made is None:
-            raise Failed(f"{self.signer.name} gives no zone")
+            raise SceneFailure(f"{self.signer.name} gives no zone")
         self.publish(made.to_text(relativize=False))
         return made
 
@@ -138,16 +138,16 @@ class Running(Operator):
         sets = {word: [line.partition(": ")[2] for line in said.splitlines()
                        if line.startswith(f"{word}: ")] for word in ("now", "then")}
         if sets["now"] != sets["then"]:
-            raise Failed(f"the database of {self.signer.name}: {sets}")
+            raise SceneFailure(f"the database of {self.signer.name}: {sets}")
         (status,) = json.loads(await self.type("status", self.script, "--json"))
         due = {kind: {tag_of(it) for it in names} for kind, names in status["published"].items()}
         del due["ds"]
         held, wanted = await self.signer.held(), (due["dnskey"], due["signers"] | due["zone"])
         if held not in (None, wanted):
-            raise Failed(f"the database of {self.signer.name} has {held}, not {wanted}")
+            raise SceneFailure(f"the database of {self.signer.name} has {held}, not {wanted}")
         given = tags_given(await self.give())
         if given != {**due, "cds": has_cds}:
-            raise Failed(f"{self.signer.name} gives {given}, not {due}, CDS: {has_cds}")
+            raise SceneFailure(f"{self.signer.name} gives {given}, not {due}, CDS: {has_cds}")
 
 
 def tag_of(name):
@@ -177,7 +177,7 @@ def with_signer(maker, goes_on):
     """A scene of an operator whose signer runs until its end."""
 
     async def scene(zone):
-        operator = Running(zone)
+        operator = SignerOperator(zone)
         operator.signer = maker(operator)
         try:
             await operator.signer.start(2)
@@ -202,7 +202,7 @@ async def each_roll(operator):
     await operator.type("check", operator.script)
     await again(operator)
     if not is_signed(await operator.signer.given(), operator.signer.denial):
-        raise Failed(f"{operator.zone.name} isn't signed with {operator.signer.denial}")
+        raise SceneFailure(f"{operator.zone.name} isn't signed with {operator.signer.denial}")
 
 
 async def other_algorithm(operator, ksk, zsk):
@@ -276,11 +276,11 @@ async def come(operator, words):
         looks.append((status, time.time() - since))
         if status == OK and json.loads(out)["lines"]:
             if DUE not in dict(looks):
-                raise Failed("the script was made at the first look")
+                raise SceneFailure("the script was made at the first look")
             took(operator, looks=len(looks), look=looks[-1][1], script=time.time() - began)
             return
         await asyncio.sleep(1)
-    raise Failed(f"the keys don't come in: {out}")
+    raise SceneFailure(f"the keys don't come in: {out}")
 
 
 def took(operator, **seconds):
@@ -317,12 +317,12 @@ async def replace_one(operator, roll):
 
 
 HONEST = {
-    "signer-bind": rolls(OfBind),
-    "signer-ldns": rolls(OfLdns),
+    "signer-bind": rolls(BindTools),
+    "signer-ldns": rolls(LdnsTools),
     "signer-pdns": rolls(PdnsOfItsOwnKeys),
     "signer-pdns-api": rolls(PdnsByApi),
-    "signer-knot": rolls(Knot),
+    "signer-knot": rolls(KnotSigner),
     "signer-knot-pkcs11": rolls(KnotByPkcs11),
-    "signer-bind-inline": rolls(Named),
-    "signer-hook": rolls(Hooked),
+    "signer-bind-inline": rolls(NamedSigner),
+    "signer-hook": rolls(HookSigner),
 }

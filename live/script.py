@@ -5,12 +5,12 @@ import time
 from math import ceil, floor
 from typing import NamedTuple
 
-from processes import Failed
+from processes import SceneFailure
 
 EARLY = "refused: wait for duration "
 
 
-class Answer(NamedTuple):
+class CallAnswer(NamedTuple):
     """The program's answer to a call, with what then has to be published, and the verdict."""
 
     reply: str
@@ -22,7 +22,7 @@ class Answer(NamedTuple):
         return self.reply.split(" ")[1:]
 
 
-class Refused(Exception):
+class CallRefusal(Exception):
     """The call was refused, and nothing has changed."""
 
 
@@ -38,10 +38,10 @@ class Script:
         text = "".join(f"{one}\n" for one in [*self.lines, line])
         done = subprocess.run(self.program, input=text, capture_output=True, text=True)
         if done.returncode:
-            raise Failed(f"keyset: status {done.returncode}: {done.stderr}")
+            raise SceneFailure(f"keyset: status {done.returncode}: {done.stderr}")
         *_, reply, sets, chain = done.stdout.splitlines()
         keys = (part.partition("=") for part in sets.split(" "))
-        return Answer(
+        return CallAnswer(
             reply, {kind: [] if it == "-" else it.split(",") for kind, _, it in keys}, chain
         )
 
@@ -50,9 +50,9 @@ class Script:
         actions."""
         answer = self.tried(line)
         if answer.reply.startswith("refused: "):
-            raise Refused(f"{line}: {answer.reply}")
+            raise CallRefusal(f"{line}: {answer.reply}")
         if answer.chain != "chain safe" and not may_break:
-            raise Failed(f"{line}: {answer.chain}\n" + "\n".join(self.lines))
+            raise SceneFailure(f"{line}: {answer.chain}\n" + "\n".join(self.lines))
         self.lines.append(line)
         self.sets = answer.sets
         return answer.actions

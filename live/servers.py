@@ -67,7 +67,7 @@ def file_of(zone):
     return f"{zone.rstrip('.') or 'root'}.zone"
 
 
-class Server:
+class SceneServer:
     """One authoritative server. It gives each version after a delay of its own."""
 
     def __init__(self, address, processes, port):
@@ -99,7 +99,7 @@ class Server:
         await self.reload(zone)
 
 
-class Nsd(Server):
+class NsdServer(SceneServer):
     maker = "nsd"
 
     def start(self, zones):
@@ -112,7 +112,7 @@ class Nsd(Server):
         self.processes.signal(self.name, signal.SIGHUP)
 
 
-class Knot(Server):
+class KnotServer(SceneServer):
     maker = "knot"
 
     def start(self, zones):
@@ -134,9 +134,9 @@ class Fleet:
 
     def __init__(self, processes, port, dice=random):
         self.dice = dice
-        makers = {address: Nsd for address in (PARENT[0], CHILD["A"][0], CHILD["B"][0])}
+        makers = {address: NsdServer for address in (PARENT[0], CHILD["A"][0], CHILD["B"][0])}
         self.servers = {
-            address: makers.get(address, Knot)(address, processes, port)
+            address: makers.get(address, KnotServer)(address, processes, port)
             for address in (*PARENT, *CHILD["A"], *CHILD["B"])
         }
 

@@ -12,7 +12,7 @@ from by_command import TTL
 from dnspython import dns
 from from_bind import HERE, free_port, zone_at
 from keys import run
-from processes import Failed, program
+from processes import SceneFailure, program
 
 SECRET = "A" * 43 + "="
 NAMED = """\
@@ -50,7 +50,7 @@ def replace(path, text):
     draft.replace(path)
 
 
-class Signer:
+class SceneSigner:
     """A signer of one zone."""
 
     # The tools by which the command has it work; the name of its source for `import`; whether it
@@ -118,7 +118,7 @@ class Signer:
             if await self.given() is not None:
                 return
             await asyncio.sleep(0.2)
-        raise Failed(f"{self.name} doesn't give {self.zone.name}")
+        raise SceneFailure(f"{self.name} doesn't give {self.zone.name}")
 
     def write_key(self, record):
         """The key file of a public half: the private one stays where it is."""
@@ -129,7 +129,7 @@ class Signer:
         return name
 
 
-class Named(Signer):
+class NamedSigner(SceneSigner):
     """A running named, by the times of its keys, which are in the operator's folder."""
 
     name, tools, source = "bind-inline", ("rndc", "dnssec-settime"), "bind"
@@ -183,7 +183,7 @@ class Named(Signer):
              if "Activate" in it and not it.keys() & {"Inactive", "Delete"}}
 
 
-class OfFiles(Signer):
+class FileTools(SceneSigner):
     """The tools of BIND or ldns, which sign a file. An act by them may be killed at any moment."""
 
     async def start(self, serial):
@@ -198,15 +198,15 @@ class OfFiles(Signer):
         return ["--zone-file", self.folder / "zone"]
 
 
-class OfBind(OfFiles):
+class BindTools(FileTools):
     name, rolls_to_csk = "bind", True
 
 
-class OfLdns(OfFiles):
+class LdnsTools(FileTools):
     name, rolls_to_csk = "ldns", True
 
 
-class Hooked(OfFiles):
+class HookSigner(FileTools):
     """Whatever else signs, by a hook."""
 
     name, rolls_to_csk = "hook", True

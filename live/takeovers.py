@@ -10,11 +10,11 @@ import running
 from by_command import TTL, WARNING
 from from_bind import is_signed, publish
 from keys import run
-from knot_signers import Knot
+from knot_signers import KnotSigner
 from opendnssec import LEAVES, RESTS, KnotOfItsToken, OpenDnssec
 from pdns_signers import Pdns, PdnsByApi
-from processes import Failed
-from signers import Named, OfBind
+from processes import SceneFailure
+from signers import BindTools, NamedSigner
 
 PATIENCE = 30
 # A serial that the signer from before, which goes on meanwhile, doesn't reach.
@@ -25,7 +25,7 @@ STAMPS = dict.fromkeys(("creation", "published", "visible", "ds_visible", "rrsig
                         "withdrawn"))
 
 
-class Dnst(OfBind):
+class Dnst(BindTools):
     """The state of `dnst keyset`, and a zone signed by its keys. It isn't among Debian's packages:
     so the state is written here."""
 
@@ -89,7 +89,7 @@ async def roll_each(operator):
 async def from_opendnssec(zone):
     """OpenDNSSEC signs, and its keys don't come in while it rolls one. Its enforcer stops, then
     Knot has the keys in its token, and only then its signer stops."""
-    operator = running.Running(zone)
+    operator = running.SignerOperator(zone)
     operator.signer = before = OpenDnssec(operator)
     await before.start(2)
     await publish(operator, await whole(before))
@@ -143,14 +143,14 @@ async def whole(signer):
         if made is not None and is_signed(made, "NSEC"):
             return made
         await asyncio.sleep(0.5)
-    raise Failed(f"{signer.name} doesn't sign {signer.zone.name}")
+    raise SceneFailure(f"{signer.name} doesn't sign {signer.zone.name}")
 
 
 HONEST = {
     "takeover-pdns": takeover(Pdns),
     "takeover-pdns-api": takeover(PdnsByApi),
-    "takeover-knot": takeover(Knot),
-    "takeover-bind-inline": takeover(Named),
+    "takeover-knot": takeover(KnotSigner),
+    "takeover-bind-inline": takeover(NamedSigner),
     "takeover-dnst": takeover(Dnst),
     "takeover-opendnssec": from_opendnssec,
 }

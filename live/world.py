@@ -5,16 +5,16 @@ import random
 
 from asking import ask
 from clients import Clients
-from keys import Signing
+from keys import ZoneSigner
 from parent import Parent
 from places import ALL, PARENT, SERVERS
-from processes import Failed, Processes
+from processes import Processes, SceneFailure
 from resolvers import Resolvers
 from servers import Fleet
 from zone import Zone
 
 
-class World:
+class LiveWorld:
     """Begins with a signed root and unsigned zones. `zones` has the letters of each zone's
     providers."""
 
@@ -38,7 +38,7 @@ class World:
         """A zone. Its servers give it unsigned."""
         zone = Zone(self, name, self.zones[name], random.Random(f"{self.seed} {name}"))
         zone.clients = Clients(name, random.Random(f"{self.seed} clients {name}"), self.port)
-        signing = Signing(zone.folder, name, zone.letters)
+        signing = ZoneSigner(zone.folder, name, zone.letters)
         text = await signing.text(zone.first)
         self.fleet.write(zone.servers, name, text)
         return zone
@@ -64,7 +64,7 @@ class World:
             if answer is not None and answer.answer:
                 return
             await asyncio.sleep(0.2)
-        raise Failed(f"{address} doesn't answer for {zone}\n{answer}")
+        raise SceneFailure(f"{address} doesn't answer for {zone}\n{answer}")
 
     def close(self):
         self.processes.stop()

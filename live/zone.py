@@ -7,17 +7,17 @@ from dataclasses import dataclass
 from typing import Optional
 
 from asking import PATIENCE, ask, data_of, is_signed_by_ds
-from keys import Version
+from keys import ZoneVersion
 from parent import NEGATIVE
 from places import CHILD
-from processes import Failed
+from processes import SceneFailure
 
 # The CDS record that asks to delete the DS set (RFC 8078, section 4).
 DELETE = "0 0 0 00"
 
 
 @dataclass
-class Held:
+class PublishedSet:
     """The TTL of a set that was published, and since when no server gives it."""
 
     ttl: int
@@ -33,7 +33,7 @@ class Notes:
         self.held, self.least = {"dnskey": [], "zone": [], "ds": []}, least
 
     def published(self, kind, ttl, number):
-        self.held[kind].append(Held(max(ttl, self.least), number))
+        self.held[kind].append(PublishedSet(max(ttl, self.least), number))
 
     def seen(self, kind, number):
         """Notes that all servers give the version of this number, and none an older one."""
@@ -74,7 +74,7 @@ class Zone:
         # Each of two signers chooses TTLs of its own. Those of a single one are the zone's.
         self.ttls = Ttls.any(dice)
         # The unsigned version that its servers begin with. A scene may change the TTLs after it.
-        self.first = Version(1, self.ttls.zone, self.ttls.dnskey)
+        self.first = ZoneVersion(1, self.ttls.zone, self.ttls.dnskey)
         self.ttls_of = {letter: Ttls.any(dice) for letter in providers}
         self.providers, self.letters = [], providers
         self.least, self.serials = 0, itertools.count(2)
@@ -136,7 +136,7 @@ class Zone:
             if self.reading.done():
                 self.reading.result()
             if time.monotonic() > until:
-                raise Failed(f"the parent doesn't take {self.wanted} from CDS of {self.name}")
+                raise SceneFailure(f"the parent doesn't take {self.wanted} from CDS of {self.name}")
             await asyncio.sleep(0.1)
         async with self.at_parent:
             number = self.ds_number

@@ -21,7 +21,7 @@ from pathlib import Path
 sys.dont_write_bytecode = True
 
 from layout import BUILT, PARTS, USERS, Layout
-from trees import Missing, install, uninstall
+from trees import MissingFile, install, uninstall
 
 
 def loader_folders():
@@ -92,7 +92,7 @@ def main():
     try:
         for line in do(given):
             print(line)
-    except (Missing, OSError, subprocess.CalledProcessError) as fault:
+    except (MissingFile, OSError, subprocess.CalledProcessError) as fault:
         print(f"{given.word}: {fault}", file=sys.stderr)
         return 1
     return 0

@@ -70,7 +70,7 @@ BORDER = re.compile(r'^#(?:ifn?def|endif|include)\b.*\n?|^#define KEYSET_H\n|^ex
 TABULAR = re.compile(r"^\w[\w ,]*? {2,}\S", re.MULTILINE)
 
 
-class Unreadable(Exception):
+class TextFault(Exception):
     pass
 
 
@@ -131,7 +131,7 @@ def items(lines):
         elif line.startswith("  ") and found:
             found[-1][1] += f" {line.strip()}"
         else:
-            raise Unreadable(f"neither an item nor its text: {line}")
+            raise TextFault(f"neither an item nor its text: {line}")
     return found
 
 

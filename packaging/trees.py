@@ -12,7 +12,7 @@ import man
 from layout import LAUNCHER, LIST, SHARED, TOP, description
 
 
-class Missing(Exception):
+class MissingFile(Exception):
     pass
 
 
@@ -38,7 +38,7 @@ def make_folder(folder):
     return made
 
 
-class Gone(Exception):
+class RemovedFolder(Exception):
     """A folder was removed before it could be locked."""
 
 
@@ -48,11 +48,11 @@ def locked(root):
     try:
         folder = os.open(root, os.O_RDONLY | os.O_DIRECTORY)
     except FileNotFoundError:
-        raise Gone from None
+        raise RemovedFolder from None
     try:
         fcntl.flock(folder, fcntl.LOCK_EX)
         if os.fstat(folder).st_nlink == 0:
-            raise Gone
+            raise RemovedFolder
         yield
     finally:
         os.close(folder)
@@ -122,11 +122,11 @@ def install(root, layout):
         files = list(layout.files(Path(pages)))
         for file in files:
             if not file.source.exists():
-                raise Missing(f"{file.source} isn't there: 'make build lib' makes it")
+                raise MissingFile(f"{file.source} isn't there: 'make build lib' makes it")
         made = []
         while True:
             made += make_folder(root)
-            with suppress(Gone), locked(root):
+            with suppress(RemovedFolder), locked(root):
                 return put_all(root, files, made)
 
 
@@ -150,7 +150,7 @@ def put_all(root, files, made):
 
 def uninstall(root):
     """Removes what was installed, and the folders that were made for it."""
-    with suppress(Gone), locked(root):
+    with suppress(RemovedFolder), locked(root):
         files, folders = listed(root)
         for name in files:
             remove_file(root, name)
@@ -160,4 +160,4 @@ def uninstall(root):
                 folder.rmdir()
         if files:
             return files
-    raise Missing(f"{root / LIST} isn't there: nothing is installed here")
+    raise MissingFile(f"{root / LIST} isn't there: nothing is installed here")

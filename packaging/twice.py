@@ -25,7 +25,7 @@ from layout import BUILT, PROGRAMS, TOP
 
 
 @dataclass(frozen=True)
-class Maker:
+class ReleaseMaker:
     """Who makes a release, and how the machine is set up for it."""
 
     folder: str
@@ -36,9 +36,9 @@ class Maker:
 
 TURKISH = "tr_TR.UTF-8"
 MAKERS = (
-    Maker("one", "root", 0o022, {"TZ": "UTC", "LC_ALL": "C", "LANG": "C"}),
-    Maker("a longer name", "nobody", 0o077,
-          {"TZ": "Pacific/Chatham", "LC_ALL": TURKISH, "LANGUAGE": "tr"}),
+    ReleaseMaker("one", "root", 0o022, {"TZ": "UTC", "LC_ALL": "C", "LANG": "C"}),
+    ReleaseMaker("a longer name", "nobody", 0o077,
+                 {"TZ": "Pacific/Chatham", "LC_ALL": TURKISH, "LANGUAGE": "tr"}),
 )
 
 

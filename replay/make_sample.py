@@ -15,7 +15,7 @@ import sys
 from pathlib import Path
 
 import compare
-from make_scripts import Script, by_hand
+from make_scripts import ScriptDraft, by_hand
 from tables import PHASES, KeySet, answers
 
 HEADER = """\
@@ -48,7 +48,7 @@ def choose(count):
     chosen = by_hand()
     shown = set().union(*(what_is_shown(lines) for lines in chosen.values()))
     for early_ends, most in ((False, count - EARLY), (True, count)):
-        made = [Script(SEED, number, early_ends) for number in range(MADE)]
+        made = [ScriptDraft(SEED, number, early_ends) for number in range(MADE)]
         left = [
             (script.lines, what_is_shown(script.lines) | script.causes)
             for script in made

@@ -36,7 +36,7 @@ HABITS = [
 ]
 
 
-class Script:
+class ScriptDraft:
     """A script that is being made, and the key set after its lines."""
 
     def __init__(self, seed, number, early_ends=False):
@@ -338,7 +338,8 @@ def by_hand():
 
 
 def generated(seed, count, early_ends=False):
-    return {f"{seed}-{number}": Script(seed, number, early_ends).lines for number in range(count)}
+    return {f"{seed}-{number}": ScriptDraft(seed, number, early_ends).lines
+            for number in range(count)}
 
 
 if __name__ == "__main__":

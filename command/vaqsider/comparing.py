@@ -27,7 +27,7 @@ DELETION = ("0 0 0 00", "0 3 0 AA==")
 
 
 @dataclass(frozen=True)
-class Key:
+class DueKey:
     """A key of the script with its DNSKEY record, or None if it has no file here: it is of another
     signer."""
 
@@ -68,7 +68,7 @@ class DueSets:
 
     zone: str
     published: dict[str, list[str]]
-    keys: dict[str, Key]
+    keys: dict[str, DueKey]
     known: frozenset[tuple[int, int]]
     is_shared: bool
     faults: tuple[str, ...]
@@ -78,7 +78,7 @@ class DueSets:
         """What a status says, with the key files in these folders."""
         published = status.sets_of(zone_status)
         names = {name for of in published.values() for name in of}
-        keys: dict[str, Key]
+        keys: dict[str, DueKey]
         faults: list[str]
         keys, faults = {}, []
         for key in (key for key in zone_status["keys"] if key["reference"] in names):
@@ -89,12 +89,12 @@ class DueSets:
                 if key["kind"] != "public":
                     faults.append(str(failure))
             tag, algorithm, reference = key["tag"], key["algorithm"], key["reference"]
-            keys[reference] = Key(reference, tag, algorithm, record)
+            keys[reference] = DueKey(reference, tag, algorithm, record)
         known = frozenset((key["tag"], key["algorithm"]) for key in zone_status["keys"])
         is_shared = any(key["kind"] == "public" for key in zone_status["keys"])
         return cls(zone_status["zone"], published, keys, known, is_shared, tuple(faults))
 
-    def of_set(self, kind: str) -> list[Key]:
+    def of_set(self, kind: str) -> list[DueKey]:
         return [self.keys[name] for name in self.published[kind]]
 
 
@@ -202,7 +202,7 @@ class SignatureSpan:
     faults: tuple[str, ...] = ()
 
 
-def signed(zone: str, answer: Answer, key: Key, now: float) -> SignatureSpan:
+def signed(zone: str, answer: Answer, key: DueKey, now: float) -> SignatureSpan:
     """How an answer's set is signed by a key: by the signature that lasts longest."""
     of = [it for it in answer.signatures if (it.key_tag, it.algorithm) == (key.tag, key.algorithm)]
     faults = [f"no signature by {key.tag}"]
@@ -214,7 +214,7 @@ def signed(zone: str, answer: Answer, key: Key, now: float) -> SignatureSpan:
     return SignatureSpan(faults=tuple(faults[-1:]))
 
 
-def _fault(zone: str, answer: Answer, signature: Record, key: Key, now: float) -> str | None:
+def _fault(zone: str, answer: Answer, signature: Record, key: DueKey, now: float) -> str | None:
     """Why a signature isn't valid now, in words."""
     what = f"the signature of {signature.type_covered.name} by {key.tag}"
     if signature.expiration < now:

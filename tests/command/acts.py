@@ -31,7 +31,7 @@ def edited(edit):
 
 
 @dataclass(frozen=True)
-class Row:
+class Case:
     """A row: what comes before, with the shell; how the act is typed; how it ends, and what it
     says; whether the new zone is in its place; and what has to be so then, by the shell."""
 
@@ -46,58 +46,58 @@ class Row:
 
 
 ROWS = (
-    Row("a signer that fails after half", signer("head -c 300 draft >h; mv h draft; exit 1"), "",
-        69, "dnssec-signzone: status 1", OLD),
-    Row("a signer that says why", signer("echo no key here >&2; exit 2"), "",
-        69, "dnssec-signzone: no key here", OLD),
-    Row("a signer that writes half", signer("head -c 300 draft >h; mv h draft"), "",
-        69, "the signed zone is wrong", OLD),
-    Row("a line cut in two", signer("head -c 315 draft >h; mv h draft"), "",
-        69, "the signed zone is wrong", OLD),
-    Row("a signer that makes no file", signer("rm draft"), "", 69, "draft: No such file", OLD),
-    Row("another key", edited("s/ 10133 example/ 10134 example/"), "",
-        69, "example.com. SOA is signed by 46350, not 10133,46350", OLD),
-    Row("another algorithm", edited("s/RRSIG SOA 13/RRSIG SOA 8/"), "",
-        69, "example.com. SOA isn't signed", OLD),
-    Row("one signature of two", edited("/RRSIG NS .* 46350 /d"), "",
-        69, "example.com. NS is signed by 10133, not 10133,46350", OLD),
-    Row("a set without signatures", edited("/RRSIG NS /d"), "",
-        69, "dnssec-verify: no signature for example.com./NS", OLD),
-    Row("a key too few", edited("/WFD7zTd/d"), "",
-        69, "its DNSKEY set isn't that of the script's keys", OLD),
-    Row("a key too many in the zone file", "echo '@ IN DNSKEY 256 3 13 AAAA' >>zone", "",
-        69, "its DNSKEY set isn't that of the script's keys", OLD),
-    Row("CDS in the zone file", "echo '@ IN CDS 0 0 0 00' >>zone", "",
-        69, "its CDS set isn't that of the script's keys", OLD),
-    Row("another serial", edited("s/ 1000 3600/ 999 3600/"), "", 69, "its serial is 999", OLD),
-    Row("no SOA record", edited("/SOA.ns/d"), "", 69, "no SOA record of example.com.", OLD),
-    Row("a full disk, for the signer", signer("cat draft >/dev/full"), "",
-        69, "dnssec-signzone: ", OLD),
-    Row("a full disk, for a draft", "true", "", 69, "too large", OLD, most=500),
-    Row("links in the place of drafts", "echo kept >precious; ln -s . .signed.a_12345z.act;"
-        " for name in draft draft.in; do ln -s precious signed.$name; done", "",
-        0, "signed: written", NEW, "[ $(cat precious) = kept ]"),
-    Row("a link in the place of the signed zone", "cp signed target; ln -sf target signed", "",
-        0, "signed: written", NEW, "[ ! -L signed ] && cmp -s target old"),
-    Row("what a killed act has left", "mkdir -p .signed.a_12345z.act/draft", "",
-        0, "signed: written", NEW),
-    Row("a mode", "chmod 640 signed; umask 077", "", 0, "signed: written", NEW,
-        "[ $(stat -c %a signed) = 640 ]"),
-    Row("a first version, by the unsigned zone's mode", "rm signed; chmod 664 zone", "",
-        0, "signed: written", NEW, "[ $(stat -c %a signed) = 664 ]"),
-    Row("a reload without end", "true", "--reload 'sleep 100' --reload-within 0.2",
-        69, "isn't loaded: it has not ended within 0 s: sleep 100", NEW),
-    Row("a reload whose child goes on", "true",
-        "--reload 'sleep 100 & echo $! >pid; wait' --reload-within 0.2", 69, "isn't loaded", NEW,
-        "sleep 0.2; ! grep -q '(sleep) S' /proc/$(cat pid)/stat"),
-    Row("a reload that fails", "true", "--reload 'exit 3'", 69, "isn't loaded: status 3", NEW),
-    Row("shell text in names", "cp zone 'z; touch P'; for key in K*13+10133.*; do mv $key"
-        " ${key%.*}; mv ${key%.*} $key; done", "--zone-file 'z; touch P'",
-        0, "signed: written", NEW, "[ ! -e P ]"),
-    Row("an act's own file is damaged", "echo cds >double.act", "",
-        3, "double.act: line 1: it has not the form", OLD),
-    Row("a private half is away", "rm Kexample.com.+013+10133.private", "",
-        69, "Kexample.com.+013+10133.key has to sign the zone", OLD),
+    Case("a signer that fails after half", signer("head -c 300 draft >h; mv h draft; exit 1"), "",
+         69, "dnssec-signzone: status 1", OLD),
+    Case("a signer that says why", signer("echo no key here >&2; exit 2"), "",
+         69, "dnssec-signzone: no key here", OLD),
+    Case("a signer that writes half", signer("head -c 300 draft >h; mv h draft"), "",
+         69, "the signed zone is wrong", OLD),
+    Case("a line cut in two", signer("head -c 315 draft >h; mv h draft"), "",
+         69, "the signed zone is wrong", OLD),
+    Case("a signer that makes no file", signer("rm draft"), "", 69, "draft: No such file", OLD),
+    Case("another key", edited("s/ 10133 example/ 10134 example/"), "",
+         69, "example.com. SOA is signed by 46350, not 10133,46350", OLD),
+    Case("another algorithm", edited("s/RRSIG SOA 13/RRSIG SOA 8/"), "",
+         69, "example.com. SOA isn't signed", OLD),
+    Case("one signature of two", edited("/RRSIG NS .* 46350 /d"), "",
+         69, "example.com. NS is signed by 10133, not 10133,46350", OLD),
+    Case("a set without signatures", edited("/RRSIG NS /d"), "",
+         69, "dnssec-verify: no signature for example.com./NS", OLD),
+    Case("a key too few", edited("/WFD7zTd/d"), "",
+         69, "its DNSKEY set isn't that of the script's keys", OLD),
+    Case("a key too many in the zone file", "echo '@ IN DNSKEY 256 3 13 AAAA' >>zone", "",
+         69, "its DNSKEY set isn't that of the script's keys", OLD),
+    Case("CDS in the zone file", "echo '@ IN CDS 0 0 0 00' >>zone", "",
+         69, "its CDS set isn't that of the script's keys", OLD),
+    Case("another serial", edited("s/ 1000 3600/ 999 3600/"), "", 69, "its serial is 999", OLD),
+    Case("no SOA record", edited("/SOA.ns/d"), "", 69, "no SOA record of example.com.", OLD),
+    Case("a full disk, for the signer", signer("cat draft >/dev/full"), "",
+         69, "dnssec-signzone: ", OLD),
+    Case("a full disk, for a draft", "true", "", 69, "too large", OLD, most=500),
+    Case("links in the place of drafts", "echo kept >precious; ln -s . .signed.a_12345z.act;"
+         " for name in draft draft.in; do ln -s precious signed.$name; done", "",
+         0, "signed: written", NEW, "[ $(cat precious) = kept ]"),
+    Case("a link in the place of the signed zone", "cp signed target; ln -sf target signed", "",
+         0, "signed: written", NEW, "[ ! -L signed ] && cmp -s target old"),
+    Case("what a killed act has left", "mkdir -p .signed.a_12345z.act/draft", "",
+         0, "signed: written", NEW),
+    Case("a mode", "chmod 640 signed; umask 077", "", 0, "signed: written", NEW,
+         "[ $(stat -c %a signed) = 640 ]"),
+    Case("a first version, by the unsigned zone's mode", "rm signed; chmod 664 zone", "",
+         0, "signed: written", NEW, "[ $(stat -c %a signed) = 664 ]"),
+    Case("a reload without end", "true", "--reload 'sleep 100' --reload-within 0.2",
+         69, "isn't loaded: it has not ended within 0 s: sleep 100", NEW),
+    Case("a reload whose child goes on", "true",
+         "--reload 'sleep 100 & echo $! >pid; wait' --reload-within 0.2", 69, "isn't loaded", NEW,
+         "sleep 0.2; ! grep -q '(sleep) S' /proc/$(cat pid)/stat"),
+    Case("a reload that fails", "true", "--reload 'exit 3'", 69, "isn't loaded: status 3", NEW),
+    Case("shell text in names", "cp zone 'z; touch P'; for key in K*13+10133.*; do mv $key"
+         " ${key%.*}; mv ${key%.*} $key; done", "--zone-file 'z; touch P'",
+         0, "signed: written", NEW, "[ ! -e P ]"),
+    Case("an act's own file is damaged", "echo cds >double.act", "",
+         3, "double.act: line 1: it has not the form", OLD),
+    Case("a private half is away", "rm Kexample.com.+013+10133.private", "",
+         69, "Kexample.com.+013+10133.key has to sign the zone", OLD),
 )
 ACT = "act double.script --zone-file zone --out signed"
 
@@ -204,7 +204,7 @@ def patient(seconds):
 def at_once():
     """Of two acts that begin at once, one waits for the other."""
     with folder(), patient(60):
-        prepare(Row("", signer("sleep 0.3"), "", 0, "", NEW))
+        prepare(Case("", signer("sleep 0.3"), "", 0, "", NEW))
         with limited(ROWS[0]):
             children = [fork() for _ in range(2)]
         ends = [os.waitstatus_to_exitcode(os.waitpid(child, 0)[1]) for child in children]
@@ -266,7 +266,7 @@ def synced():
         return real["replace"](source, target)
 
     with folder():
-        prepare(Row("", "echo before 60 60 60 >double.notes", "", 0, "", NEW))
+        prepare(Case("", "echo before 60 60 60 >double.notes", "", 0, "", NEW))
         os.fsync, os.replace = fsync, replace
         try:
             typed(shlex.split(ACT))
@@ -281,7 +281,7 @@ def in_order():
     """What is noted while an act runs, comes before what that notes: the notes stay in order."""
     with folder():
         noting = "echo everywhere zone $(date +%s) >>../double.notes"
-        prepare(Row("", signer(f"sleep 1.1; {noting}"), "", 0, "", NEW))
+        prepare(Case("", signer(f"sleep 1.1; {noting}"), "", 0, "", NEW))
         Path("double.notes").write_text("before 60 60 60\npublished zone 5 60 9\n")
         with limited(ROWS[0]), mock.patch("vaqsider.cli.clock", time.time):
             said, status = typed(shlex.split(ACT))

@@ -19,10 +19,10 @@ BY_API = [*ACT[:-1], "pdns-api http://pdns", "--signer-config", "secret"]
 NOTED = "published dnskey 10 60 205"
 
 
-def stored(fake: stores.Pdns | None = None) -> stores.Pdns:
+def stored(fake: stores.FakePdns | None = None) -> stores.FakePdns:
     """A database with the keys of start.script that are in use before its roll, and the files of
     private halves."""
-    fake = fake or stores.Pdns()
+    fake = fake or stores.FakePdns()
     for path in sorted(Path().glob("K*.key")):
         path.with_suffix(".private").write_text(path.name)
         key = Key.of(keyfiles.read(path).data)
@@ -36,7 +36,8 @@ def typed_acts():
     """An act by a signer that runs: what it prints, notes and leaves; and after each command that
     fails the same act ends as it would have."""
     for fails_at, (maker, words, raises) in itertools.product(range(1, 9), (
-            (stores.Pdns, ACT, "increase-serial"), (stores.PdnsApi, BY_API, "a higher serial"))):
+            (stores.FakePdns, ACT, "increase-serial"),
+            (stores.FakePdnsApi, BY_API, "a higher serial"))):
         with folder():
             fake = stored(maker())
             with fake.installed():
@@ -82,7 +83,8 @@ def nsec3():
 def deaf():
     """A database whose commands end well and change nothing: an act says what isn't as it is
     due."""
-    for fake, words, name in ((stores.Pdns(), ACT, "pdns"), (stores.PdnsApi(), BY_API, "pdns-api")):
+    for fake, words, name in ((stores.FakePdns(), ACT, "pdns"),
+                              (stores.FakePdnsApi(), BY_API, "pdns-api")):
         with folder():
             stored(fake)
             fake.publish_zone_key = lambda number: None

@@ -119,7 +119,7 @@ def clock() -> Iterator[str]:
                 yield f"set back by {back} it ends with {status}: {said}"
 
 
-class Fast(World):
+class PromptWorld(World):
     """Servers and a parent that have each version at once."""
 
     def __init__(self) -> None:
@@ -133,7 +133,7 @@ class Fast(World):
 def fast() -> Iterator[str]:
     """What one tick does with servers that are fast: it publishes CDS, and takes it out again."""
     for policy in ("policy 13 csk-roll\ncsk-lifetime 2d\n", "ksk-lifetime 2d\nzsk-lifetime 1d\n"):
-        world = Fast()
+        world = PromptWorld()
         with folder(), living(world, policy):
             ends = list(passing(world, 3 * DAY))
         worst, said = max(ends), "".join(text for _, text in ends)

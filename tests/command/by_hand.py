@@ -12,7 +12,7 @@ import dns.rdatatype
 
 from tests.command.attended import DAY, passing
 from tests.command.rolling_folder import lines, living
-from tests.command.rolling_world import PARENT_TTL, ZONE, Broken, World
+from tests.command.rolling_world import PARENT_TTL, ZONE, BrokenChain, World
 from tests.command.terminal import folder, typed
 
 SCRIPT, ROLL = f"{ZONE}.script", "ksk-roll"
@@ -24,7 +24,7 @@ COUNTS = "ksk-roll: the DS set counts once no server gives CDS: "
 
 
 @dataclass
-class Late(World):
+class LateWorld(World):
     """A parent that takes CDS of any server after it has seen it for so many seconds, and goes back
     to the DS set from before it for a while. Once no server gives CDS nothing changes."""
 
@@ -69,7 +69,7 @@ class Late(World):
 
 
 @dataclass(frozen=True)
-class Row:
+class ParentRow:
     """What the parent does with CDS; and after how many seconds the person takes that out, and the
     second server has it out, which may not answer until then."""
 
@@ -82,12 +82,12 @@ class Row:
 
 
 ROWS = (
-    Row("it keeps the set"),
-    Row("it takes CDS late", takes_after=500),
-    Row("it goes back while CDS is in", is_back=range(200, 330), person=400),
-    Row("it goes back while one server gives CDS", is_back=range(200, 330), server=400),
-    Row("it goes back, by a server that is silent", is_back=range(200, 330), server=400,
-        is_silent=True),
+    ParentRow("it keeps the set"),
+    ParentRow("it takes CDS late", takes_after=500),
+    ParentRow("it goes back while CDS is in", is_back=range(200, 330), person=400),
+    ParentRow("it goes back while one server gives CDS", is_back=range(200, 330), server=400),
+    ParentRow("it goes back, by a server that is silent", is_back=range(200, 330), server=400,
+              is_silent=True),
 )
 
 
@@ -96,12 +96,12 @@ def by_hand() -> Iterator[str]:
     for row in ROWS:
         try:
             yield from (f"{row.name}: {fault}" for fault in row_faults(row))
-        except Broken as broken:
+        except BrokenChain as broken:
             yield f"{row.name}: {broken}"
 
 
-def row_faults(row: Row) -> Iterator[str]:
-    world = Late()
+def row_faults(row: ParentRow) -> Iterator[str]:
+    world = LateWorld()
     with folder(), living(world, ""):
         list(passing(world, 3600))
         begin(world)
@@ -143,7 +143,7 @@ def act(world: World, *options: str) -> str:
     return said
 
 
-def typed_next(world: Late, row: Row) -> str:
+def typed_next(world: LateWorld, row: ParentRow) -> str:
     """What a person types now, by what `status` and `watch` say: what that prints."""
     status_now, _ = typed(["status", SCRIPT, "--json"], world.now)
     (roll,) = json.loads(status_now)[0]["rolls"]
@@ -164,7 +164,7 @@ def typed_next(world: Late, row: Row) -> str:
 
 def turned() -> Iterator[str]:
     """A parent that goes back as CDS leaves hasn't the DS set, though it gave that before."""
-    world, row = Late(), Row("it turns", person=DAY)
+    world, row = LateWorld(), ParentRow("it turns", person=DAY)
     with folder(), living(world, ""):
         list(passing(world, 3600))
         begin(world)

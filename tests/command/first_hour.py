@@ -55,7 +55,7 @@ SIGNED_BY = re.compile(r"\sRRSIG\tSOA (?:\S+ ){5}(\d+) ")
 
 
 @dataclass(frozen=True)
-class Call:
+class CommandRun:
     """One call of the command or of `delv`: its status, its words, and what it said."""
 
     status: int
@@ -63,7 +63,7 @@ class Call:
     text: str
 
     @classmethod
-    def of(cls, kept: str) -> Call:
+    def of(cls, kept: str) -> CommandRun:
         head, _, text = kept.partition("\n")
         status, *words = head.split(" ")
         return cls(int(status), words, text)
@@ -120,8 +120,8 @@ class Room:
                 extra_groups=[] if user() else None, stdin=subprocess.DEVNULL, stdout=out,
                 stderr=subprocess.STDOUT, start_new_session=True)
 
-    def calls(self) -> list[Call]:
-        return [Call.of(it) for it in self.record.read_text().split(MARK)[:-1]]
+    def calls(self) -> list[CommandRun]:
+        return [CommandRun.of(it) for it in self.record.read_text().split(MARK)[:-1]]
 
     def said(self) -> str:
         """The end of what the shell has printed."""
@@ -184,7 +184,7 @@ def waited(room: Room, lines: list[str]) -> Iterator[str]:
     yield from wrong(room.calls())
 
 
-def wrong(calls: list[Call]) -> Iterator[str]:
+def wrong(calls: list[CommandRun]) -> Iterator[str]:
     """What is wrong with calls. An answer is validated as soon as one before it was."""
     is_secure = False
     for call in calls:
@@ -193,7 +193,7 @@ def wrong(calls: list[Call]) -> Iterator[str]:
             yield fault
 
 
-def unlike(calls: list[Call]) -> Iterator[str]:
+def unlike(calls: list[CommandRun]) -> Iterator[str]:
     """What is wrong at the end: the ZSK has to be another one, and has to have signed."""
     words = {call.words[1] for call in calls if not call.is_answer}
     if words != TYPED:
@@ -205,7 +205,7 @@ def unlike(calls: list[Call]) -> Iterator[str]:
         yield f"the ZSKs are {zsks}, and these tags have signed: {tags}"
 
 
-def done(lines: list[str]) -> tuple[list[Call], list[str]]:
+def done(lines: list[str]) -> tuple[list[CommandRun], list[str]]:
     """What was called by the lines, and what is wrong."""
     with tempfile.TemporaryDirectory() as made:
         room = Room(Path(made))

@@ -55,7 +55,7 @@ def _of_bind(prepare):
         for name in ("K2", "Z2", "C3"):
             keys[name].file.path.unlink()
         prepare(keys)
-        with stores.Bind(Path()).installed():
+        with stores.FakeBind(Path()).installed():
             return bind.inventory(ZONE, Namespace(source="."))
 
     return take
@@ -79,7 +79,7 @@ def _by_times(**of_zsk):
 
 def _of_pdns(*flags, stay=False, **how):
     def take(keys):
-        fake = stores.Pdns()
+        fake = stores.FakePdns()
         for name, (active, published) in zip(("K1", "Z1", "K2"), flags):
             fake.keys.append({"key": keys[name], "active": active, "published": published})
         vars(fake).update(how)
@@ -92,7 +92,7 @@ def _of_pdns(*flags, stay=False, **how):
 
 def _of_api(*flags, stay=False, **how):
     def take(keys):
-        fake = stores.PdnsApi()
+        fake = stores.FakePdnsApi()
         for name, (active, published) in zip(("K1", "Z1", "K2"), flags):
             fake.keys.append({"key": keys[name], "active": active, "published": published})
         vars(fake).update(how)
@@ -114,7 +114,7 @@ def expect_private(inventory):
 
 def _of_knot(**times):
     def take(keys):
-        fake = stores.Knot()
+        fake = stores.FakeKnot()
         for name in ("K1", "Z1"):
             fake.does(["keymgr", "example.com.", "import-bind", str(keys[name].file.path)])
         for key in fake.keys.values():

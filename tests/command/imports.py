@@ -55,7 +55,7 @@ EARLY = (
 
 def come():
     """The script is made once all was the same for long enough, and no earlier."""
-    with folder(), stores.Bind(Path()).installed():
+    with folder(), stores.FakeBind(Path()).installed():
         begin()
         for now, words, status, says in EARLY:
             said, ends = typed(words, now)
@@ -95,7 +95,7 @@ def references():
 def of_pdns():
     """Its keys come out as files, or stay."""
     for words, wanted in (([], f"{KSK} {KSK[:-4]}.private 13"), (["--stay"], f"{KSK} pdns:1 13")):
-        fake = stores.Pdns()
+        fake = stores.FakePdns()
         with folder(), fake.installed():
             serve()
             fake.keys += [{"key": Key.of(keyfiles.read(it).data), "active": True,
@@ -117,7 +117,7 @@ def _stored(*_):
 
 def signed_by_others():
     """No script is made of a zone that other keys sign."""
-    with folder(), stores.Bind(Path()).installed():
+    with folder(), stores.FakeBind(Path()).installed():
         begin(zone_tag=64103)
         said, ends = typed([*ASKED, "--unchanged"], 1000)
         if ends != 2 or "signed by 64103, not 46350" not in said or Path("new.script").exists():

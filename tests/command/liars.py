@@ -19,14 +19,14 @@ import dns.resolver
 from tests.command import answering
 from tests.command.loopback import (
     ABOVE, BEFORE, FIRST, KEYS, KSK, NEW, NOW, NOW_RIGHT, OLD, OTHER, PARENT, RESOLVER, RIGHT,
-    SECOND, SILENT, Server, Set, ZONE, changed, coded, dnskey, ds, honest, in_bytes, no_authority,
-    no_tcp, other_id, other_question, same_tag, soa, truncated, world,
+    SECOND, SILENT, ZONE, LoopbackServer, Set, changed, coded, dnskey, ds, honest, in_bytes,
+    no_authority, no_tcp, other_id, other_question, same_tag, soa, truncated, world,
 )
 from tests.command.terminal import folder, typed
 
 
 @dataclass(frozen=True)
-class Row:
+class Lie:
     """A lie, in the step that waits for a kind of sets, and what the command has to say of it; and
     how the same servers' state ends: 3 if a resolver may find no chain."""
 
@@ -41,93 +41,93 @@ NOT_GIVEN = ("DNSKEY none, not 10133,46350,64103", "no signature by 64103")
 ANOTHER = "no answer: what came is of another question"
 WRONG_DS = ds(KSK)[:-4] + "0000"
 ROWS = (
-    Row("honest", "dnskey", honest()),
-    Row("honest", "zone", honest()),
-    Row("honest", "ds", honest()),
-    Row("over TCP", "dnskey", honest(extra=truncated)),
-    Row("other id", "dnskey", in_bytes(other_id), (ANOTHER,)),
-    Row("other question", "dnskey", honest(extra=other_question), (ANOTHER,)),
-    Row("seven bytes", "dnskey", in_bytes(lambda wire: wire[:7]),
+    Lie("honest", "dnskey", honest()),
+    Lie("honest", "zone", honest()),
+    Lie("honest", "ds", honest()),
+    Lie("over TCP", "dnskey", honest(extra=truncated)),
+    Lie("other id", "dnskey", in_bytes(other_id), (ANOTHER,)),
+    Lie("other question", "dnskey", honest(extra=other_question), (ANOTHER,)),
+    Lie("seven bytes", "dnskey", in_bytes(lambda wire: wire[:7]),
         ("no answer: what came can't be read",)),
-    Row("cut off", "dnskey", in_bytes(lambda wire: wire[:90]),
+    Lie("cut off", "dnskey", in_bytes(lambda wire: wire[:90]),
         ("no answer: what came can't be read",)),
-    Row("other owner", "dnskey", changed(DNSKEY={"owner": f"a.{ZONE}"}), NOT_GIVEN, 3),
-    Row("other class", "dnskey", changed(DNSKEY={"rdclass": "CH"}), NOT_GIVEN, 3),
-    Row("no authority", "dnskey", honest(extra=no_authority),
+    Lie("other owner", "dnskey", changed(DNSKEY={"owner": f"a.{ZONE}"}), NOT_GIVEN, 3),
+    Lie("other class", "dnskey", changed(DNSKEY={"rdclass": "CH"}), NOT_GIVEN, 3),
+    Lie("no authority", "dnskey", honest(extra=no_authority),
         ("no answer: it has no authority for the zone",)),
-    Row("SERVFAIL", "dnskey", coded(dns.rcode.SERVFAIL), ("no answer: SERVFAIL",)),
-    Row("REFUSED", "dnskey", coded(dns.rcode.REFUSED), ("no answer: REFUSED",)),
-    Row("NXDOMAIN", "dnskey", coded(dns.rcode.NXDOMAIN), ("no answer: NXDOMAIN",)),
-    Row("silent", "dnskey", lambda query, is_tcp: [], ("no answer",)),
-    Row("no TCP", "dnskey", no_tcp, ("no answer: over TCP",)),
-    Row("one key less", "dnskey", changed(DNSKEY={"records": KEYS[:2]}),
+    Lie("SERVFAIL", "dnskey", coded(dns.rcode.SERVFAIL), ("no answer: SERVFAIL",)),
+    Lie("REFUSED", "dnskey", coded(dns.rcode.REFUSED), ("no answer: REFUSED",)),
+    Lie("NXDOMAIN", "dnskey", coded(dns.rcode.NXDOMAIN), ("no answer: NXDOMAIN",)),
+    Lie("silent", "dnskey", lambda query, is_tcp: [], ("no answer",)),
+    Lie("no TCP", "dnskey", no_tcp, ("no answer: over TCP",)),
+    Lie("one key less", "dnskey", changed(DNSKEY={"records": KEYS[:2]}),
         ("DNSKEY 10133,64103, not 10133,46350,64103",), 3),
-    Row("a key more", "dnskey", changed(DNSKEY={"records": (*KEYS, dnskey(OTHER, 257))}),
+    Lie("a key more", "dnskey", changed(DNSKEY={"records": (*KEYS, dnskey(OTHER, 257))}),
         ("DNSKEY 10133,46350,46352,64103, not 10133,46350,64103",)),
-    Row("a key of the same tag", "dnskey",
+    Lie("a key of the same tag", "dnskey",
         changed(DNSKEY={"records": (*KEYS[:2], same_tag(KEYS[2]))}),
         ("DNSKEY 46350 isn't that of Kexample.com.+013+46350.key",), 3),
-    Row("both of the same tag", "dnskey", changed(DNSKEY={"records": (*KEYS, same_tag(KEYS[2]))}),
+    Lie("both of the same tag", "dnskey", changed(DNSKEY={"records": (*KEYS, same_tag(KEYS[2]))}),
         ("DNSKEY 10133,46350,46350,64103, not 10133,46350,64103",)),
-    Row("other algorithm and tag", "dnskey",
+    Lie("other algorithm and tag", "dnskey",
         changed(DNSKEY={"records": (*KEYS[:2], KEYS[2].replace(" 13 ", " 14 "))}),
         ("DNSKEY 10133,46351,64103, not 10133,46350,64103",), 3),
-    Row("other flags and algorithm", "dnskey",
+    Lie("other flags and algorithm", "dnskey",
         changed(DNSKEY={"records": (*KEYS[:2], KEYS[2].replace("256 3 13", "257 3 12"))}),
         ("DNSKEY 46350 isn't that of Kexample.com.+013+46350.key",), 3),
-    Row("expired", "dnskey", changed(DNSKEY={"end": 274}),
+    Lie("expired", "dnskey", changed(DNSKEY={"end": 274}),
         ("the signature of DNSKEY by 64103 has expired at 274",), 3),
-    Row("not yet valid", "dnskey", changed(DNSKEY={"begin": 276}),
+    Lie("not yet valid", "dnskey", changed(DNSKEY={"begin": 276}),
         ("the signature of DNSKEY by 64103 isn't valid before 276",), 3),
-    Row("valid for just now", "dnskey", changed(DNSKEY={"begin": 275, "end": 275})),
-    Row("by another key", "dnskey", changed(DNSKEY={"by": (OLD,)}), ("no signature by 64103",), 3),
-    Row("of another set", "dnskey", changed(DNSKEY={"signed": KEYS[:2]}),
+    Lie("valid for just now", "dnskey", changed(DNSKEY={"begin": 275, "end": 275})),
+    Lie("by another key", "dnskey", changed(DNSKEY={"by": (OLD,)}), ("no signature by 64103",), 3),
+    Lie("of another set", "dnskey", changed(DNSKEY={"signed": KEYS[:2]}),
         ("the signature of DNSKEY by 64103 is false",), 3),
-    Row("by the old key", "zone", changed(SOA={"by": (OLD,)}), ("signed by 10133, not 46350",)),
-    Row("by both", "zone", changed(SOA={"by": (OLD, NEW)}),
+    Lie("by the old key", "zone", changed(SOA={"by": (OLD,)}), ("signed by 10133, not 46350",)),
+    Lie("by both", "zone", changed(SOA={"by": (OLD, NEW)}),
         ("signed by 10133,46350, not 46350",)),
-    Row("not signed", "zone", changed(SOA={"by": ()}), ("signed by none, not 46350",), 3),
-    Row("expired", "zone", changed(SOA={"end": 274}),
+    Lie("not signed", "zone", changed(SOA={"by": ()}), ("signed by none, not 46350",), 3),
+    Lie("expired", "zone", changed(SOA={"end": 274}),
         ("the signature of SOA by 46350 has expired at 274",), 3),
-    Row("of another serial", "zone", changed(SOA={"signed": (soa(6),)}),
+    Lie("of another serial", "zone", changed(SOA={"signed": (soa(6),)}),
         ("the signature of SOA by 46350 is false",), 3),
-    Row("SHA-384", "ds", changed(DS={"records": (ds(KSK, "SHA384"),)})),
-    Row("both digests", "ds", changed(DS={"records": (ds(KSK), ds(KSK, "SHA384"))})),
-    Row("no DS", "ds", honest({}), ("DS none, not 64103",)),
-    Row("wrong digest", "ds", changed(DS={"records": (WRONG_DS,)}),
+    Lie("SHA-384", "ds", changed(DS={"records": (ds(KSK, "SHA384"),)})),
+    Lie("both digests", "ds", changed(DS={"records": (ds(KSK), ds(KSK, "SHA384"))})),
+    Lie("no DS", "ds", honest({}), ("DS none, not 64103",)),
+    Lie("wrong digest", "ds", changed(DS={"records": (WRONG_DS,)}),
         ("DS 64103 13 2 isn't that of Kexample.com.+013+64103.key: another digest",), 3),
-    Row("a wrong digest more", "ds", changed(DS={"records": (ds(KSK), WRONG_DS)}),
+    Lie("a wrong digest more", "ds", changed(DS={"records": (ds(KSK), WRONG_DS)}),
         ("DS 64103 13 2 isn't that of Kexample.com.+013+64103.key: another digest",)),
-    Row("wrong algorithm", "ds", changed(DS={"records": (ds(KSK).replace(" 13 ", " 8 "),)}),
+    Lie("wrong algorithm", "ds", changed(DS={"records": (ds(KSK).replace(" 13 ", " 8 "),)}),
         ("DS 64103 8 2 isn't that of Kexample.com.+013+64103.key: its algorithm isn't 13",), 3),
-    Row("unknown digest type", "ds", changed(DS={"records": (f"DS 64103 13 3 {'00' * 32}",)}),
+    Lie("unknown digest type", "ds", changed(DS={"records": (f"DS 64103 13 3 {'00' * 32}",)}),
         ("DS 64103 13 3 isn't that of Kexample.com.+013+64103.key: "
          "its digest type isn't known",)),
-    Row("another DS", "ds", changed(DS={"records": (ds(OTHER),)}), ("DS 46352, not 64103",), 3),
-    Row("a DS more", "ds", changed(DS={"records": (ds(KSK), ds(OTHER))}),
+    Lie("another DS", "ds", changed(DS={"records": (ds(OTHER),)}), ("DS 46352, not 64103",), 3),
+    Lie("a DS more", "ds", changed(DS={"records": (ds(KSK), ds(OTHER))}),
         ("DS 46352,64103, not 64103",)),
-    Row("no authority", "ds", honest(extra=no_authority),
+    Lie("no authority", "ds", honest(extra=no_authority),
         ("no answer: it has no authority for the zone",)),
 )
 ROWS += (
-    Row("an old serial", "state", changed(SOA={"records": (soa(6),)}),
+    Lie("an old serial", "state", changed(SOA={"records": (soa(6),)}),
         ("serial 6, and another server has 7",)),
-    Row("a serial before 0", "state", changed(SOA={"records": (soa(2**32 - 1),)}),
+    Lie("a serial before 0", "state", changed(SOA={"records": (soa(2**32 - 1),)}),
         ("serial 4294967295, and another server has 7",)),
-    Row("back with old sets", "state", honest(BEFORE), (
+    Lie("back with old sets", "state", honest(BEFORE), (
         "DNSKEY 10133,64103, not 10133,46350,64103", "signed by 10133, not 46350",
         "NS signed by 10133, not 46350", "serial 5, and another server has 7"), 3),
-    Row("NS has expired", "state", changed(NS={"end": 274}),
+    Lie("NS has expired", "state", changed(NS={"end": 274}),
         ("the signature of NS by 46350 has expired at 274",), 3),
-    Row("CDS is in", "state", honest({**RIGHT, "CDS": Set((f"C{ds(KSK)}",), (KSK, NEW))}),
+    Lie("CDS is in", "state", honest({**RIGHT, "CDS": Set((f"C{ds(KSK)}",), (KSK, NEW))}),
         ("gives CDS still",)),
-    Row("the zone has expired", "beside", changed(SOA={"end": 274}),
+    Lie("the zone has expired", "beside", changed(SOA={"end": 274}),
         ("the signature of SOA by 10133 has expired at 274",), 3),
-    Row("the zone by both", "beside", changed(SOA={"by": (OLD, NEW)}),
+    Lie("the zone by both", "beside", changed(SOA={"by": (OLD, NEW)}),
         ("signed by 10133,46350, not 10133",)),
-    Row("wrong digest", "above", changed(DS={"records": (WRONG_DS,)}),
+    Lie("wrong digest", "above", changed(DS={"records": (WRONG_DS,)}),
         ("DS 64103 13 2 isn't that of Kexample.com.+013+64103.key: another digest",), 3),
-    Row("all is empty", "state", honest({}), (
+    Lie("all is empty", "state", honest({}), (
         "DNSKEY none, not 10133,46350,64103", "no signature by 64103",
         "signed by none, not 46350", "no SOA record", "NS signed by none, not 46350",
         "no NS record"), 3),
@@ -159,7 +159,7 @@ def of_rows(servers, port: int):
             yield from of_watch(row, liar, asked)
 
 
-def of_watch(row: Row, liar: str, asked: list):
+def of_watch(row: Lie, liar: str, asked: list):
     """What `watch` says otherwise than it has to: of the kind that is awaited, or of others."""
     step, is_beside = ("dnskey", True) if row.step in BESIDE else (row.step, False)
     NOW_RIGHT.update(world(step))
@@ -173,7 +173,7 @@ def of_watch(row: Row, liar: str, asked: list):
         yield f"liars: {row.step}, {row.name}: {status}: {text}"
 
 
-def of_state(row: Row, liar: str, asked: list):
+def of_state(row: Lie, liar: str, asked: list):
     """The state of these servers, otherwise than it has to be."""
     NOW_RIGHT.update(world("state"))
     text, status = typed(["watch", "zone.script", "--state", *asked, "--json"], NOW)
@@ -216,7 +216,7 @@ def resolver(table, rcode=dns.rcode.NOERROR):
 
 
 @dataclass(frozen=True)
-class Found:
+class Lookup:
     """How servers are found: what the resolver says, what the parent's NS set and the zone's own
     have, and what lacks; if nothing does, who was asked. The parent may answer in another way."""
 
@@ -234,31 +234,31 @@ KNOWN = {**ADDRESSES, (f"{ZONE}.", "NS"): (f"NS ns1.{ZONE}.",)}
 NAMES_NONE = ((f"a.up ({PARENT})", "it names no server of the zone"),)
 LOST = {key: of for key, of in ADDRESSES.items() if key[0] != f"ns2.{ZONE}."}
 FOUND = (
-    Found("the zone names one more"),
-    Found("the parent names one more", above=RIGHT["NS"].records, own=("NS ns1.example.com.",)),
-    Found("the resolver refuses an address", resolver(LOST, dns.rcode.REFUSED),
-          says=((f"ns2.{ZONE}", "no address"),)),
-    Found("the resolver fails at an address", resolver(LOST, dns.rcode.SERVFAIL),
-          says=((f"ns2.{ZONE}", "no address"),)),
-    Found("a name isn't there", resolver(LOST, dns.rcode.NXDOMAIN),
-          says=((f"ns2.{ZONE}", "no address"),)),
-    Found("a second address is silent",
-          resolver({**ADDRESSES, (f"ns2.{ZONE}.", "A"): (f"A {SECOND}", f"A {SILENT}")}),
-          says=((f"ns2.{ZONE} ({SILENT})", "no answer"),)),
-    Found("a server that is named", more=("--server", f"ns2.{ZONE}"), asked=WELL[1:]),
-    Found("the parent that is named", resolver({key: of for key, of in ADDRESSES.items()
+    Lookup("the zone names one more"),
+    Lookup("the parent names one more", above=RIGHT["NS"].records, own=("NS ns1.example.com.",)),
+    Lookup("the resolver refuses an address", resolver(LOST, dns.rcode.REFUSED),
+           says=((f"ns2.{ZONE}", "no address"),)),
+    Lookup("the resolver fails at an address", resolver(LOST, dns.rcode.SERVFAIL),
+           says=((f"ns2.{ZONE}", "no address"),)),
+    Lookup("a name isn't there", resolver(LOST, dns.rcode.NXDOMAIN),
+           says=((f"ns2.{ZONE}", "no address"),)),
+    Lookup("a second address is silent",
+           resolver({**ADDRESSES, (f"ns2.{ZONE}.", "A"): (f"A {SECOND}", f"A {SILENT}")}),
+           says=((f"ns2.{ZONE} ({SILENT})", "no answer"),)),
+    Lookup("a server that is named", more=("--server", f"ns2.{ZONE}"), asked=WELL[1:]),
+    Lookup("the parent that is named", resolver({key: of for key, of in ADDRESSES.items()
                                                 if key != ("com.", "SOA")}),
-          more=("--parent", "com")),
-    Found("only the other kind of address fails",
-          resolver({**ADDRESSES, (f"ns2.{ZONE}.", "AAAA"): None}),
-          says=((f"ns2.{ZONE}", "its AAAA records can't be looked up"),)),
-    Found("the parent is silent", resolver(KNOWN), says=NAMES_NONE,
-          parent=lambda query, is_tcp: []),
-    Found("the parent refuses", resolver(KNOWN), parent=coded(dns.rcode.REFUSED), says=NAMES_NONE),
-    Found("the parent has no NS record", resolver(KNOWN), above=(), says=NAMES_NONE),
-    Found("the parent isn't found",
-          resolver({key: of for key, of in KNOWN.items() if key != ("com.", "NS")}),
-          says=((f"the parent of {ZONE}", "none of its servers is found"),)),
+           more=("--parent", "com")),
+    Lookup("only the other kind of address fails",
+           resolver({**ADDRESSES, (f"ns2.{ZONE}.", "AAAA"): None}),
+           says=((f"ns2.{ZONE}", "its AAAA records can't be looked up"),)),
+    Lookup("the parent is silent", resolver(KNOWN), says=NAMES_NONE,
+           parent=lambda query, is_tcp: []),
+    Lookup("the parent refuses", resolver(KNOWN), parent=coded(dns.rcode.REFUSED), says=NAMES_NONE),
+    Lookup("the parent has no NS record", resolver(KNOWN), above=(), says=NAMES_NONE),
+    Lookup("the parent isn't found",
+           resolver({key: of for key, of in KNOWN.items() if key != ("com.", "NS")}),
+           says=((f"the parent of {ZONE}", "none of its servers is found"),)),
 )
 
 
@@ -387,7 +387,7 @@ def faults():
     with folder(), answering.network(), ExitStack() as stack:
         scripts()
         port = free_port()
-        servers = {address: stack.enter_context(Server(address, port))
+        servers = {address: stack.enter_context(LoopbackServer(address, port))
                    for address in (FIRST, SECOND, PARENT, RESOLVER)}
         checks = of_rows, of_answers, of_ends, of_meanwhile, of_found
         return [fault for check in checks for fault in check(servers, port)]

@@ -82,7 +82,7 @@ BEFORE = {
 ABOVE = {"DS": Set((ds(KSK),)), "NS": Set((f"NS ns1.{ZONE}.",))}
 
 
-class Server(threading.Thread):
+class LoopbackServer(threading.Thread):
     """A server on one address, over UDP and TCP."""
 
     def __init__(self, address: str, port: int):

@@ -30,10 +30,10 @@ LIFETIMES = "ksk-lifetime 15d\nzsk-lifetime 6d\n"
 COUNTS = {"kills": 0, "ticks": 0}
 
 
-class Store(Postgres):
+class StoreServer(Postgres):
     """A server in a folder of its own, with a database for zones."""
 
-    def __enter__(self) -> Store:
+    def __enter__(self) -> StoreServer:
         self.prepare()
         self.start()
         self.wait()
@@ -88,7 +88,7 @@ class Machines:
 
 
 @contextlib.contextmanager
-def shared(postgres: Store, world: World) -> Iterator[Machines]:
+def shared(postgres: StoreServer, world: World) -> Iterator[Machines]:
     """A store with an unsigned zone, and machines."""
     with folder() as here, living(world, LIFETIMES):
         policy = Path(f"{ZONE}.policy")
@@ -154,7 +154,7 @@ def back_to(kept: Path, here: Path) -> None:
     shutil.copytree(kept, here, dirs_exist_ok=True)
 
 
-def killed(postgres: Store, before: int) -> Iterator[str]:
+def killed(postgres: StoreServer, before: int) -> Iterator[str]:
     """Kills a tick at each statement, after so many ticks of the zone."""
     world = World()
     with shared(postgres, world) as machines:
@@ -181,7 +181,7 @@ def killed(postgres: Store, before: int) -> Iterator[str]:
         COUNTS["kills"] += count - 1
 
 
-def together(postgres: Store) -> Iterator[str]:
+def together(postgres: StoreServer) -> Iterator[str]:
     """Machines at once: a zone rolls as on one, and nothing is done twice."""
     from vaqsider import shared as store
     from vaqsider import ticks
@@ -206,7 +206,7 @@ def together(postgres: Store) -> Iterator[str]:
             yield f"machines at once have made {words}"
 
 
-def refused(postgres: Store) -> Iterator[str]:
+def refused(postgres: StoreServer) -> Iterator[str]:
     """A second line of a number, a changed line and a file with other lines are refused."""
     import psycopg
 
@@ -232,7 +232,7 @@ def refused(postgres: Store) -> Iterator[str]:
             yield f"without a store it ends with {status}: {said}"
 
 
-def by_hand(postgres: Store) -> Iterator[str]:
+def by_hand(postgres: StoreServer) -> Iterator[str]:
     """Words that a person types on one machine are those of all."""
     world = World()
     with shared(postgres, world) as machines:
@@ -259,7 +259,7 @@ def by_hand(postgres: Store) -> Iterator[str]:
 def main() -> int:
     os.environ["PATH"] = f"{TOP / 'tests' / 'command' / 'bin'}:{os.environ['PATH']}"
     answering.install()
-    with Store() as postgres:
+    with StoreServer() as postgres:
         faults = [*refused(postgres), *together(postgres), *by_hand(postgres)]
         for before in (0, 3):
             faults += killed(postgres, before)

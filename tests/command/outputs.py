@@ -179,7 +179,7 @@ def key_file(flags, number):
     return name, tag
 
 
-class Operator:
+class RunbookOperator:
     """Types what docs/RUNBOOKS.md says, in a world in which servers have at once what `act`
     publishes. The parent gets its DS set by hand."""
 
@@ -229,7 +229,7 @@ def by_the_command():
     if [roll for roll, _ in others] != list(ROLLS):
         yield f"the runbooks have {[roll for roll, _ in others]}"
     for roll, commands in others:
-        operator = Operator()
+        operator = RunbookOperator()
         for command in (*first, *commands):
             yield from operator.type(command)
         output, _ = typed(["status", operator.script, "--json"], operator.now)
@@ -254,7 +254,7 @@ def emergencies():
     lost, unsigned = re.findall(r"^```text\n(vaqsider .*?)^```", text, re.MULTILINE | re.DOTALL)
     books = dict(runbooks())
     for name, block in (("lost", lost), ("unsigned", unsigned)):
-        operator = Operator()
+        operator = RunbookOperator()
         block = re.sub(r" --for \d+", "", block).replace("TAG", "1")
         commands = re.findall(r"vaqsider (\w+) S(.*?)(?:;|$)", block, re.MULTILINE)
         after = books["ksk-double-ds-roll"][8:] if name == "lost" else []

@@ -24,7 +24,7 @@ from unittest import mock
 
 from tests.command import attended, by_hand, rolling_mishaps, rolling_policies
 from tests.command.rolling_folder import COUNTS, DAY, SPLIT, lines, living, played, shape, tick
-from tests.command.rolling_world import BEGIN, UNSIGNED, ZONE, Broken, World
+from tests.command.rolling_world import BEGIN, UNSIGNED, ZONE, BrokenChain, World
 from tests.command.terminal import folder, typed
 from tests.oracle import what_next
 
@@ -97,7 +97,7 @@ def courses() -> Iterator[str]:
     for course in COURSES:
         try:
             yield from course_faults(course)
-        except Broken as broken:
+        except BrokenChain as broken:
             yield f"{course.name}: {broken}"
 
 

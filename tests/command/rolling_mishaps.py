@@ -201,7 +201,7 @@ def disks() -> Iterator[str]:
 
 
 @dataclass(frozen=True)
-class Hook:
+class KeygenRow:
     """What a program does that ought to make a key, and what the tick says of it."""
 
     name: str
@@ -210,19 +210,19 @@ class Hook:
 
 
 HOOKS = (
-    Hook("hangs", "sleep 100", "it has not ended within 1 s"),
-    Hook("hangs, and its child too", "sleep 100 & echo $! >pid; sleep 100",
-         "it has not ended within 1 s"),
-    Hook("leaves a child", "sleep 100 & exit 1", "it has not ended within 1 s"),
-    Hook("fails", "echo no room >&2; exit 3", "status 3: no room"),
-    Hook("makes nothing", "true", "it has made no key of role ksk"),
-    Hook("makes half a key", "echo x >Kexample.com.+013+00001.key",
-         "it has made no key of role ksk"),
-    Hook("keeps the private half", f"cp {TOP}/tests/command/files/K*64103.key .",
-         "it has made no key of role ksk"),
-    Hook("makes a key of another role", f"cp {TOP}/tests/command/files/K*10133.key .; "
-         "echo 40693 >Kexample.com.+013+10133.private", "it has made no key of role ksk"),
-    Hook("speaks for long", "head -c 100000 /dev/zero | tr '\\0' x; exit 1", "status 1: xxx"),
+    KeygenRow("hangs", "sleep 100", "it has not ended within 1 s"),
+    KeygenRow("hangs, and its child too", "sleep 100 & echo $! >pid; sleep 100",
+              "it has not ended within 1 s"),
+    KeygenRow("leaves a child", "sleep 100 & exit 1", "it has not ended within 1 s"),
+    KeygenRow("fails", "echo no room >&2; exit 3", "status 3: no room"),
+    KeygenRow("makes nothing", "true", "it has made no key of role ksk"),
+    KeygenRow("makes half a key", "echo x >Kexample.com.+013+00001.key",
+              "it has made no key of role ksk"),
+    KeygenRow("keeps the private half", f"cp {TOP}/tests/command/files/K*64103.key .",
+              "it has made no key of role ksk"),
+    KeygenRow("makes a key of another role", f"cp {TOP}/tests/command/files/K*10133.key .; "
+              "echo 40693 >Kexample.com.+013+10133.private", "it has made no key of role ksk"),
+    KeygenRow("speaks for long", "head -c 100000 /dev/zero | tr '\\0' x; exit 1", "status 1: xxx"),
 )
 
 

@@ -145,14 +145,14 @@ class World:
                     del of[kept]
         for ds, (keys, by), zone in product(*self.held.values()):
             if ds and not (ds & keys & by and keys & zone):
-                raise Broken(f"at {self.now}: ds {set(ds)}, dnskey {set(keys)} by {set(by)}, "
-                             f"zone by {set(zone)}")
+                raise BrokenChain(f"at {self.now}: ds {set(ds)}, dnskey {set(keys)} by {set(by)}, "
+                                  f"zone by {set(zone)}")
 
     def _expect_valid(self, sets: dict) -> None:
         """No signature expires in a cache that fetches it now."""
         for ttl, data in sets.get("RRSIG", ()):
             if data.split()[4] < stamp(self.now + ttl):
-                raise Broken(f"at {self.now}: a signature of {data.split()[0]} expires")
+                raise BrokenChain(f"at {self.now}: a signature of {data.split()[0]} expires")
 
     # ---- what the command asks
 
@@ -244,7 +244,7 @@ class World:
             f"; Created: {stamp(self.now + self.ahead)}\n{zone} IN DNSKEY {data}\n")
 
 
-class Broken(Exception):
+class BrokenChain(Exception):
     """Caches may hold sets without a chain of trust."""
 
 

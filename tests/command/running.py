@@ -22,7 +22,7 @@ from pathlib import Path
 import dns.exception
 
 from tests.command import signer_courses
-from tests.command.running_servers import ORIGIN, PATIENCE, SERVERS, Server
+from tests.command.running_servers import ORIGIN, PATIENCE, SERVERS, RunningSigner
 from tests.command.terminal import folder
 from vaqsider.errors import Failure
 from vaqsider.signers import Sets, daemon
@@ -65,7 +65,7 @@ def course(name: str):
             server.end()
 
 
-def step(server: Server, known, wanted: Sets):
+def step(server: RunningSigner, known, wanted: Sets):
     """What isn't as it should be after a step that crashes everywhere."""
     store = server.store
     with tempfile.TemporaryDirectory() as made:
@@ -85,7 +85,7 @@ def step(server: Server, known, wanted: Sets):
     yield from (f"the server gives: {it}" for it in left)
 
 
-def own_cds(server: Server, known):
+def own_cds(server: RunningSigner, known):
     """CDS that PowerDNS gives of its own is said."""
     server.util("set-publish-cds", ORIGIN)
     try:
@@ -98,7 +98,7 @@ def own_cds(server: Server, known):
     server.store.now(known)
 
 
-def locked(server: Server, known, wanted: Sets):
+def locked(server: RunningSigner, known, wanted: Sets):
     """A database that another program has locked: it is said, and after it all is well."""
     store, usual = server.store, daemon.SECONDS
     daemon.SECONDS = 2

@@ -62,7 +62,7 @@ def key_file(name: str, algorithm: str, is_sep: bool) -> Key:
     return Key.of(file.data, name, file)
 
 
-class Server:
+class RunningSigner:
     """A running signer, its port, and its adaptor."""
 
     def __init__(self) -> None:
@@ -127,7 +127,7 @@ direct-dnskey=yes
 """
 
 
-class OfPdns(Server):
+class RunningPdns(RunningSigner):
     def prepare(self) -> None:
         Path("pdns.conf").write_text(self.database() + PDNS.format(
             here=self.here, at=HERE, port=self.port))
@@ -151,7 +151,7 @@ class OfPdns(Server):
         return self.start("pdns_server", "--config-dir=.")
 
 
-class OfPdnsOnPostgres(OfPdns):
+class RunningPdnsOnPostgres(RunningPdns):
     def database(self) -> str:
         self.postgres = Postgres()
         self.postgres.begin()
@@ -165,7 +165,7 @@ class OfPdnsOnPostgres(OfPdns):
 API = "webserver=yes\nwebserver-address={at}\nwebserver-port={port}\napi=yes\napi-key=of-a-test\n"
 
 
-class OfPdnsByApi(OfPdnsOnPostgres):
+class RunningPdnsByApi(RunningPdnsOnPostgres):
     def database(self) -> str:
         self.api = free_port()
         Path("secret").write_text("of-a-test\n")
@@ -201,7 +201,7 @@ zone:
 """
 
 
-class OfKnot(Server):
+class RunningKnot(RunningSigner):
     keystore, kept_in = "", "default"
 
     def conf(self, signing: str) -> None:
@@ -231,7 +231,7 @@ KEYSTORE = f"""keystore:
 """
 
 
-class OfKnotByPkcs11(OfKnot):
+class RunningKnotByPkcs11(RunningKnot):
     """Its keys are in SoftHSM, and their public halves in files."""
 
     keystore, kept_in = KEYSTORE, "hsm"
@@ -272,7 +272,7 @@ zone "{zone}" {{ type primary; file "{here}/zone"; auto-dnssec maintain; inline-
 """
 
 
-class OfBind(Server):
+class RunningBind(RunningSigner):
     def prepare(self) -> None:
         control = free_port()
         Path("rndc.conf").write_text(f"{SECRET}\noptions {{ default-key k; default-server {HERE}; "
@@ -292,5 +292,5 @@ class OfBind(Server):
         return made
 
 
-SERVERS = {"pdns": OfPdns, "pdns-pgsql": OfPdnsOnPostgres, "pdns-api": OfPdnsByApi, "knot": OfKnot,
-           "knot-pkcs11": OfKnotByPkcs11, "bind-inline": OfBind}
+SERVERS = {"pdns": RunningPdns, "pdns-pgsql": RunningPdnsOnPostgres, "pdns-api": RunningPdnsByApi,
+           "knot": RunningKnot, "knot-pkcs11": RunningKnotByPkcs11, "bind-inline": RunningBind}

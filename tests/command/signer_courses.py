@@ -58,15 +58,15 @@ OF_CSK = ("K1,Z1,C3 K1,C3 Z1 -", "K1,Z1,C3 K1,C3 C3 C3", "C3 C3 C3 -")
 def of(name: str):
     """A signer and its database."""
     if name == "pdns":
-        return Pdnsutil(ZONE, None), stores.Pdns()
+        return Pdnsutil(ZONE, None), stores.FakePdns()
     if name == "pdns-api":
         Path("secret").write_text(f"{stores.SECRET}\n")
-        return Api(ZONE, "http://pdns", "secret"), stores.PdnsApi()
+        return Api(ZONE, "http://pdns", "secret"), stores.FakePdnsApi()
     if name == "knot":
-        fake = stores.Knot()
+        fake = stores.FakeKnot()
         return Knot(ZONE, None, fake.clock), fake
     args = Namespace(keys=["."], SCRIPT="example.com.script", signer_config=None, zone_file="zone")
-    return Inline(ZONE, args, lambda: stores.NOW), stores.Bind(Path())
+    return Inline(ZONE, args, lambda: stores.NOW), stores.FakeBind(Path())
 
 
 def steps(store, known, wanted):

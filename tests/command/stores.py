@@ -52,7 +52,7 @@ class Fake:
             yield self
 
 
-class Pdns(Fake):
+class FakePdns(Fake):
     """What pdnsutil and pdns_control do."""
 
     def __init__(self, zone: str = "example.com") -> None:
@@ -140,7 +140,7 @@ class Pdns(Fake):
 SECRET = "of-a-test"
 
 
-class PdnsApi(Pdns):
+class FakePdnsApi(FakePdns):
     """What the API of PowerDNS does. An answer to a method may be another one."""
 
     def __init__(self) -> None:
@@ -229,7 +229,7 @@ class PdnsApi(Pdns):
                 self.records[it["type"]] = data
 
 
-class Knot(Fake):
+class FakeKnot(Fake):
     """What keymgr and knotc do."""
 
     def __init__(self) -> None:
@@ -293,7 +293,7 @@ class Knot(Fake):
         return "".join(f"[example.com.] example.com. {ttl} {kind} x\n" for ttl, kind in rows)
 
 
-class Bind(Fake):
+class FakeBind(Fake):
     """What dnssec-settime and rndc do. Times are in the files of the keys. named gives what they
     ask for some syncs later."""
 

@@ -10,7 +10,7 @@ SHORT, FEW, TIMES, NOW = 300, 20, 4, 10**9
 MUCH = 2
 
 
-class Ready:
+class ReadySession:
     """A session of the library whose answers are known beforehand. So only the command's own time
     counts."""
 
@@ -98,8 +98,8 @@ def took(rolls):
 
     lines, notes = course(rolls)
     write(lines, notes)
-    *Ready.replies, _, _ = answered = programs.answers(lines)
-    Ready.closing_lines, Ready.zone_status = answered[-2:], programs.status(lines)
+    *ReadySession.replies, _, _ = answered = programs.answers(lines)
+    ReadySession.closing_lines, ReadySession.zone_status = answered[-2:], programs.status(lines)
     return {name: seconds(part) for name, part in parts("long.script").items()}
 
 
@@ -123,7 +123,7 @@ def lengths():
     library the programs read no more than eight times as many lines."""
     from keyset import engine
 
-    ready = {"_has_library": lambda: True, "LibrarySession": Ready}
+    ready = {"_has_library": lambda: True, "LibrarySession": ReadySession}
     with mock.patch.multiple(engine, **ready):
         short, long = took(SHORT), took(SHORT * TIMES)
     for name in short:
