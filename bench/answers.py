@@ -65,7 +65,7 @@ def adds(kind, count, name="A", tag=2):
     return [f"add-{kind} {name}{i}{private} 13 {tag + i} 150 yes" for i in range(count)]
 
 
-def noted(script, *notes):
+def with_notes(script, *notes):
     """A script with notes beside it."""
     return script + "\n" + joined([BEFORE], *notes)
 
@@ -80,7 +80,7 @@ def published(count):
     return [line for pair in zip(adds("public", count), shown) for line in pair]
 
 
-def seen(count):
+def versions(count):
     """Versions of DNSKEY sets, each seen on all servers."""
     return [line for i in range(count // 2) for line in
             (f"published dnskey 1 3600 {i}", f"everywhere dnskey {i}")]
@@ -92,34 +92,34 @@ def seen(count):
 def rolls_with_questions(count):
     """As many questions as calls."""
     made = rolls(count // 16 * 8)
-    return noted(made, [f"due {10_000_000 + i}" for i in range(count // 2)])
+    return with_notes(made, [f"due {10_000_000 + i}" for i in range(count // 2)])
 
 
 def long_reference_noted(count):
     keys = [f"add-zsk {LONG} - 13 65000 150 yes", f"set-present {LONG} yes 160"]
-    return noted(zone(keys, refused(count)), ["due 200"])
+    return with_notes(zone(keys, refused(count)), ["due 200"])
 
 
 def published_noted(count):
-    return noted(zone(published(count // 4), refused(count // 2)), ["due 200"])
+    return with_notes(zone(published(count // 4), refused(count // 2)), ["due 200"])
 
 
 def notes_of_one_kind(count):
-    return noted(zone(["add-ksk K1 - 13 2 150 yes", "start ksk-roll K0 K1 200"]), seen(count),
-                 [f"due {count}"])
+    start = zone(["add-ksk K1 - 13 2 150 yes", "start ksk-roll K0 K1 200"])
+    return with_notes(start, versions(count), [f"due {count}"])
 
 
 def notes_and_questions(count):
     """After each pair of notes a question."""
     start = zone(["add-ksk K1 - 13 2 150 yes", "start ksk-roll K0 K1 200"])
-    turns = seen(count // 2)
-    return noted(start, (line for i in range(0, len(turns), 2)
-                         for line in (*turns[i : i + 2], f"due {i}", f"due {i}")))
+    turns = versions(count // 2)
+    return with_notes(start, (line for i in range(0, len(turns), 2)
+                              for line in (*turns[i : i + 2], f"due {i}", f"due {i}")))
 
 
 def zones(count):
     """Many scripts of ten lines, each with a question."""
-    one = noted(zone(["add-ksk K1 - 13 2 150 yes", "start ksk-roll K0 K1 200"]), ["due 9"])
+    one = with_notes(zone(["add-ksk K1 - 13 2 150 yes", "start ksk-roll K0 K1 200"]), ["due 9"])
     return "\n".join([one] * (count // 14))
 
 

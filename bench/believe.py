@@ -131,13 +131,13 @@ class Definitions:
 
     def below(self, what):
         """The definition and all that it rests on."""
-        seen, left = set(), [what]
+        under, left = set(), [what]
         while left:
             one = left.pop()
-            if one is not None and one not in seen:
-                seen.add(one)
+            if one is not None and one not in under:
+                under.add(one)
                 left.extend(self.named_by(one))
-        return seen
+        return under
 
 
 def main():

@@ -82,12 +82,12 @@ FEWER = 8
 
 def crates_below(names, lines):
     """The lines of crates.txt for these crates and for all crates below them."""
-    found = {}
+    below = {}
     for name in names:
         if name in lines:
-            found |= crates_below(lines[name].split(":")[1].split(), lines)
-            found[name] = lines[name]
-    return found
+            below |= crates_below(lines[name].split(":")[1].split(), lines)
+            below[name] = lines[name]
+    return below
 
 
 def copy_tree(folder):

@@ -149,19 +149,19 @@ def long_bodies(house: House) -> Iterator[Figure]:
 
 def patterns(text: str, begin: int) -> list[str]:
     """The patterns of the match whose arms begin after this bracket."""
-    found: list[str] = []
+    arms: list[str] = []
     depth, in_arm, last = 0, False, begin + 1
     is_macro = text[begin] == "("
     for at in range(begin, len(text)):
         depth += (text[at] in "([{") - (text[at] in ")]}")
         if depth == 0:
-            return found + [text[last:at]] if is_macro else found
+            return arms + [text[last:at]] if is_macro else arms
         if depth == 1 and not in_arm and text.startswith("=>", at):
-            found.append(text[last:at])
+            arms.append(text[last:at])
             in_arm = True
         elif depth == 1 and (text[at] == "," or text[at] == "}" and in_arm):
             in_arm, last = False, at + 1
-    return found
+    return arms
 
 
 def matches_over_rolls(house: House) -> Iterator[Figure]:

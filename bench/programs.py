@@ -83,11 +83,11 @@ class Faults:
     """What is out of its limit."""
 
     def __init__(self):
-        self.found = []
+        self.texts = []
 
     def expect(self, is_so, name, text):
         if not is_so:
-            self.found.append(f"{name}: {text}")
+            self.texts.append(f"{name}: {text}")
 
     def expect_growth(self, costs, limit, name):
         """The time grows by at most this exponent."""
@@ -105,8 +105,8 @@ class Faults:
 
     def status(self):
         """Prints them, and gives the status to end with."""
-        print(f"\nOut of their limits: {len(self.found)}", *self.found, sep="\n")
-        return 1 if self.found else 0
+        print(f"\nOut of their limits: {len(self.texts)}", *self.texts, sep="\n")
+        return 1 if self.texts else 0
 
 
 class Bench:

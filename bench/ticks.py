@@ -100,8 +100,8 @@ def rests(here: Path, name: str) -> None:
     """Leaves what a tick of the first zone has left."""
     like = kept.read(here / "z0.script")
     files = [Path(it.replace("z0.", f"{name}.")) for it in like.files]
-    seen = {str(it): kept.seen(it) for it in files}
-    kept.keep(here / f"{name}.script", replace(like, files=seen))
+    stamps = {str(it): kept.stamp(it) for it in files}
+    kept.keep(here / f"{name}.script", replace(like, files=stamps))
 
 
 def deeds_of(said: str) -> str:

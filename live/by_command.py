@@ -135,8 +135,19 @@ class Operator:
     async def roll(self, roll, old, new):
         """A roll from its start to its end."""
         await self.step(f"start {roll} {old} {new} now")
-        await self.step(await self.wait(roll))
-        await self.step(await self.wait(roll))
+        await self.finish(roll)
+
+    async def finish(self, roll):
+        """The rest of a roll after its first report."""
+        for _ in (1, 2):
+            await self.step(await self.wait(roll))
+
+    async def begin_roll(self, roll, old, flag):
+        """Starts a roll from an old key to a new one, which it gives. Nothing is published yet."""
+        new = await self.key(*flag)
+        await self.call(f"add {new}")
+        await self.call(f"start {roll} {old} {new} now")
+        return new
 
     async def replace(self, roll, old, flag, word="add"):
         """A roll from an old key to a new one, which it gives."""

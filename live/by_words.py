@@ -71,7 +71,7 @@ class Person(SignerOperator):
     def lines(self):
         return self.script.read_text().splitlines()
 
-    def made(self, roll):
+    def calls_of(self, roll):
         """The words of a roll's calls in the script."""
         return [line.split(" ")[0] for line in self.lines() if f" {roll}" in line]
 
@@ -141,7 +141,7 @@ async def words(zone):
     await person.answers("y", *roll)
     await person.until(lambda _: person.lines()[-1].startswith("delete "), "tick", person.script)
     would = [line.split()[2] for line in shown.splitlines() if " zsk-roll" in line]
-    expect(would == person.made("zsk-roll"), f"it has shown {shown}, and made {person.lines()}")
+    expect(would == person.calls_of("zsk-roll"), f"it has shown {shown}, and made {person.lines()}")
     await person.looks()
 
 

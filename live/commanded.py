@@ -53,9 +53,7 @@ async def wrong_digest(zone):
     """The registrar types a digest wrong. The command doesn't go on until it is mended."""
     operator = Operator(zone)
     ksk, _ = await operator.first_keys()
-    new = await operator.key(*KSK)
-    await operator.call(f"add {new}")
-    await operator.call(f"start ksk-double-ds-roll {ksk} {new} now")
+    await operator.begin_roll("ksk-double-ds-roll", ksk, KSK)
     right = await operator.act()
     present = set(zone.world.parent.ds[zone.name][0])
     wrong = [*present, *mistyped([record for record in right if record not in present])]
@@ -66,8 +64,7 @@ async def wrong_digest(zone):
     expect("DS" in output, f"the wrong digest isn't said: {output}")
     await zone.world.parent.change(zone.name, right, TTL)
     await operator.watch("--call")
-    await operator.step(await operator.wait("ksk-double-ds-roll"))
-    await operator.step(await operator.wait("ksk-double-ds-roll"))
+    await operator.finish("ksk-double-ds-roll")
 
 
 async def serial_by_date(zone):
@@ -105,15 +102,12 @@ async def lost_ksk(zone):
     operator = Operator(zone)
     ksk, _ = await operator.first_keys()
     (operator.folder / ksk).with_suffix(".private").unlink()
-    new = await operator.key(*KSK)
-    await operator.call(f"add {new}")
-    await operator.call(f"start ksk-double-ds-roll {ksk} {new} now")
+    await operator.begin_roll("ksk-double-ds-roll", ksk, KSK)
     done = json.loads(await operator.type(*operator.words_of_act()))
     expect(done["valid_until"].keys() == {ksk} and not done["cds"], f"an act says {done}")
     await operator.change_ds(await operator.act())
     await operator.watch("--call")
-    await operator.step(await operator.wait("ksk-double-ds-roll"))
-    await operator.step(await operator.wait("ksk-double-ds-roll"))
+    await operator.finish("ksk-double-ds-roll")
     await operator.watch("--state")
 
 
@@ -167,19 +161,16 @@ async def without_address(zone):
     doesn't report before it has asked that server."""
     operator = OperatorByNames(zone)
     _, zsk = await operator.first_keys()
-    new = await operator.key(*ZSK)
-    await operator.call(f"add {new}")
+    await operator.begin_roll("zsk-roll", zsk, ZSK)
     operator.not_found = f"b1.{zone.name}".rstrip(".")
     operator.servers = [server for server in zone.servers if server != CHILD["B"][0]]
-    await operator.call(f"start zsk-roll {zsk} {new} now")
     await operator.act()
     output = await operator.watch("--call", seconds=5, ends=(DUE,))
     expect(f"{operator.not_found}: " in output, f"the server isn't named: {output}")
     operator.not_found, operator.servers = "", zone.servers
     await operator.act()
     await operator.watch("--call")
-    await operator.step(await operator.wait("zsk-roll"))
-    await operator.step(await operator.wait("zsk-roll"))
+    await operator.finish("zsk-roll")
 
 
 def with_wrong_key(operator, ksk, wrong):
@@ -222,8 +213,7 @@ async def wrong_key(zone):
         expect(says in output, f"the wrong key isn't said: {output}")
     await operator.act()
     await operator.watch("--call")
-    await operator.step(await operator.wait("zsk-roll"))
-    await operator.step(await operator.wait("zsk-roll"))
+    await operator.finish("zsk-roll")
 
 
 async def both(operator):
@@ -244,14 +234,11 @@ async def acts_at_once(zone):
     """Two acts run at once, as one of an operator and one of a timer."""
     operator = Operator(zone)
     _, zsk = await operator.first_keys()
-    new = await operator.key(*ZSK)
-    await operator.call(f"add {new}")
-    await operator.call(f"start zsk-roll {zsk} {new} now")
+    await operator.begin_roll("zsk-roll", zsk, ZSK)
     for _ in range(TIMES):
         await both(operator)
     await operator.watch("--call")
-    await operator.step(await operator.wait("zsk-roll"))
-    await operator.step(await operator.wait("zsk-roll"))
+    await operator.finish("zsk-roll")
     await operator.watch("--state")
     await operator.type("check", operator.script)
 

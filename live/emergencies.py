@@ -4,7 +4,7 @@ of lost keys are in lost.py."""
 import asyncio
 from contextlib import asynccontextmanager
 
-from one_signer import KEYS, first_keys, go_unsigned
+from one_signer import KEYS, first_keys, go_unsigned, keys_again
 from processes import SceneFailure
 from provider import Provider
 from rolls import ALGORITHM, CSK, DOUBLE_DS, DOUBLE_SIGNATURE, KSK, ZSK, Roll, at_moment
@@ -30,6 +30,26 @@ LEFT = {
 }
 
 
+def new_algorithm(name):
+    return 15 if name == ALGORITHM else 13
+
+
+async def before_roll(zone, name):
+    """A roll that can start, after the first keys, with its old keys and its new ones."""
+    provider = await first_keys(zone, "K1", "Z1")
+    old, new, _ = KEYS[name]
+    await provider.make(*new, algorithm=new_algorithm(name))
+    return Roll(provider, name), old, new
+
+
+async def reported(zone, name):
+    """A roll that has come to its first wait."""
+    roll, old, new = await before_roll(zone, name)
+    await roll.start(old, new)
+    await roll.report(1)
+    return roll
+
+
 def stolen_new_key(name, number=0, keys=None):
     """ "Another new key in mid-roll": a new key is stolen after the first report, and another one
     replaces it."""
@@ -39,7 +59,7 @@ def stolen_new_key(name, number=0, keys=None):
         provider = Provider(zone, zone.servers)
         if old:
             provider = await first_keys(zone, *(old if keys else ["K1", "Z1"]))
-        await provider.make(*new, algorithm=15 if name == ALGORITHM else 13)
+        await provider.make(*new, algorithm=new_algorithm(name))
         roll = Roll(provider, name)
         await roll.start(old, new)
         await roll.report(1)
@@ -111,14 +131,9 @@ def begin_signed(provider, refs):
 
 async def halfway(zone, name):
     """A roll that has come to its second report."""
-    provider = await first_keys(zone, "K1", "Z1")
-    old, new, _ = KEYS[name]
-    await provider.make(*new, algorithm=15 if name == ALGORITHM else 13)
-    roll = Roll(provider, name)
-    await roll.start(old, new)
-    await roll.report(1)
+    roll = await reported(zone, name)
     await roll.wait(1)
-    return provider
+    return roll.provider
 
 
 def lines_lost(name, *refs):
@@ -170,51 +185,39 @@ async def unsigned_by_setters(provider):
     await provider.act(["RemoveCdsRrset", "UpdateDnskeyRrset", "UpdateRrsig"])
     await provider.watch()
     provider.begin_script()
-    await provider.make("K5", "Z5")
-    await Roll(provider, ALGORITHM).whole([], ["K5", "Z5"])
-    zone.is_secure()
-    await asyncio.sleep(zone.longest() + 4)
+    await keys_again(provider, "K5", "Z5")
 
 
 async def unsigned_before_first_wait(zone):
     """The same, with the DS of the old key only."""
-    provider = await first_keys(zone, "K1", "Z1")
-    await provider.make("K2")
-    roll = Roll(provider, KSK)
-    await roll.start(["K1"], ["K2"])
-    await roll.report(1)
-    await unsigned_by_setters(provider)
+    roll = await reported(zone, KSK)
+    await unsigned_by_setters(roll.provider)
 
 
 def unsigned_after_early_end(name):
     """A roll is ended early, and the zone goes unsigned at once."""
 
     async def scene(zone):
-        provider = await first_keys(zone, "K1", "Z1")
-        old, new, _ = KEYS[name]
-        await provider.make(*new, algorithm=15 if name == ALGORITHM else 13)
-        roll = Roll(provider, name)
+        roll, old, new = await before_roll(zone, name)
         await roll.start(old, new)
         await roll.abort()
         # (No other change of the DS set is asked for while the parent is at work on the first.)
         while zone.is_at_work:
             await asyncio.sleep(0.1)
-        await go_unsigned(provider, "K1", "Z1")
+        await go_unsigned(roll.provider, "K1", "Z1")
 
     return scene
 
 
 async def lost_ds(zone):
     """The whole DS set is lost during a roll, and is set again before its report."""
-    provider = await first_keys(zone, "K1", "Z1")
-    await provider.make("K2")
+    roll, old, new = await before_roll(zone, KSK)
     zone.reads_cds = False
-    roll = Roll(provider, KSK)
-    await roll.start(["K1"], ["K2"])
+    await roll.start(old, new)
     await roll.report(1)
     await roll.accepted(1)
     zone.clients.secure_from = float("inf")
-    await provider.act(roll.actions)
+    await roll.provider.act(roll.actions)
     await zone.change_ds(())
     await zone.watch_ds()
     await asyncio.sleep(3)
@@ -227,12 +230,8 @@ async def lost_ds(zone):
 async def false_lines(zone):
     """ "A false line was accepted": a report with a digit too many is mended, and a wait for which
     nothing was published is removed."""
-    provider = await first_keys(zone, "K1", "Z1")
-    script = provider.script
-    await provider.make("K2")
-    roll = Roll(provider, KSK)
-    await roll.start(["K1"], ["K2"])
-    await roll.report(1)
+    roll = await reported(zone, KSK)
+    script = roll.provider.script
     true = script.lines[-1]
     script.lines[-1] = f"{true}0"
     try:
@@ -244,7 +243,7 @@ async def false_lines(zone):
     script.lines.pop()
     for call in (roll.wait(1), roll.report(2), roll.wait(2), roll.done()):
         await call
-    provider.call("delete K1")
+    roll.provider.call("delete K1")
 
 
 async def signatures_expire(zone):

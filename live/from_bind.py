@@ -76,9 +76,9 @@ class Bind:
         """The zone, once all of it is signed, and has NSEC or NSEC3."""
         for _ in range(PATIENCE * 2):
             await asyncio.sleep(0.5)
-            made = await self.given()
-            if made is not None and is_signed(made, denial):
-                return made
+            dns_zone = await self.given()
+            if dns_zone is not None and is_signed(dns_zone, denial):
+                return dns_zone
         raise SceneFailure(f"BIND doesn't sign {self.zone.name}")
 
     async def given(self):
@@ -87,35 +87,35 @@ class Bind:
 
 async def zone_at(name, port):
     """The zone as the server at a port gives it, or None."""
-    made = dns.zone.Zone(name, relativize=False)
+    dns_zone = dns.zone.Zone(name, relativize=False)
     try:
-        await dns.asyncquery.inbound_xfr(HERE, made, port=port, timeout=5)
+        await dns.asyncquery.inbound_xfr(HERE, dns_zone, port=port, timeout=5)
     except (dns.exception.DNSException, OSError, EOFError):
         return None
-    return made
+    return dns_zone
 
 
-def types_of(made):
+def types_of(dns_zone):
     """The types of each name, and the types that have signatures there."""
-    for _, node in made.items():
+    for _, node in dns_zone.items():
         types = {dns.rdatatype.to_text(it.rdtype) for it in node if it.covers == 0}
         yield types, {dns.rdatatype.to_text(it.covers) for it in node if it.covers}
 
 
-def is_signed(made, denial):
+def is_signed(dns_zone, denial):
     """Whether each set is signed, and just this kind of denial is there. With NSEC3 its parameters
     have to be there too: BIND adds them once the chain is whole."""
-    rows = list(types_of(made))
+    rows = list(types_of(dns_zone))
     kinds = {it for types, _ in rows for it in types if it in ("NSEC", "NSEC3")}
-    is_whole = denial == "NSEC" or made.get_rdataset(made.origin, "NSEC3PARAM") is not None
+    is_whole = denial == "NSEC" or dns_zone.get_rdataset(dns_zone.origin, "NSEC3PARAM") is not None
     return kinds == {denial} and is_whole and all(types <= signed for types, signed in rows)
 
 
-def ds_of(made):
+def ds_of(dns_zone):
     """The DS records of the zone's keys with the SEP flag."""
-    keys = made.get_rdataset(made.origin, "DNSKEY")
+    keys, origin = dns_zone.get_rdataset(dns_zone.origin, "DNSKEY"), dns_zone.origin
     return [
-        dns.dnssec.make_ds(made.origin, key, "SHA256").to_text() for key in keys if key.flags & 1
+        dns.dnssec.make_ds(origin, key, "SHA256").to_text() for key in keys if key.flags & 1
     ]
 
 
@@ -127,25 +127,25 @@ def from_bind(keys=KSK_ZSK, denial="NSEC", by_date=False):
         bind = Bind(zone, operator.serial)
         nsec3, serial = NSEC3 if denial == "NSEC3" else "", BY_DATE if by_date else ""
         bind.start(keys=keys, nsec3=nsec3, serial=serial)
-        made = await bind.signed(denial)
-        await publish(operator, made)
+        dns_zone = await bind.signed(denial)
+        await publish(operator, dns_zone)
         await take_over(operator, bind, "--csk" if keys == CSK else None)
         for path in sorted(bind.folder.glob("K*.key")):
             await operator.replace(*roll_of(path, keys))
-        made = dns.zone.from_file(str(operator.signed), zone.name, relativize=False)
-        expect(is_signed(made, denial), f"the zone isn't signed with {denial}")
+        dns_zone = dns.zone.from_file(str(operator.signed), zone.name, relativize=False)
+        expect(is_signed(dns_zone, denial), f"the zone isn't signed with {denial}")
         await operator.type("check", operator.script)
 
     return scene
 
 
-async def publish(operator, made):
+async def publish(operator, dns_zone):
     """The zone as BIND has signed it, and its DS once caches hold no older zone."""
-    zone, text = operator.zone, made.to_text(relativize=False)
+    zone, text = operator.zone, dns_zone.to_text(relativize=False)
     operator.publish(text)
     operator.signed.write_text(text)
     await asyncio.sleep(zone.world.fleet.SLOWEST + zone.first.longest + 1)
-    await zone.world.parent.change(zone.name, ds_of(made), DS_TTL)
+    await zone.world.parent.change(zone.name, ds_of(dns_zone), DS_TTL)
     await zone.world.parent.watch(zone.name)
     zone.is_secure(TTL)
     await asyncio.sleep(TTL + NEGATIVE + 1)

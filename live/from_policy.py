@@ -10,16 +10,9 @@ from knot_signers import KnotSigner
 from pdns_signers import Pdns
 from processes import end
 from running import SignerOperator, come, is_right, replace_one, words_of_import
-from signers import RNDC, SECRET
+from signers import CONTROLLED, RNDC, SECRET
 
-POLICY = """\
-options {{
-  directory "{folder}"; pid-file "{folder}/pid"; session-keyfile "{folder}/session.key";
-  key-directory "{folder}"; port {port}; listen-on {{ {here}; }}; listen-on-v6 {{ none; }};
-  recursion no; notify no; allow-transfer {{ any; }}; dnssec-validation no;
-}};
-key k {{ algorithm hmac-sha256; secret "{secret}"; }};
-controls {{ inet {here} port {control} allow {{ any; }} keys {{ k; }}; }};
+POLICY = CONTROLLED + """\
 dnssec-policy "scene" {{
   keys {{ ksk lifetime unlimited algorithm 13; zsk lifetime unlimited algorithm 13; }};
   dnskey-ttl {ttl}; max-zone-ttl {ttl}; parent-ds-ttl {ds_ttl};
@@ -42,8 +35,8 @@ class BindByPolicy(Bind):
         records = plain_records(self.zone.name, version, self.zone.letters)
         (self.folder / "zone").write_text(f"$TTL {TTL}\n" + "\n".join(records) + "\n")
         (self.folder / "conf").write_text(POLICY.format(
-            **settings, port=self.port, secret=SECRET, zone=self.zone.name, ttl=TTL,
-            ds_ttl=DS_TTL))
+            **settings, keys=self.folder, port=self.port, secret=SECRET, zone=self.zone.name,
+            ttl=TTL, ds_ttl=DS_TTL))
         name = f"signer-{self.zone.name.rstrip('.')}"
         self.zone.world.processes.start(
             name, "named", "-g", "-n", "1", "-c", str(self.folder / "conf"))

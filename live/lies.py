@@ -3,6 +3,7 @@
 import asyncio
 import time
 
+from emergencies import reported
 from lost import zsk_beside
 from one_signer import KEYS, first_keys, with_least_ttl
 from rolls import ALGORITHM, DOUBLE_DS, DOUBLE_SIGNATURE, KSK, ZSK, Roll, spoken_of
@@ -159,18 +160,14 @@ async def taken_back(zone):
     and nobody sees a fault."""
     # (Caches hold the DNSKEY set of the first keys until after the false change.)
     zone.ttls.zone, zone.ttls.dnskey, zone.ttls.ds = 3, LONGER, 2
-    provider = await first_keys(zone, "K1", "Z1")
-    await provider.make("K2")
-    roll = Roll(provider, KSK)
-    await roll.start(["K1"], ["K2"])
-    await roll.report(1)
+    roll = await reported(zone, KSK)
     await take_back(roll)
     zone.clients.mended = time.time() + zone.ttls.ds + BOGUS
     for call in (roll.wait(1), roll.report(2), roll.wait(2), roll.done()):
         await call
     await asyncio.sleep(zone.clients.mended - time.time())
-    await provider.make("Z2")
-    await Roll(provider, ZSK).whole(["Z1"], ["Z2"])
+    await roll.provider.make("Z2")
+    await Roll(roll.provider, ZSK).whole(["Z1"], ["Z2"])
 
 
 async def take_back(roll):

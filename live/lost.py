@@ -2,16 +2,12 @@
 
 import asyncio
 
-from emergencies import replaced
-from one_signer import KEYS, first_keys, go_unsigned
+from emergencies import before_roll, new_algorithm, replaced, reported
+from one_signer import KEYS, first_keys, go_unsigned, keys_again
 from rolls import ALGORITHM, CSK, DOUBLE_DS, DOUBLE_SIGNATURE, KSK, ZSK, Roll
 
 # What the key of each kind, by the letter of its reference, would have to sign.
 SIGNS = {"K": {"UpdateDnskeyRrset"}, "Z": {"UpdateRrsig"}, "C": {"UpdateDnskeyRrset"}}
-
-
-def new_algorithm(name):
-    return 15 if name == ALGORITHM else 13
 
 
 async def roll_lost(provider, ref, new, algorithm=13):
@@ -32,10 +28,7 @@ def lost(ref):
         provider.keys[ref].lost = True
         await roll_lost(provider, ref, f"{ref[0]}2")
         if ref == "C1":
-            await provider.make("C3")
-            await Roll(provider, ALGORITHM).whole([], ["C3"])
-            zone.is_secure()
-            await asyncio.sleep(zone.longest() + 4)
+            await keys_again(provider, "C3")
 
     return scene
 
@@ -45,12 +38,8 @@ def in_mid_roll(name, ref):
     would have to sign stays as it is. Then comes a third key."""
 
     async def scene(zone):
-        provider = await first_keys(zone, "K1", "Z1")
-        old, new, _ = KEYS[name]
-        await provider.make(*new, algorithm=new_algorithm(name))
-        roll = Roll(provider, name)
-        await roll.start(old, new)
-        await roll.report(1)
+        roll = await reported(zone, name)
+        provider = roll.provider
         await roll.wait(1)
         provider.keys[ref].lost = True
         await roll.report(2)
@@ -101,10 +90,8 @@ def before_publishing(name, ref):
     """An old key is lost before anything of the start is published. The roll is ended early."""
 
     async def scene(zone):
-        provider = await first_keys(zone, "K1", "Z1")
-        old, new, _ = KEYS[name]
-        await provider.make(*new, algorithm=new_algorithm(name))
-        roll = Roll(provider, name)
+        roll, old, new = await before_roll(zone, name)
+        provider = roll.provider
         await roll.started(old, new)
         provider.keys[ref].lost = True
         await roll.abort()
@@ -118,13 +105,8 @@ def after_wait(name):
     is taken out, and another key comes in the place of the lost one."""
 
     async def scene(zone):
-        provider = await first_keys(zone, "K1", "Z1")
-        old, new, third = KEYS[name]
-        await provider.make(*new)
-        roll = Roll(provider, name)
-        await roll.start(old, new)
-        await roll.report(1)
-        script = provider.script
+        roll, (old, new, third) = await reported(zone, name), KEYS[name]
+        provider, script = roll.provider, roll.provider.script
         lines, sets, actions = list(script.lines), script.sets, roll.actions
         await roll.accepted(1)
         provider.keys[new[0]].lost = True

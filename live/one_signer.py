@@ -31,6 +31,14 @@ async def first_keys(zone, *refs, algorithm=13):
     return provider
 
 
+async def keys_again(provider, *refs, algorithm=13):
+    """First keys of a zone that went unsigned, until no cache holds an older set."""
+    await provider.make(*refs, algorithm=algorithm)
+    await Roll(provider, ALGORITHM).whole([], refs)
+    provider.zone.is_secure()
+    await asyncio.sleep(provider.zone.longest() + 4)
+
+
 def one_roll(name):
     """A roll after the first keys, and then the same roll to new keys again."""
 
@@ -244,10 +252,7 @@ async def unsigned(zone):
     provider = await first_keys(zone, "K1", "Z1")
     await go_unsigned(provider, "K1", "Z1")
     zone.ttls.dnskey = 2
-    await provider.make("C1", algorithm=15)
-    await Roll(provider, ALGORITHM).whole([], ["C1"])
-    zone.is_secure()
-    await asyncio.sleep(zone.longest() + 4)
+    await keys_again(provider, "C1", algorithm=15)
     await go_unsigned(provider, "C1")
 
 
@@ -265,10 +270,7 @@ async def first_keys_ended_early(zone):
         provider.call(f"set-stale {ref}")
         provider.call(f"delete {ref}")
     zone.ttls.dnskey = 2
-    await provider.make("K2", "Z2")
-    await Roll(provider, ALGORITHM).whole([], ["K2", "Z2"])
-    zone.is_secure()
-    await asyncio.sleep(zone.longest() + 4)
+    await keys_again(provider, "K2", "Z2")
 
 
 async def ended_early_beside(zone):

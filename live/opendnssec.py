@@ -180,8 +180,8 @@ class OpenDnssec(FileTools):
         """Waits until the list of its keys shows this, and gives that."""
         for _ in range(PATIENCE * 2):
             output = await self.enforcer("key", "list", how)
-            if found := re.search(what, output, re.DOTALL | re.MULTILINE):
-                return found
+            if match := re.search(what, output, re.DOTALL | re.MULTILINE):
+                return match
             await asyncio.sleep(0.5)
         raise SceneFailure(f"the enforcer doesn't show {what}: {output}")
 

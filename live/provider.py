@@ -187,8 +187,8 @@ class Provider:
                     [address], port, name, kind, lambda answer: is_there(answer, serial)
                     or self.has_lost(address, kind, answer), what,
                 )
-        self.notes.seen("dnskey", serial)
-        self.notes.seen("zone", serial)
+        self.notes.everywhere("dnskey", serial)
+        self.notes.everywhere("zone", serial)
 
     def is_version(self, answer, serial):
         """Whether an answer has this version or a later one, with the signatures of the zone."""
@@ -238,7 +238,7 @@ class Provider:
     def longest_held(self):
         """The highest TTL of its sets that caches may hold, now that no server gives them."""
         for kind in ("dnskey", "zone"):
-            self.notes.seen(kind, self.version.serial + 1)
+            self.notes.everywhere(kind, self.version.serial + 1)
         return max(self.notes.highest(kind, time.time()) for kind in ("dnskey", "zone"))
 
     def sum_of_ds_and_dnskey(self, moment):

@@ -117,13 +117,13 @@ class Run:
             print(row(words, seconds, counts, sum(len(one.faults) for one in clients)))
 
     def clients(self, scene):
-        return self.world.made[scene.zone].clients
+        return self.world.zone_by_name[scene.zone].clients
 
     async def one(self, scene, places):
         async with places:
             self.world.processes.check()
             began = time.monotonic()
-            wrong = await play(self.world.made[scene.zone], scene)
+            wrong = await play(self.world.zone_by_name[scene.zone], scene)
         self.left.remove(scene)
         clients, seconds = self.clients(scene), time.monotonic() - began
         said = "FAILED" if wrong else "ok"

@@ -38,18 +38,19 @@ class SignerOperator(Operator):
         self.is_thorough = False
 
     def environment(self):
-        made = super().environment()
-        made.update(self.signer.environment() if self.signer else {})
-        return {**made, "PATH": f"{self.path}:{made['PATH']}" if self.path else made["PATH"]}
+        variables = super().environment()
+        variables.update(self.signer.environment() if self.signer else {})
+        path = f"{self.path}:{variables['PATH']}" if self.path else variables["PATH"]
+        return {**variables, "PATH": path}
 
     async def key(self, *flag):
         """A new key: of the signer, or a file without times, for named would use it at once."""
         algorithm = self.algorithm
-        made = await self.signer.key(*flag, algorithm=algorithm) if self.signer else None
-        if made is None:
-            made = await super().key(*flag, algorithm=algorithm)
-            await run(self.folder, "dnssec-settime", *NamedSigner.times_of_keys, made)
-        return made
+        name = await self.signer.key(*flag, algorithm=algorithm) if self.signer else None
+        if name is None:
+            name = await super().key(*flag, algorithm=algorithm)
+            await run(self.folder, "dnssec-settime", *NamedSigner.times_of_keys, name)
+        return name
 
     def words_of_act(self):
         if self.signer is None:
@@ -125,11 +126,11 @@ class SignerOperator(Operator):
 
     async def give(self):
         """Gives the servers what the signer gives now, as a transfer does."""
-        made = await self.signer.given()
-        if made is None:
+        dns_zone = await self.signer.given()
+        if dns_zone is None:
             raise SceneFailure(f"{self.signer.name} gives no zone")
-        self.publish(made.to_text(relativize=False))
-        return made
+        self.publish(dns_zone.to_text(relativize=False))
+        return dns_zone
 
     async def compare(self, has_cds):
         """Compares with the status what the command says of the signer's database, what is in it,
@@ -154,15 +155,15 @@ def tag_of(name):
     return int(name.partition("+")[2].rpartition("+")[2].partition(".")[0])
 
 
-def tags_given(made):
+def tags_given(dns_zone):
     """The keys of the DNSKEY set, those that sign it, and those that sign the SOA record; whether
     there is CDS."""
     def by(kind):
-        found = made.get_rdataset(made.origin, "RRSIG", kind)
+        found = dns_zone.get_rdataset(dns_zone.origin, "RRSIG", kind)
         return {it.key_tag for it in found or ()}
 
-    keys = made.get_rdataset(made.origin, "DNSKEY") or ()
-    both = {made.get_rdataset(made.origin, kind) is not None for kind in ("CDS", "CDNSKEY")}
+    keys = dns_zone.get_rdataset(dns_zone.origin, "DNSKEY") or ()
+    both = {dns_zone.get_rdataset(dns_zone.origin, kind) is not None for kind in ("CDS", "CDNSKEY")}
     return {"dnskey": {dns.dnssec.key_id(it) for it in keys}, "signers": by("DNSKEY"),
             "zone": by("SOA"), "cds": both.pop() if len(both) == 1 else "only one of both"}
 
@@ -219,9 +220,7 @@ async def other_algorithm(operator, ksk, zsk):
 
 async def end_early(operator, zsk):
     """A ZSK roll is ended early, and its key deleted."""
-    new = await operator.key(*ZSK)
-    await operator.call(f"add {new}")
-    await operator.call(f"start zsk-roll {zsk} {new} now")
+    new = await operator.begin_roll("zsk-roll", zsk, ZSK)
     await operator.act()
     await operator.call("abort zsk-roll")
     await operator.act()

@@ -77,6 +77,14 @@ class SceneServer:
         self.folder.mkdir()
         self.pending, self.tasks = {}, set()
 
+    def start(self, zones):
+        """Starts it with its settings: those of the server, and those of each zone."""
+        text = self.settings.format(address=self.address, port=self.port, folder=self.folder)
+        text += "".join(self.of_zone.format(zone=zone, file=file_of(zone)) for zone in zones)
+        conf = self.folder / "conf"
+        conf.write_text(text)
+        self.processes.start(self.name, *self.command, "-c", str(conf))
+
     def write(self, zone, text):
         """Puts a zone's file in the place of the old one."""
         path = self.folder / file_of(zone)
@@ -100,26 +108,14 @@ class SceneServer:
 
 
 class NsdServer(SceneServer):
-    maker = "nsd"
-
-    def start(self, zones):
-        text = NSD.format(address=self.address, port=self.port, folder=self.folder)
-        text += "".join(NSD_ZONE.format(zone=zone, file=file_of(zone)) for zone in zones)
-        (self.folder / "conf").write_text(text)
-        self.processes.start(self.name, "nsd", "-d", "-c", str(self.folder / "conf"))
+    maker, command, settings, of_zone = "nsd", ("nsd", "-d"), NSD, NSD_ZONE
 
     async def reload(self, zone):
         self.processes.signal(self.name, signal.SIGHUP)
 
 
 class KnotServer(SceneServer):
-    maker = "knot"
-
-    def start(self, zones):
-        text = KNOT.format(address=self.address, port=self.port, folder=self.folder)
-        text += "".join(KNOT_ZONE.format(zone=zone, file=file_of(zone)) for zone in zones)
-        (self.folder / "conf").write_text(text)
-        self.processes.start(self.name, "knotd", "-c", str(self.folder / "conf"))
+    maker, command, settings, of_zone = "knot", ("knotd",), KNOT, KNOT_ZONE
 
     async def reload(self, zone):
         command = [program("knotc"), "-s", str(self.folder / "knot.sock"), "zone-reload", zone]

@@ -15,7 +15,8 @@ from keys import run
 from processes import SceneFailure, program
 
 SECRET = "A" * 43 + "="
-NAMED = """\
+# A named that rndc controls, without its zone.
+CONTROLLED = """\
 options {{
   directory "{folder}"; pid-file "{folder}/pid"; session-keyfile "{folder}/session.key";
   key-directory "{keys}"; port {port}; listen-on {{ {here}; }}; listen-on-v6 {{ none; }};
@@ -23,6 +24,8 @@ options {{
 }};
 key k {{ algorithm hmac-sha256; secret "{secret}"; }};
 controls {{ inet {here} port {control} allow {{ any; }} keys {{ k; }}; }};
+"""
+NAMED = CONTROLLED + """\
 zone "{zone}" {{
   type primary; file "{folder}/zone";
   auto-dnssec maintain; inline-signing yes; dnssec-dnskey-kskonly yes;
@@ -94,13 +97,13 @@ class SceneSigner:
 
     def failing(self):
         """A folder with tools that fail once a file there says so."""
-        made = self.folder / "failing"
-        made.mkdir(exist_ok=True)
+        folder = self.folder / "failing"
+        folder.mkdir(exist_ok=True)
         for tool in self.tools:
-            text = FAILING.format(folder=made, tool=program(tool))
-            (made / tool).write_text(text)
-            (made / tool).chmod(0o755)
-        return made
+            text = FAILING.format(folder=folder, tool=program(tool))
+            (folder / tool).write_text(text)
+            (folder / tool).chmod(0o755)
+        return folder
 
     async def key(self, *flag, algorithm):
         """A new key of its own, or none: then the key is a file."""

@@ -131,17 +131,17 @@ async def in_its_roll(operator, before):
 async def transferred(operator, signer):
     """Servers take each version that a signer gives."""
     while True:
-        made = await signer.given()
-        operator.publish(made.to_text(relativize=False))
+        dns_zone = await signer.given()
+        operator.publish(dns_zone.to_text(relativize=False))
         await asyncio.sleep(0.5)
 
 
 async def whole(signer):
     """The zone, once all of it is signed."""
     for _ in range(PATIENCE * 2):
-        made = await signer.given()
-        if made is not None and is_signed(made, "NSEC"):
-            return made
+        dns_zone = await signer.given()
+        if dns_zone is not None and is_signed(dns_zone, "NSEC"):
+            return dns_zone
         await asyncio.sleep(0.5)
     raise SceneFailure(f"{signer.name} doesn't sign {signer.zone.name}")
 

@@ -27,7 +27,7 @@ class LiveWorld:
         self.fleet = Fleet(self.processes, self.port, random.Random(self.seed))
         self.parent = Parent(self.folder, self.fleet, self.zones, self.port)
         await self.parent.begin()
-        self.made = {name: await self.zone(name) for name in self.zones}
+        self.zone_by_name = {name: await self.zone(name) for name in self.zones}
         self.fleet.start(self.zones)
         anchor = f". 3600 IN DS {self.parent.key.ds}"
         self.resolvers = Resolvers(self.processes, self.port, self.zones, anchor)
@@ -54,7 +54,7 @@ class LiveWorld:
         if address in PARENT:
             return ["."]
         if address in SERVERS:
-            return [name for name, zone in self.made.items() if address in zone.servers]
+            return [name for name, zone in self.zone_by_name.items() if address in zone.servers]
         return [".", *self.zones]
 
     async def is_up(self, address, zone):

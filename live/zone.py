@@ -35,7 +35,7 @@ class Notes:
     def published(self, kind, ttl, number):
         self.held[kind].append(PublishedSet(max(ttl, self.least), number))
 
-    def seen(self, kind, number):
+    def everywhere(self, kind, number):
         """Notes that all servers give the version of this number, and none an older one."""
         for held in self.held[kind]:
             if held.number < number and held.gone is None:
@@ -141,7 +141,7 @@ class Zone:
         async with self.at_parent:
             number = self.ds_number
         await self.world.parent.watch(self.name)
-        self.notes.seen("ds", number)
+        self.notes.everywhere("ds", number)
 
     async def read_cds(self):
         """The parent reads CDS of one of the servers now and then. It takes them if a key signs

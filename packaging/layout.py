@@ -66,63 +66,63 @@ class Layout:
     built: Path = BUILT
     programs: Path = TOP / "crates"
 
-    def files(self, made):
-        """All files. `made` is a folder with the pages, the launcher and what pkg-config reads."""
+    def files(self, pages):
+        """All files. `pages` is a folder with the pages, the launcher and what pkg-config reads."""
         if "programs" in self.parts:
-            yield from self._programs(made)
+            yield from self._programs(pages)
         if "library" in self.parts:
-            yield from self._library(made)
+            yield from self._library(pages)
         if "command" in self.parts:
-            yield from self._command(made)
+            yield from self._command(pages)
             yield from self._units()
         for place in documents():
-            source = made / "documents" if place.endswith(".md") else TOP
+            source = pages / "documents" if place.endswith(".md") else TOP
             yield File(DOCUMENTS / place, source / place)
 
-    def _programs(self, made):
+    def _programs(self, pages):
         for name in PROGRAMS:
             yield File(Path("bin") / name, self.programs / name / "out" / name, 0o755)
         for link in LINKS:
             yield File(Path("bin") / link, self.programs / "keyset" / "out" / "keyset", None)
-        yield from self._pages(made, "programs")
+        yield from self._pages(pages, "programs")
 
-    def _library(self, made):
+    def _library(self, pages):
         yield File(Path("include/keyset.h"), self.built / "include" / "keyset.h")
-        yield File(self.libraries / "pkgconfig" / "keyset.pc", made / "keyset.pc")
+        yield File(self.libraries / "pkgconfig" / "keyset.pc", pages / "keyset.pc")
         yield File(self.libraries / "libkeyset.a", self.built / "lib" / "libkeyset.a")
         for source in sorted((self.built / "lib").glob("libkeyset.so.*")):
             yield File(self.libraries / source.name, source)
             yield File(self.libraries / "libkeyset.so", source, None)
         manual = Path("share/man/man3")
-        yield File(manual / "keyset.3", made / "keyset.3")
+        yield File(manual / "keyset.3", pages / "keyset.3")
         for name in functions():
-            yield File(manual / f"{name}.3", made / "keyset.3", None)
+            yield File(manual / f"{name}.3", pages / "keyset.3", None)
 
-    def _command(self, made):
-        yield File(Path("bin/vaqsider"), made / "vaqsider", 0o755)
+    def _command(self, pages):
+        yield File(Path("bin/vaqsider"), pages / "vaqsider", 0o755)
         for package in PACKAGES:
             for source in filter(Path.is_file, sorted(package.rglob("*"))):
                 if "__pycache__" not in source.parts:
                     yield File(SHARE / package.name / source.relative_to(package), source)
-        yield from self._pages(made, "command")
+        yield from self._pages(pages, "command")
 
     def _units(self):
         for unit in sorted(SYSTEMD.glob("vaqsider@.*")):
             yield File(UNITS / unit.name, unit)
         yield File(USERS / "vaqsider.conf", SYSTEMD / "vaqsider.conf")
 
-    def _pages(self, made, part):
+    def _pages(self, pages, part):
         for name in PAGES[part]:
-            yield File(Path("share/man/man1") / f"{name}.1", made / f"{name}.1")
+            yield File(Path("share/man/man1") / f"{name}.1", pages / f"{name}.1")
 
 
 def documents():
     """The pages that the header and the manual name, and those beside them, with the examples."""
-    found = list(PAGES_BESIDE)
+    pages = list(PAGES_BESIDE)
     for folder in ("docs", "examples", "library/c"):
         files = filter(Path.is_file, sorted((TOP / folder).rglob("*")))
-        found += [str(path.relative_to(TOP)) for path in files]
-    return found
+        pages += [str(path.relative_to(TOP)) for path in files]
+    return pages
 
 
 def header():

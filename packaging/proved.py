@@ -65,12 +65,12 @@ def toolchain():
 def sums():
     """The sum of what the proof of each crate reads."""
     first = toolchain() + row(TOP / "HANDLES")
-    below, rows, found = crates(), {}, {}
+    below, rows, by_crate = crates(), {}, {}
     for crate, line in rows_of_crates().items():
         rows[crate] = f"{line}\n" + "".join(map(row, files_of(crate)))
         read = first + "".join(rows[name] for name in [*all_below(crate, below), crate])
-        found[crate] = hashlib.sha256(read.encode()).hexdigest()
-    return found
+        by_crate[crate] = hashlib.sha256(read.encode()).hexdigest()
+    return by_crate
 
 
 def all_below(crate, below):
@@ -105,12 +105,12 @@ def lines(printed, before):
 def read(texts, here):
     """The last line of each crate's proof from files with these sums, by what such runs have
     printed. That a crate is kept counts only if no text has the line of its proof."""
-    found = {}
+    by_crate = {}
     for match in (LINE.fullmatch(line) for text in texts for line in text.splitlines()):
         if match and match["sum"] == here.get(match["crate"]):
-            if not (match["crate"] in found and match["last"].startswith(IS_KEPT)):
-                found[match["crate"]] = match["last"]
-    return found
+            if not (match["crate"] in by_crate and match["last"].startswith(IS_KEPT)):
+                by_crate[match["crate"]] = match["last"]
+    return by_crate
 
 
 def main():

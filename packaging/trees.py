@@ -28,14 +28,14 @@ def make_pages(folder, layout):
 
 def make_folder(folder):
     """Makes a folder and those above it. Gives those that were not there."""
-    made = []
+    missing = []
     while not folder.is_dir():
-        made.append(folder)
+        missing.append(folder)
         folder = folder.parent
-    for new in reversed(made):
+    for new in reversed(missing):
         new.mkdir(exist_ok=True)
         new.chmod(0o755)
-    return made
+    return missing
 
 
 class RemovedFolder(Exception):
@@ -123,20 +123,20 @@ def install(root, layout):
         for file in files:
             if not file.source.exists():
                 raise MissingFile(f"{file.source} isn't there: 'make build lib' makes it")
-        made = []
+        new_folders = []
         while True:
-            made += make_folder(root)
+            new_folders += make_folder(root)
             with suppress(RemovedFolder), locked(root):
-                return put_all(root, files, made)
+                return put_all(root, files, new_folders)
 
 
-def put_all(root, files, made):
-    """Puts all files in their places. `made` are the folders that were made for them before."""
+def put_all(root, files, new_folders):
+    """Puts all files in their places. `new_folders` were made for them before."""
     before, folders = map(set, listed(root))
     names = {str(LIST), *(str(file.place) for file in files)}
     for name in names:
-        made += make_folder((root / name).parent)
-    ours = (path for path in made if path == root or root in path.parents)
+        new_folders += make_folder((root / name).parent)
+    ours = (path for path in new_folders if path == root or root in path.parents)
     folders.update(f"{path.relative_to(root)}/" for path in ours)
     keep(root, before | names, folders)
     for file in files:

@@ -32,8 +32,8 @@ def build(room, folder, kind, *settings):
     environment = {**os.environ, "SOURCE_DATE_EPOCH": str(seconds()), "PYTHONHASHSEED": "0"}
     words = [python, "-m", "build", "--no-isolation", kind, "--outdir", folder, *settings]
     run(*words, room, env=environment)
-    (made,) = set(folder.iterdir()) - before
-    return made
+    (package,) = set(folder.iterdir()) - before
+    return package
 
 
 def build_wheel(folder, built: Built):

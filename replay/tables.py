@@ -197,11 +197,16 @@ class KeySet:
         for name in old:
             for state in self.keys[name].states:
                 state.add("old")
-        for name in new:
+        for key, number, change in self.changes(rule, new):
+            write(key, number, change, now)
+
+    def changes(self, rule, new):
+        """What a start writes of the new keys: each key, the number of its role, and the change."""
+        for key in (self.keys[name] for name in new):
             for word, change in rule.new:
-                number = self.keys[name].role(word)
+                number = key.role(word)
                 if number is not None:
-                    write(self.keys[name], number, change, now)
+                    yield key, number, change
 
     def checked(self, word, roll):
         """The stamps that a wait reads; None for a key that lacks it."""
@@ -299,11 +304,8 @@ class KeySet:
         for name in old:
             for state in self.keys[name].states:
                 state.discard("old")
-        for name in new:
-            for word, change in rule.new:
-                number = self.keys[name].role(word)
-                if number is not None:
-                    self.keys[name].states[number] -= set(change.replace("+", "").split())
+        for key, number, change in self.changes(rule, new):
+            key.states[number] -= set(change.replace("+", "").split())
         return " ".join(["ok", *rule.early.split()])
 
     def published(self):

@@ -99,18 +99,18 @@ def periods(lines: list[str], zone_status: Status, args: Namespace, now: int) ->
     steps = [(now, status.sets_of(zone_status)),
              *((it["moment"], it["published"]) for it in course.steps)]
     ends = [*(moment for moment, _ in steps[1:]), last]
-    found: dict[tuple[frozenset[str], frozenset[str]], Period] = {}
+    by_sets: dict[tuple[frozenset[str], frozenset[str]], Period] = {}
     for (begin, published), end in zip(steps, ends):
         sets = frozenset(published["dnskey"]), frozenset(published["signers"])
-        found[sets] = Period(*sets, found[sets].begin if sets in found else begin, end)
-    return list(found.values())
+        by_sets[sets] = Period(*sets, by_sets[sets].begin if sets in by_sets else begin, end)
+    return list(by_sets.values())
 
 
 def _roll(words: str) -> list[str]:
-    found = words.split()
-    if len(found) != 3:
+    fields = words.split()
+    if len(fields) != 3:
         raise Failure(f"--roll: say 'ROLL OLD NEW', not '{words}'", USAGE)
-    return found
+    return fields
 
 
 def windows(one: Period, lifetime: int) -> Iterator[tuple[int, int]]:

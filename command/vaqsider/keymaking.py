@@ -54,16 +54,16 @@ class Maker:
     def make(self, role: str, algorithm: int) -> KeyFile:
         """A new key, or one that a tick has made before it was killed."""
         self.making.mkdir(mode=0o700, exist_ok=True)
-        found = self._whole(role, algorithm)
-        if found is None:
+        file = self._whole(role, algorithm)
+        if file is None:
             self.clear()
             hooks.run(self.words(role, algorithm), within=self.making)
-            found = self._whole(role, algorithm)
-        if found is None:
+            file = self._whole(role, algorithm)
+        if file is None:
             text = f"it has made no key of role {role} and algorithm {algorithm} of {self.zone}"
             raise Failure(f"{self.policy.keygen[0]}: {text}", UNAVAILABLE)
-        _sync(found.path, found.private, self.making)
-        return found
+        _sync(file.path, file.private, self.making)
+        return file
 
     def _whole(self, role: str, algorithm: int) -> KeyFile | None:
         """The key that is there with both halves, and is of this role and algorithm."""

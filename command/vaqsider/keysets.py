@@ -45,11 +45,11 @@ class KeySets:
 
     def every(self) -> dict[str, keyfiles.KeyFile]:
         """The files of all keys of the script, also of those that have left, if they are there."""
-        found = dict(self.files)
-        for key in (key for key in self._keys if key["reference"] not in found):
+        files = dict(self.files)
+        for key in (key for key in self._keys if key["reference"] not in files):
             with contextlib.suppress(Failure):
-                found[key["reference"]] = keyfiles.find(key, self._folders)
-        return found
+                files[key["reference"]] = keyfiles.find(key, self._folders)
+        return files
 
     def by(self, names: Iterable[str]) -> frozenset[KeyId]:
         """These keys as signatures name them."""

@@ -133,16 +133,16 @@ def _of_tools(policy: Policy) -> Iterator[Finding]:
 
 def _of_signer(policy: Policy, spans: Spans) -> list[Finding]:
     """The rolls that its signer can't do."""
-    found = []
+    faults = []
     for roll in policy.rolls:
         try:
             signer = planned(policy, f"{EXAMPLE}.script", EXAMPLE)
             takes_of(policy, roll, spans, signer and PlanSigner(signer.lacks, signer.folders))
         except Failure as failure:
-            found.append(_wrong(f"signer {policy.signer}: {failure}"))
-    found += (_wrong(f"{name}: {policy.signer} has that in its own settings")
-              for name in signers.not_taken(_args_of_act(policy, f"{EXAMPLE}.script")))
-    return found
+            faults.append(_wrong(f"signer {policy.signer}: {failure}"))
+    faults += (_wrong(f"{name}: {policy.signer} has that in its own settings")
+               for name in signers.not_taken(_args_of_act(policy, f"{EXAMPLE}.script")))
+    return faults
 
 
 def planned(policy: Policy, script: str | Path, zone: str) -> PlanSigner | None:
@@ -156,12 +156,12 @@ def _args_of_act(policy: Policy, script: str | Path) -> Namespace:
 
 def _of_words(policy: Policy) -> list[Finding]:
     """What the words that publish and look don't take."""
-    found = []
+    faults = []
     for line in (policy.for_act("example.com.script"), policy.for_watch("example.com.script")):
         said = io.StringIO()
         try:
             with contextlib.redirect_stderr(said):
                 parsed(line)
         except SystemExit:
-            found.append(_wrong(said.getvalue().partition("; ")[0].strip()))
-    return found
+            faults.append(_wrong(said.getvalue().partition("; ")[0].strip()))
+    return faults

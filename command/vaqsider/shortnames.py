@@ -18,14 +18,14 @@ OF_KEYS = ("REF", "OLD", "NEW")
 def names(lines: Sequence[str]) -> dict[str, str]:
     """The short name of each key that was added, by its reference. The second of a month ends in
     -2."""
-    made: Counter[str] = Counter()
-    found = {}
+    counts: Counter[str] = Counter()
+    short = {}
     for line in map(Line, lines):
         if line.word in ROLE and words.is_date(line.moment):
             name = f"{ROLE[line.word]}-{words.utc(line.moment, '%Y-%m')}"
-            made[name] += 1
-            found[line.fields["REF"]] = name if made[name] == 1 else f"{name}-{made[name]}"
-    return found
+            counts[name] += 1
+            short[line.fields["REF"]] = name if counts[name] == 1 else f"{name}-{counts[name]}"
+    return short
 
 
 def full(text: str, lines: Sequence[str]) -> str:

@@ -35,19 +35,19 @@ class Standing:
     @classmethod
     def of(cls, path: Path, zone: str) -> Standing | None:
         """What a file has, or None if there is none that can be read here."""
-        made, top = cls(), f"{zone.rstrip('.')}.".lower()
+        standing, top = cls(), f"{zone.rstrip('.')}.".lower()
         try:
             for row in rows(path):
                 if row.kind == "RRSIG":
-                    made._sign(row.data, row.owner.lower() == top)
+                    standing._sign(row.data, row.owner.lower() == top)
                 elif row.owner.lower() == top and row.kind == "DNSKEY":
                     key = parsed("DNSKEY", row.data)
-                    made.keys.add(KeyId(key.algorithm, _tag(key)))
+                    standing.keys.add(KeyId(key.algorithm, _tag(key)))
                 elif row.owner.lower() == top and row.kind in ("CDS", "CDNSKEY"):
-                    made.has_cds = True
+                    standing.has_cds = True
         except (PartialRecord, OSError, ValueError, IndexError):
             return None
-        return made
+        return standing
 
     @classmethod
     def of_sets(cls, sets: Sets | None) -> Standing:

@@ -33,13 +33,13 @@ class Subject:
 
 def scripts(places: Iterable[str]) -> list[Path]:
     """The scripts that are named, and those of folders."""
-    found: list[Path] = []
+    paths: list[Path] = []
     for place in map(Path, places):
         of = sorted(place.glob("*.script")) if place.is_dir() else [place]
         if not of:
             raise Failure(f"{place}: no file ends in .script", UNAVAILABLE)
-        found += of
-    return list(dict.fromkeys(found))
+        paths += of
+    return list(dict.fromkeys(paths))
 
 
 def subjects(places: Iterable[str]) -> list[Subject]:

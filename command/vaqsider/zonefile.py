@@ -71,14 +71,14 @@ def rows(path: Path) -> Iterator[ZoneRecord]:
 
 def in_full(path: Path, origin: str, tools: Tools, folder: Path) -> Path:
     """A copy of a zone file in which each record is in full, written by the signer's tool."""
-    given, made = path, folder / f"{path.name[:200]}.full"
+    given, copy = path, folder / f"{path.name[:200]}.full"
     text = path.read_bytes()
     if not tools.knows_origin:
         given = folder / f"{path.name[:200]}.given"
         given.write_bytes(b"$ORIGIN %s\n%s\n" % (origin.encode(), text))
-    with open(made, "xb") as file:
+    with open(copy, "xb") as file:
         run(tools.reads(origin, given), stdout=file)
-    return made
+    return copy
 
 
 def parsed(kind: str, data: str) -> Record:

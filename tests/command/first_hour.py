@@ -156,13 +156,13 @@ def user() -> str | None:
 
 def lines_of(page: str) -> dict[int, str]:
     """The lines of the blocks for a shell, by their numbers."""
-    found, is_block = {}, False
+    lines, is_block = {}, False
     for number, line in enumerate(page.splitlines(), start=1):
         if line.startswith("```"):
             is_block = line == FENCE
         elif is_block:
-            found[number] = line
-    return found
+            lines[number] = line
+    return lines
 
 
 def port_of(lines: dict[int, str]) -> int:

@@ -77,31 +77,34 @@ def _by_times(**of_zsk):
     return prepare
 
 
-def _of_pdns(*flags, stay=False, **how):
+def _of_power_dns(maker, ask, flags, how):
+    """The keys of a fake database, of which `ask` takes the inventory."""
     def take(keys):
-        fake = stores.FakePdns()
+        fake = maker()
         for name, (active, published) in zip(("K1", "Z1", "K2"), flags):
             fake.keys.append({"key": keys[name], "active": active, "published": published})
         vars(fake).update(how)
         with fake.installed():
-            inventory = pdns.inventory(ZONE, Namespace(source=None, stay=stay))
-            return inventory if stay else expect_private(inventory)
+            return ask()
 
     return take
+
+
+def _of_pdns(*flags, stay=False, **how):
+    def ask():
+        inventory = pdns.inventory(ZONE, Namespace(source=None, stay=stay))
+        return inventory if stay else expect_private(inventory)
+
+    return _of_power_dns(stores.FakePdns, ask, flags, how)
 
 
 def _of_api(*flags, stay=False, **how):
-    def take(keys):
-        fake = stores.FakePdnsApi()
-        for name, (active, published) in zip(("K1", "Z1", "K2"), flags):
-            fake.keys.append({"key": keys[name], "active": active, "published": published})
-        vars(fake).update(how)
-        with fake.installed():
-            args = Namespace(source="http://pdns", store="secret", stay=stay)
-            inventory = pdns.inventory_by_api(ZONE, args)
-            return inventory if stay else expect_private(inventory)
+    def ask():
+        args = Namespace(source="http://pdns", store="secret", stay=stay)
+        inventory = pdns.inventory_by_api(ZONE, args)
+        return inventory if stay else expect_private(inventory)
 
-    return take
+    return _of_power_dns(stores.FakePdnsApi, ask, flags, how)
 
 
 def expect_private(inventory):

@@ -71,24 +71,24 @@ def perturbed(chance):
     """A course with its notes, in which some reports and notes were changed."""
     lines, notes = course(chance.choice((1, 2, 3)))
 
-    def report(found):
+    def report(match):
         if chance.random() < 0.6:
-            return found[0]
+            return match[0]
         ttl, later = chance.choice((59, 60, 61, 500, 0)), chance.choice((0, 0, -1, 1, -6, 5, -15))
-        return f"{found[1]} {ttl} {max(0, int(found[2]) + later)}"
+        return f"{match[1]} {ttl} {max(0, int(match[2]) + later)}"
 
-    def published(found):
+    def published(match):
         if chance.random() < 0.8:
-            return found[0]
-        call = max(1, int(found[2]) + chance.choice((0, 0, -1)))
-        return f"{found[1]} {call} {chance.choice((60, 61, 700, 10))} {found[3]}"
+            return match[0]
+        call = max(1, int(match[2]) + chance.choice((0, 0, -1)))
+        return f"{match[1]} {call} {chance.choice((60, 61, 700, 10))} {match[3]}"
 
-    def seen(found):
-        return f"{found[1]} {int(found[2]) + chance.choice((0, 0, 0, 1, 5, 70))}"
+    def everywhere(match):
+        return f"{match[1]} {int(match[2]) + chance.choice((0, 0, 0, 1, 5, 70))}"
 
     lines = [re.sub(r"(report\d \S+) \d+ (\d+)", report, line) for line in lines]
     notes = [re.sub(r"(published \S+) (\d+) \d+ (\d+)", published, line) for line in notes]
-    notes = [re.sub(r"(everywhere \S+) (\d+)", seen, line) for line in notes]
+    notes = [re.sub(r"(everywhere \S+) (\d+)", everywhere, line) for line in notes]
     return lines, notes[:1] + [line for line in notes[1:] if chance.random() > 0.05]
 
 

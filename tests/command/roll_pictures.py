@@ -92,12 +92,12 @@ def pictures():
 
 def boxes_of(lines):
     """The boxes that the picture of a script has to have: a bar, and what caches hold after it."""
-    found = set()
+    boxes = set()
     for label, begin, end, gone in bars_of(lines):
-        found.add((label, "in", str(begin), "" if end is None else str(end)))
+        boxes.add((label, "in", str(begin), "" if end is None else str(end)))
         if end is not None and (gone is None or gone > end):
-            found.add((label, "cached", str(end), "" if gone is None else str(gone)))
-    return found
+            boxes.add((label, "cached", str(end), "" if gone is None else str(gone)))
+    return boxes
 
 
 def boxes_in(page):
@@ -107,13 +107,13 @@ def boxes_in(page):
         for it in page.getElementsByTagName("text")
         if it.getAttribute("x") == "8"
     }
-    found = set()
+    boxes = set()
     for box in page.getElementsByTagName("rect"):
         if box.hasAttribute("data-begin") and box.getAttribute("class") != "phase":
             row = rows[str(int(box.getAttribute("y")) + 11)]
             data = (box.getAttribute(name) for name in ("class", "data-begin", "data-end"))
-            found.add((row, *data))
-    return found
+            boxes.add((row, *data))
+    return boxes
 
 
 def letters(page, lines, name):

@@ -40,13 +40,13 @@ def dying(count: int) -> Iterator[None]:
     left = [count]
 
     def before(change):
-        def made(*given, **named):
+        def counted(*given, **named):
             left[0] -= 1
             if left[0] == 0:
                 os.kill(os.getpid(), signal.SIGKILL)
             return change(*given, **named)
 
-        return made
+        return counted
 
     names = ("fsync", "replace", "rename", "mkdir", "unlink", "pwrite", "ftruncate")
     with mock.patch.multiple(os, **{name: before(getattr(os, name)) for name in names}):
@@ -80,10 +80,10 @@ def before_it(name: str) -> Iterator[tuple[World, str]]:
 
 
 @contextmanager
-def again(world: World, made: str) -> Iterator[World]:
+def again(world: World, place: str) -> Iterator[World]:
     """A copy of the folder and of the world as they were."""
     with tempfile.TemporaryDirectory(dir="/dev/shm") as copied:
-        shutil.copytree(made, copied, dirs_exist_ok=True)
+        shutil.copytree(place, copied, dirs_exist_ok=True)
         os.chdir(copied)
         twin = copy.deepcopy(world)
         with living(twin, Path(f"{ZONE}.policy").read_text().removeprefix(POLICY)):

@@ -65,9 +65,9 @@ class World:
     zone: Servers = field(default_factory=lambda: Servers({"ns1": 5, "ns2": 40}))
     parent: Servers = field(default_factory=lambda: Servers({"p1": 60, "p2": 90}))
     ds: frozenset = frozenset()
-    seen: tuple = ()
+    loaded: tuple = ()
     held: dict[str, dict] = field(default_factory=lambda: {"ds": {}, "dnskey": {}, "zone": {}})
-    made: int = FIRST_KEY
+    last_key: int = FIRST_KEY
     believes: bool = True
     ttls: dict[str, int] = field(default_factory=lambda: dict(TTLS))
     signed: dict[str, list] = field(default_factory=dict)
@@ -88,8 +88,8 @@ class World:
     def loads(self) -> None:
         """The primary loads the signed file if that is new."""
         signed = Path(f"{ZONE}.zone.signed")
-        if signed.is_file() and (stamp := stamp_of(signed)) != self.seen:
-            self.seen = stamp
+        if signed.is_file() and (stamp := stamp_of(signed)) != self.loaded:
+            self.loaded = stamp
             self.zone.publish(self.now, records_of(signed))
         self.zone.at(self.now)
         self.learns()
@@ -236,10 +236,10 @@ class World:
 
     def _make(self, words, within) -> None:
         *_, zone, role, algorithm = words
-        self.made += 1
-        tag, data = testkeys.add(self.made, 257 if role in ("ksk", "csk") else 256)
+        self.last_key += 1
+        tag, data = testkeys.add(self.last_key, 257 if role in ("ksk", "csk") else 256)
         name = f"K{zone}+{int(algorithm):03}+{tag:05}"
-        (within / f"{name}.private").write_text(f"{self.made}\n")
+        (within / f"{name}.private").write_text(f"{self.last_key}\n")
         (within / f"{name}.key").write_text(
             f"; Created: {stamp(self.now + self.ahead)}\n{zone} IN DNSKEY {data}\n")
 

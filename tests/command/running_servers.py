@@ -216,12 +216,12 @@ class RunningKnot(RunningSigner):
         self.store = Knot(ORIGIN, str(self.here / "knot.conf"))
 
     def begin(self) -> subprocess.Popen:
-        made = self.process = self.start("knotd", "-c", "knot.conf")
+        process = self.process = self.start("knotd", "-c", "knot.conf")
         self.wait()
         self.conf("on")
         subprocess.run(["knotc", "-c", "knot.conf", "reload"], stdout=subprocess.DEVNULL)
         time.sleep(1)
-        return made
+        return process
 
 
 KEYSTORE = f"""keystore:
@@ -286,10 +286,10 @@ class RunningBind(RunningSigner):
         self.store = Inline(ORIGIN, args)
 
     def begin(self) -> subprocess.Popen:
-        made = self.start("./named", "-g", "-n", "1", "-c", "conf")
+        process = self.start("./named", "-g", "-n", "1", "-c", "conf")
         self.wait()
         time.sleep(1)
-        return made
+        return process
 
 
 SERVERS = {"pdns": RunningPdns, "pdns-pgsql": RunningPdnsOnPostgres, "pdns-api": RunningPdnsByApi,

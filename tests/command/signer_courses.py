@@ -22,7 +22,7 @@ KEYS = {"K1": (11, 257), "K2": (12, 257), "Z1": (13, 256), "Z2": (14, 256), "C3"
 
 def make() -> dict[str, Key]:
     """Key files of the course, with empty private halves."""
-    made = {}
+    keys = {}
     for name, (number, flags) in KEYS.items():
         data = testkeys.dnskey(number, flags).to_text()
         key = Key.of(data)
@@ -30,8 +30,8 @@ def make() -> dict[str, Key]:
         path.write_text(f"{ZONE} IN DNSKEY {data}\n")
         path.with_suffix(".private").write_text(
             f"Private-key-format: v1.3\nAlgorithm: 13\nPrivateKey: {name}==\n")
-        made[name] = Key.of(data, name, keyfiles.read(path))
-    return made
+        keys[name] = Key.of(data, name, keyfiles.read(path))
+    return keys
 
 
 def sets(keys: dict[str, Key], text: str) -> Sets:

@@ -56,12 +56,12 @@ CHANGES = ("s/10 mail/11 mail/", "/NSEC/d", "/RRSIG.A/d", "s/127.0.0.9/127.0.0.8
 
 def keys() -> dict[str, str]:
     """Makes the key files."""
-    made = {}
+    names = {}
     for name, (algorithm, is_sep) in KEYS.items():
         words = ["dnssec-keygen", "-q", "-a", algorithm, *["-f", "KSK"] * is_sep, "example.com"]
         size = ["-b", "2048"] * (algorithm == "8")
-        made[name] = subprocess.check_output([*words[:4], *size, *words[4:]], text=True).strip()
-    return made
+        names[name] = subprocess.check_output([*words[:4], *size, *words[4:]], text=True).strip()
+    return names
 
 
 def begin(files: list[str]) -> str:

@@ -99,12 +99,12 @@ class Disk:
     def __init__(self):
         self.names = {it.name: it.inode() for it in os.scandir()}
         self.files = {it.inode(): Path(it).read_bytes() for it in os.scandir() if it.is_file()}
-        self.noted, self.put = None, os.replace
+        self.notes_before, self.put = None, os.replace
 
     def replace(self, draft, file):
         """Remembers what was noted on disk before servers could give the signed zone."""
         if Path(file).name == "signed":
-            self.noted = self.files.get(self.names.get("start.notes"))
+            self.notes_before = self.files.get(self.names.get("start.notes"))
         self.put(draft, file)
 
     def fsync(self, descriptor):
@@ -127,7 +127,7 @@ def stop(name, part, prepare, files):
         with mock.patch.multiple(os, fsync=disk.fsync, replace=disk.replace):
             part()
         lost = [file for file in files if Path(file).exists() and not disk.has(file)]
-        if name == "act" and disk.noted != Path("start.notes").read_bytes():
+        if name == "act" and disk.notes_before != Path("start.notes").read_bytes():
             lost.append("start.notes")
         return [f"{name}: the machine stops, and {file} isn't as it was left" for file in lost]
 
@@ -143,7 +143,7 @@ class Crashes:
         self.count, self.wrong = 0, []
 
     def run(self):
-        self.seen = self.folder()
+        self.last_folder = self.folder()
         sys.settrace(self.trace)
         try:
             self.part()
@@ -158,8 +158,8 @@ class Crashes:
     def trace(self, frame, event, _):
         if Path(frame.f_code.co_filename).name not in WRITERS:
             return None
-        if event == "line" and (now := self.folder()) != self.seen:
-            self.seen, self.count = now, self.count + 1
+        if event == "line" and (now := self.folder()) != self.last_folder:
+            self.last_folder, self.count = now, self.count + 1
             if not self.ends_alike():
                 self.wrong.append(self.count)
         return self.trace

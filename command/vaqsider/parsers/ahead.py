@@ -6,7 +6,7 @@ from keyset.rolls import ROLLS
 
 from ..arguments import moment
 from .common import DELAYS, KEYS, OUT, SCRIPT, TTLS
-from .word import Argument, Word
+from .word import Argument, Word, flag, several
 
 PLAN = Word(
     "plan",
@@ -23,10 +23,7 @@ given is what the notes say, or else 86400 3600 3600 and 86400 600 600.
         ),
         Argument("OLD", help="old keys, with commas between them, or -"),
         Argument("NEW", help="new keys, with commas between them, or -"),
-        Argument(
-            "--first", action="append", metavar="LINE",
-            help="a line before it, as 'add KEYFILE'",
-        ),
+        several("--first", "LINE", "a line before it, as 'add KEYFILE'"),
         Argument("--start", metavar="SECONDS", type=moment, help="when it starts (now)"),
         TTLS,
         DELAYS,
@@ -37,9 +34,9 @@ given is what the notes say, or else 86400 3600 3600 and 86400 600 600.
         ),
         Argument("--signer-config", metavar="PATH", help="where its settings are, as of 'act'"),
         KEYS,
-        Argument("--script", action="store_true", help="print the lines"),
-        Argument("--calendar", action="store_true", help="print an iCalendar file"),
-        Argument("--picture", action="store_true", help="print a picture as SVG"),
+        flag("--script", "print the lines"),
+        flag("--calendar", "print an iCalendar file"),
+        flag("--picture", "print a picture as SVG"),
     ),
 )
 

@@ -4,7 +4,7 @@ from __future__ import annotations
 
 from ..arguments import number
 from .common import NEW_SCRIPT, PARENT, PARENT_SERVER, PORT, SERVER, SETS, ZONE
-from .word import Argument, Word
+from .word import Argument, Word, flag, several
 
 INIT = Word(
     "init",
@@ -21,20 +21,17 @@ Without --before no notes are begun, and each report has the TTL that 'watch --t
             help="begin notes too: the highest TTLs that servers gave so far, also with answers "
             "of no such set",
         ),
-        Argument("--csk", action="store_true", help="a key with the SEP flag signs the zone too"),
-        Argument(
-            "--signed", action="store_true",
-            help="the zone has been signed by just these keys, with their DS, for longer than "
+        flag("--csk", "a key with the SEP flag signs the zone too"),
+        flag(
+            "--signed",
+            "the zone has been signed by just these keys, with their DS, for longer than "
             "every TTL: its servers are asked, and the script is made if all agree",
         ),
         SERVER,
         PARENT_SERVER,
         PARENT,
         PORT,
-        Argument(
-            "--although", action="store_true",
-            help="make it although they don't agree, or can't be asked",
-        ),
+        flag("--although", "make it although they don't agree, or can't be asked"),
     ),
 )
 
@@ -82,18 +79,9 @@ system rolls keys, or a server gives something else.
             help="Knot's folder of PEM files, if the private halves have to come out; or the file "
             "with the key of PowerDNS's API",
         ),
-        Argument(
-            "--stay", action="store_true",
-            help="private halves stay in PowerDNS's database, which goes on to sign",
-        ),
-        Argument(
-            "--keys", action="append", metavar="FOLDER",
-            help="where to write key files (the folder of the script)",
-        ),
-        Argument(
-            "--unchanged", action="store_true",
-            help="all has been the same for longer than every TTL: look only once",
-        ),
+        flag("--stay", "private halves stay in PowerDNS's database, which goes on to sign"),
+        several("--keys", "FOLDER", "where to write key files (the folder of the script)"),
+        flag("--unchanged", "all has been the same for longer than every TTL: look only once"),
         SERVER,
         PARENT_SERVER,
         PARENT,

@@ -3,7 +3,7 @@
 from __future__ import annotations
 
 from .common import DRY_RUN, SCRIPT, SCRIPTS, STORE_OF_ZONE
-from .word import Argument, Word
+from .word import Argument, Word, flag
 
 CALL = Word(
     "call",
@@ -16,7 +16,7 @@ half is in a store, under this name. Refused, nothing is kept.
     (
         SCRIPT,
         Argument("LINE", help="a line of a script, as 'wait1 zsk-roll now'"),
-        Argument("--although", action="store_true", help="make it although it can't be true"),
+        flag("--although", "make it although it can't be true"),
         DRY_RUN,
         STORE_OF_ZONE,
     ),

@@ -3,7 +3,7 @@
 from __future__ import annotations
 
 from ..arguments import number, port
-from .word import Argument
+from .word import Argument, flag, several
 
 # What a script counts TTLs and delays of.
 SETS = ("DS", "DNSKEY", "ZONE")
@@ -15,24 +15,21 @@ NEW_SCRIPT = Argument(
     "--script", metavar="FILE",
     help="the file to make, whose name ends in .script (ZONE.script)",
 )
-SERVER = Argument(
-    "--server", action="append", metavar="ADDRESS",
-    help="a server of the zone (all that NS records name, the parent's and the zone's)",
+SERVER = several(
+    "--server", "ADDRESS",
+    "a server of the zone (all that NS records name, the parent's and the zone's)",
 )
-PARENT_SERVER = Argument(
-    "--parent-server", action="append", metavar="ADDRESS",
-    help="a server of the parent (all that its NS records name)",
+PARENT_SERVER = several(
+    "--parent-server", "ADDRESS",
+    "a server of the parent (all that its NS records name)",
 )
 PARENT = Argument("--parent", metavar="ZONE", help="the parent zone (the zone above)")
 PORT = Argument(
     "--port", metavar="NUMBER", type=port, default=53,
     help="the port of all servers (53)",
 )
-KEYS = Argument(
-    "--keys", action="append", metavar="FOLDER",
-    help="where the key files are (the folder of the script)",
-)
-DRY_RUN = Argument("--dry-run", action="store_true", help="only print what would be done")
+KEYS = several("--keys", "FOLDER", "where the key files are (the folder of the script)")
+DRY_RUN = flag("--dry-run", "only print what would be done")
 STORE_OF_ZONE = Argument(
     "--store", metavar="URL",
     help="the zone is in this store, which SCRIPT is a copy of",

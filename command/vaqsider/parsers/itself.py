@@ -4,7 +4,7 @@ from __future__ import annotations
 
 from ..arguments import moment, number, words
 from .common import SCRIPT, STORE_OF_ZONE
-from .word import Argument, Word
+from .word import Argument, Word, flag
 
 POLICY = Word(
     "policy",
@@ -57,8 +57,8 @@ folder. In brackets stands what holds without the line.
             "--until", metavar="SECONDS", type=moment,
             help="how far to show (a year from now)",
         ),
-        Argument("--calendar", action="store_true", help="show the calls as an iCalendar file"),
-        Argument("--picture", action="store_true", help="show them as SVG"),
+        flag("--calendar", "show the calls as an iCalendar file"),
+        flag("--picture", "show them as SVG"),
     ),
 )
 
@@ -136,8 +136,8 @@ does the rest.
             help="the new key: a key file, or the reference of a key of the script (a key that is "
             "made)",
         ),
-        Argument("--yes", action="store_true", help="don't ask"),
-        Argument("--dry-run", action="store_true", help="only show it"),
+        flag("--yes", "don't ask"),
+        flag("--dry-run", "only show it"),
         STORE_OF_ZONE,
     ),
 )
@@ -159,7 +159,7 @@ signing. With a clock that was set back no report is made until it has reached t
 """,
     (
         SCRIPT,
-        Argument("--dry-run", action="store_true", help="only say it"),
+        flag("--dry-run", "only say it"),
         STORE_OF_ZONE,
     ),
 )

@@ -4,7 +4,7 @@ from __future__ import annotations
 
 from ..arguments import number, span
 from .common import KEYS, PARENT, PARENT_SERVER, PORT, SCRIPT, SERVER
-from .word import Argument, Word
+from .word import Argument, Word, flag
 
 WATCH = Word(
     "watch",
@@ -45,11 +45,8 @@ set. That look is kept in ZONE.look beside the script, for 'check' and 'zones'.
         ),
         Argument("--every", metavar="SECONDS", type=span, default=10, help="how often to ask (10)"),
         Argument("--for", metavar="SECONDS", type=span, help="for how long to ask (once)"),
-        Argument("--call", action="store_true", help="make the call, when it is time"),
-        Argument(
-            "--state", action="store_true",
-            help="only show what each server gives, also with no roll in progress",
-        ),
+        flag("--call", "make the call, when it is time"),
+        flag("--state", "only show what each server gives, also with no roll in progress"),
     ),
 )
 
@@ -65,8 +62,8 @@ by the last 'tick' _tick_status, _tick_age_seconds, _tick_waits_seconds and _tic
 """,
     (
         Argument("FOLDER", help="its files ZONE.script are read"),
-        Argument("--prometheus", action="store_true", help="print metrics"),
-        Argument("--html", action="store_true", help="print a page with a picture of each zone"),
+        flag("--prometheus", "print metrics"),
+        flag("--html", "print a page with a picture of each zone"),
         Argument(
             "--out", metavar="FILE",
             help="write it there, all of it or nothing, as for Prometheus' textfile collector",

@@ -5,7 +5,7 @@ from __future__ import annotations
 from ..arguments import number, span
 from ..serial import POLICIES
 from .common import DELAYS, DRY_RUN, KEYS, OUT, PARENT, PARENT_SERVER, PORT, SCRIPT, TTLS
-from .word import Argument, Word
+from .word import Argument, Word, flag, several
 
 ACT = Word(
     "act",
@@ -115,18 +115,18 @@ dnskey, signers, zone and cds, each true or false.
             "--reload-within", metavar="SECONDS", type=span, default=60,
             help="how long that may take (60)",
         ),
-        Argument(
-            "--no-cds", action="store_true",
-            help="leave CDS and CDNSKEY out: once all servers of the parent have the DS set, "
+        flag(
+            "--no-cds",
+            "leave CDS and CDNSKEY out: once all servers of the parent have the DS set, "
             "before that is reported. In this step they stay out",
         ),
-        Argument("--cds", action="store_true", help="put them in again"),
+        flag("--cds", "put them in again"),
         PARENT_SERVER,
         PARENT,
         PORT,
-        Argument(
-            "--although", action="store_true",
-            help="publish although a server of the parent doesn't answer, or the last version has "
+        flag(
+            "--although",
+            "publish although a server of the parent doesn't answer, or the last version has "
             "keys that this script has not published",
         ),
         DRY_RUN,
@@ -156,14 +156,8 @@ set. TTLs and delays are as in 'plan'.
             "--lifetime", metavar="NUMBER", type=number, default=30 * 86400,
             help="how long each signature is valid, in seconds (2592000)",
         ),
-        Argument(
-            "--roll", action="append", metavar="ROLL",
-            help="a roll in that time, as 'ksk-roll K1 K2', one after the other",
-        ),
-        Argument(
-            "--first", action="append", metavar="LINE",
-            help="a line before them, as 'add KEYFILE'",
-        ),
+        several("--roll", "ROLL", "a roll in that time, as 'ksk-roll K1 K2', one after the other"),
+        several("--first", "LINE", "a line before them, as 'add KEYFILE'"),
         TTLS,
         DELAYS,
         Argument(

@@ -22,6 +22,16 @@ class Argument(NamedTuple):
         parser.add_argument(given.pop("name"), **given)
 
 
+def flag(name: str, help: str) -> Argument:
+    """An option that has no value."""
+    return Argument(name, help, action="store_true")
+
+
+def several(name: str, metavar: str, help: str) -> Argument:
+    """An option that may be given several times."""
+    return Argument(name, help, action="append", metavar=metavar)
+
+
 class Word(NamedTuple):
     """A word: what it does, in a line and in a paragraph, and what it takes."""
 

@@ -69,10 +69,10 @@ class Hook:
     def ttls(self) -> dict[str, int]:
         answer = self._answer("ttls")
         ttls = {kind: answer.get(kind) for kind in ("dnskey", "zone")}
-        found = {kind: it for kind, it in ttls.items() if type(it) is int and 0 <= it < 2**32}
-        if len(found) != len(ttls):
+        valid = {kind: it for kind, it in ttls.items() if type(it) is int and 0 <= it < 2**32}
+        if len(valid) != len(ttls):
             raise Failure(f"{self.command}: ttls: it says {ttls}", UNAVAILABLE)
-        return found
+        return valid
 
     def fits(self, key: Key) -> bool:
         """It knows where its keys are."""

@@ -41,8 +41,8 @@ def inventory(zone: str, options: SourceOptions) -> Inventory:
     keys, moving = [], []
     for file in files:
         state = file.path.with_suffix(".state")
-        found, said_of_it = (_by_state if state.is_file() else _by_times)(file, state)
-        keys += [found] if found else []
+        key, said_of_it = (_by_state if state.is_file() else _by_times)(file, state)
+        keys += [key] if key else []
         moving += said_of_it
     stops = [it.format(zone=zone, folder=folder) for it in STOPS]
     return Inventory(keys, moving, stops)
@@ -65,7 +65,7 @@ def _by_state(file: KeyFile, path: Path) -> tuple[SourceKey | None, list[str]]:
               for name, state in states.items() if state != goal]
     if goal == HIDDEN and not moving:
         moving = [f"{file.path.name} is about to leave: wait until its roll is over"]
-    return _found(file, is_ksk, is_zsk), moving
+    return _source_key(file, is_ksk, is_zsk), moving
 
 
 def _by_times(file: KeyFile, _: Path) -> tuple[SourceKey | None, list[str]]:
@@ -85,8 +85,8 @@ def _by_times(file: KeyFile, _: Path) -> tuple[SourceKey | None, list[str]]:
     if ahead:
         moving.append(f"{file.path.name} is to leave ({', '.join(ahead)}): take these times out by "
                       "dnssec-settime, or wait until it has left")
-    return _found(file, file.is_sep, not file.is_sep), moving
+    return _source_key(file, file.is_sep, not file.is_sep), moving
 
 
-def _found(file: KeyFile, is_ksk: bool, is_zsk: bool) -> SourceKey:
+def _source_key(file: KeyFile, is_ksk: bool, is_zsk: bool) -> SourceKey:
     return SourceKey(Key.of(file.data, file.path.name, file), is_ksk, is_zsk, None, file.path)

@@ -27,7 +27,7 @@ def inventory(zone: str, options: SourceOptions) -> Inventory:
         state = json.loads(read_text(path))
         key_set = state.get("keyset", state)
         name, keys, rolls = key_set["name"], key_set["keys"], key_set["rollstates"]
-        found = [_found(ref, key, path.parent) for ref, key in sorted(keys.items())]
+        found = [_source_key(ref, key, path.parent) for ref, key in sorted(keys.items())]
     except (ValueError, KeyError, TypeError, AttributeError) as error:
         raise Failure(f"{path}: no state of dnst keyset: {error!r}", UNAVAILABLE) from None
     expect(str(name).rstrip(".").lower() == zone.rstrip(".").lower(),
@@ -42,7 +42,9 @@ def _phase(phase: object) -> str:
     return str(next(iter(phase))) if isinstance(phase, dict) else str(phase)
 
 
-def _found(reference: str, fields: Mapping[str, Any], folder: Path) -> tuple[SourceKey | None, str]:
+def _source_key(
+    reference: str, fields: Mapping[str, Any], folder: Path
+) -> tuple[SourceKey | None, str]:
     """A key, or None if it is not in use; and what is in progress with it."""
     (kind, roles), = fields["keytype"].items()
     roles = roles if kind == "Csk" else [roles]

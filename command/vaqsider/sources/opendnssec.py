@@ -52,14 +52,14 @@ def inventory(zone: str, options: SourceOptions) -> Inventory:
             moving.append(_moving(row, counts, at))
         if at in records:
             ids.append(row["id"])
-            keys.append(_found(row, records[at]))
+            keys.append(_source_key(row, records[at]))
         elif not is_moving:
             raise Failure(f"the servers give no DNSKEY record of the key {at or row['id']}",
                           UNAVAILABLE)
     return Inventory(keys, moving, [it.format(ids=" ".join(ids)) for it in STOPS])
 
 
-def _found(row: re.Match[str], key: Key) -> SourceKey:
+def _source_key(row: re.Match[str], key: Key) -> SourceKey:
     role = row["role"].upper()
     return SourceKey(key, role != "ZSK", role != "KSK", reference=_uri(row["id"]))
 
