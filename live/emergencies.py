@@ -4,7 +4,7 @@ of lost keys are in lost.py."""
 import asyncio
 from contextlib import asynccontextmanager
 
-from one_signer import KEYS, first_keys, go_unsigned, keys_again
+from one_signer import KEYS, first_keys, go_unsigned, keys_again, roll_twice
 from processes import SceneFailure
 from provider import Provider
 from rolls import ALGORITHM, CSK, DOUBLE_DS, DOUBLE_SIGNATURE, KSK, ZSK, Roll, at_moment
@@ -307,11 +307,7 @@ def with_changing_ttls(name):
     async def scene(zone):
         provider = await first_keys(zone, "K1", "Z1")
         async with restless(provider):
-            old = KEYS[name][0]
-            for new, algorithm in zip(KEYS[name][1:], (15, 13)):
-                await provider.make(*new, algorithm=algorithm if name == ALGORITHM else 13)
-                await Roll(provider, name).whole(old, new)
-                old = new
+            await roll_twice(provider, name, (15, 13))
 
     return scene
 

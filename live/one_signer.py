@@ -39,16 +39,18 @@ async def keys_again(provider, *refs, algorithm=13):
     await asyncio.sleep(provider.zone.longest() + 4)
 
 
-def one_roll(name):
-    """A roll after the first keys, and then the same roll to new keys again."""
+async def roll_twice(provider, name, algorithms):
+    """A roll, and then the same roll to new keys again. An algorithm roll goes by these."""
+    old = KEYS[name][0]
+    for new, algorithm in zip(KEYS[name][1:], algorithms):
+        await provider.make(*new, algorithm=algorithm if name == ALGORITHM else 13)
+        await Roll(provider, name).whole(old, new)
+        old = new
 
+
+def one_roll(name):
     async def scene(zone):
-        provider = await first_keys(zone, "K1", "Z1")
-        old = KEYS[name][0]
-        for new, algorithm in zip(KEYS[name][1:], (8, 15)):
-            await provider.make(*new, algorithm=algorithm if name == ALGORITHM else 13)
-            await Roll(provider, name).whole(old, new)
-            old = new
+        await roll_twice(await first_keys(zone, "K1", "Z1"), name, (8, 15))
 
     return scene
 

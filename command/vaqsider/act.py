@@ -27,14 +27,14 @@ from .signers import Version, Wish
 from .zonefile import KeyId
 
 # A line of an act's own file: CDS is out in the step of this call and moment, or in again.
-SAID = re.compile(r"(?P<word>cds-out|cds-in) (?P<step>\d+ \d+)")
+CDS_LINE = re.compile(r"(?P<word>cds-out|cds-in) (?P<step>\d+ \d+)")
 
 
 class Act:
-    """An act on a script, for the options of the command line. `said` are the lines that earlier
+    """An act on a script, for the options of the command line. `cds_lines` are those that earlier
     acts have left."""
 
-    def __init__(self, args: Namespace, now: float, said: list[str]) -> None:
+    def __init__(self, args: Namespace, now: float, cds_lines: list[str]) -> None:
         self.args, self.now = args, now
         self.lines, self.zone_status = status.read(args.SCRIPT, now)
         zone_status = self.zone_status
@@ -44,25 +44,25 @@ class Act:
         self.changes_ds = status.is_asked(zone_status, "UpdateDsRrset")
         # The call that asks for CDS, if it is due.
         self.step = step_of(self.lines) if status.is_asked(zone_status, "CreateCdsRrset") else None
-        self.has_cds = self.step is not None and not self._is_out(self.step, said)
+        self.has_cds = self.step is not None and not self._is_out(self.step, cds_lines)
 
-    def _is_out(self, step: Call, said: list[str]) -> bool:
+    def _is_out(self, step: Call, cds_lines: list[str]) -> bool:
         """Whether CDS stays out in this step. It was taken out in it, or by the notes all servers
         of the parent have the DS set."""
         if self.args.no_cds or self.args.cds:
             return bool(self.args.no_cds)
-        found = filter(None, map(SAID.fullmatch, said))
+        found = filter(None, map(CDS_LINE.fullmatch, cds_lines))
         words_of_step = [it["word"] for it in found if it["step"] == _name(step)]
         if words_of_step:
             return words_of_step[-1] == "cds-out"
         return has_spread(step, Notes(self.args.SCRIPT).lines, self.now)
 
-    def says(self, said: list[str]) -> list[str]:
+    def says(self, cds_lines: list[str]) -> list[str]:
         """The line that this act leaves for later ones, if it says something new."""
         if self.step is None or self.has_cds and not self.args.cds:
             return []
         line = f"cds-{'in' if self.has_cds else 'out'} {_name(self.step)}"
-        return [] if said[-1:] == [line] else [line]
+        return [] if cds_lines[-1:] == [line] else [line]
 
     def expect_own(self, keys: set[KeyId], where: str) -> None:
         """What is published has a key that is due, or one that this script took out. Else the
@@ -103,10 +103,10 @@ def _name(step: Call) -> str:
     return f"{step.number - 1} {step.moment}"
 
 
-def said_by(kept: Lines) -> list[str]:
+def cds_lines_of(kept: Lines) -> list[str]:
     """The lines that earlier acts have left."""
     for number, line in enumerate(kept.lines, start=1):
-        if not SAID.fullmatch(line):
+        if not CDS_LINE.fullmatch(line):
             raise Damaged(kept.path, number, "it has not the form of a line of an act")
     return kept.lines
 
@@ -114,7 +114,7 @@ def said_by(kept: Lines) -> list[str]:
 def dry_run(args: Namespace, now: float) -> tuple[Act, Version]:
     """What an act would do."""
     path = place.beside(args.SCRIPT)
-    act = Act(args, now, said_by(Lines(path)) if path.is_file() else [])
+    act = Act(args, now, cds_lines_of(Lines(path)) if path.is_file() else [])
     with tempfile.TemporaryDirectory() as folder:
         return act, signers.of(args, act).plan(act.wish(Path(folder).resolve()))
 
@@ -122,7 +122,7 @@ def dry_run(args: Namespace, now: float) -> tuple[Act, Version]:
 def perform(args: Namespace, clock: Callable[[], float]) -> tuple[Act, Version]:
     """Acts, while no other act runs on this script."""
     with place.alone(args.SCRIPT) as kept:
-        act = Act(args, clock(), said_by(kept))
+        act = Act(args, clock(), cds_lines_of(kept))
         if act.changes_ds:
             from . import parents
 

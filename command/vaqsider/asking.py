@@ -39,7 +39,7 @@ except ImportError as error:
 # The data of a record. dnspython has a class for each type, whose members are those of that type.
 Record = Any
 Item = TypeVar("Item")
-Given = TypeVar("Given")
+Result = TypeVar("Result")
 # How long to wait for one answer, how often to ask, and the largest answer over UDP.
 SECONDS, TRIES, PAYLOAD = 2, 2, 1232
 # At most so many servers are asked at once.
@@ -129,7 +129,7 @@ def _of(section: Iterable[dns.rrset.RRset], zone: str, kind: str) -> list[tuple[
     return [(it.ttl, it[0]) for it in section if (it.name, it.rdclass, it.rdtype) == is_in]
 
 
-def side_by_side(function: Callable[[Item], Given], items: Iterable[Item]) -> list[Given]:
+def side_by_side(function: Callable[[Item], Result], items: Iterable[Item]) -> list[Result]:
     """What a function gives for each of these, asked at the same time."""
     items = list(items)
     if len(items) < 2:

@@ -48,6 +48,6 @@ def expect_able(start: str, lines: list[str], script: Path, zone: str, policy: P
     able = linting.planned(policy, script, zone)
     try:
         plan.Plan(lines, int(moment), spans.ttls, spans.delays, able).roll(roll, old, new)
-    except plan.SignerLimit as unable:
-        text = f"signer {policy.signer} can't do a {roll}: {unable.lacks}"
+    except plan.SignerLimit as limit:
+        text = f"signer {policy.signer} can't do a {roll}: {limit.lacks}"
         raise EndOfTick(WARNING, text, event=REFUSED) from None

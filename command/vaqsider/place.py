@@ -18,7 +18,7 @@ from keyset.notes import path_of
 
 # How long an act waits for another program, in seconds, and how it ends the name of its folder.
 PATIENCE, SUFFIX = 5, ".act"
-Made = TypeVar("Made")
+Result = TypeVar("Result")
 # What a zone file may allow: it is no program.
 MODES = 0o666
 
@@ -42,7 +42,7 @@ def alone(script: str | Path) -> Iterator[Writer]:
         yield patiently(lambda: stack.enter_context(locked(path)))
 
 
-def patiently(part: Callable[[], Made]) -> Made:
+def patiently(part: Callable[[], Result]) -> Result:
     """What a part gives that locks a file. If another program has it, that soon lets it go."""
     until = time.monotonic() + PATIENCE
     while True:

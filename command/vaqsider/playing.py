@@ -60,17 +60,17 @@ class Play:
                 raise Failure(f"it stands still: {said.line}", UNAVAILABLE)
         return [step for step in self.steps if step["moment"] < end]
 
-    def _do(self, said: Advice) -> None:
-        if said.word == advice.CALL:
-            self._call(said.line)
-        elif said.word == advice.KEY:
-            self._call(self._key(*said.fields))
-        elif said.word == advice.UNTIL:
-            self.moment = max(self.moment + 1, int(said.fields[0]))
-        elif said.word == advice.PUBLISH:
+    def _do(self, next_deed: Advice) -> None:
+        if next_deed.word == advice.CALL:
+            self._call(next_deed.line)
+        elif next_deed.word == advice.KEY:
+            self._call(self._key(*next_deed.fields))
+        elif next_deed.word == advice.UNTIL:
+            self.moment = max(self.moment + 1, int(next_deed.fields[0]))
+        elif next_deed.word == advice.PUBLISH:
             self._publish()
         else:
-            self._see(said.fields[0])
+            self._see(next_deed.fields[0])
 
     def _call(self, line: str) -> None:
         self.course.moment = self.moment

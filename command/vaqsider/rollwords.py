@@ -131,5 +131,5 @@ def next_(args: Namespace, clock: Clock) -> Outcome:
     lines, _ = status.read(args.SCRIPT, clock())
     now = int(clock())
     asked = policy.for_program(journal.once_of(args.SCRIPT), now)
-    said = advice.said(asked, lines, Notes(Path(args.SCRIPT)).lines, now)
-    return OK, iter([said.line]), vars(said)
+    next_deed = advice.said(asked, lines, Notes(Path(args.SCRIPT)).lines, now)
+    return OK, iter([next_deed.line]), vars(next_deed)

@@ -104,12 +104,12 @@ class Tick:
                 self.take_cds_out()
         return None
 
-    def do(self, said: Advice) -> None:
+    def do(self, next_deed: Advice) -> None:
         """What is said."""
         {
             advice.CALL: self.call, advice.PUBLISH: self.publish_next, advice.WATCH: self.watch,
             advice.KEY: self.make_key, advice.UNTIL: self.rest, advice.NOTHING: self.rest,
-        }[said.word](said)
+        }[next_deed.word](next_deed)
 
     def next(self) -> Advice:
         now = int(self.clock())
@@ -209,9 +209,9 @@ class Tick:
 
     # ---- deeds
 
-    def publish_next(self, said: Advice) -> None:
+    def publish_next(self, next_deed: Advice) -> None:
         """Publishes what is said. Of a DS set an act notes that it is due, and publishes CDS."""
-        self.publish(said.line)
+        self.publish(next_deed.line)
 
     def publish(self, why: str, *options: str) -> None:
         """An act, with these options. If it was made in this tick and is still due, a person has to
@@ -229,12 +229,12 @@ class Tick:
         dnskey = words.listed(self.zone_status["published"]["dnskey"])
         self.say("published", [f"{why}: {dnskey}{cds}"])
 
-    def call(self, said: Advice) -> None:
+    def call(self, next_deed: Advice) -> None:
         """Makes the call that is said. Before a report of the DS set, or the end of a roll that
         waits for it, CDS is out; then the call is asked for once more, with its moment."""
-        word, roll = said.line.split(" ")[:2]
+        word, roll = next_deed.line.split(" ")[:2]
         if word == "start":
-            expecting.expect_able(said.line, self.lines, self.script, self.zone, self.policy)
+            expecting.expect_able(next_deed.line, self.lines, self.script, self.zone, self.policy)
         kinds = self.kinds().get(roll, []) if word in ("report1", "report2", "done") else []
         if "ds" in kinds and not self.is_cds_out:
             self.take_cds_out()
@@ -242,7 +242,7 @@ class Tick:
             self.read()
             self.do(self.next())
             return
-        line = self.reported(said.line) if word.startswith("report") else said.line
+        line = self.reported(next_deed.line) if word.startswith("report") else next_deed.line
         made = calling.call(self.script, line, self.clock, known=self.lines)
         if not made.kept:
             raise EndOfTick(WARNING, "; ".join(made.text()), event=REFUSED)
@@ -260,9 +260,9 @@ class Tick:
         asked = status.asked(self.zone_status)
         return {roll: words.kinds_of(actions) for roll, actions in asked.items()}
 
-    def make_key(self, said: Advice) -> None:
+    def make_key(self, next_deed: Advice) -> None:
         """A key of the role that is said, with a tag that no other has."""
-        role, algorithm = said.fields[0], int(said.fields[1])
+        role, algorithm = next_deed.fields[0], int(next_deed.fields[1])
         for _ in range(TRIES):
             file = self.maker.make(role, algorithm)
             # (The clock of its maker may be ahead of this one.)
@@ -296,10 +296,10 @@ class Tick:
         self.say("noted", Notes(self.script).lines[known:])
         return eyes
 
-    def watch(self, said: Advice) -> None:
+    def watch(self, next_deed: Advice) -> None:
         """Looks whether all servers have it, and CDS is out after a DS set. If nothing is new, the
         zone waits for them."""
-        kind, known = said.fields[0], len(self.notes.lines)
+        kind, known = next_deed.fields[0], len(self.notes.lines)
         kinds = {kind, *(it for of in self.kinds().values() for it in of)}
         lacking = self.eyes(sorted(kinds)).lacking
         if kind == "ds" and {it.kind for it in lacking} & {"ds", "cds"} == {"cds"}:
@@ -344,22 +344,22 @@ class Tick:
 
     # ---- rest
 
-    def rest(self, said: Advice) -> None:
+    def rest(self, next_deed: Advice) -> None:
         """Nothing is due before a moment: that which is said, or that of signatures."""
-        if said.is_stuck:
-            raise EndOfTick(WARNING, said.line.partition(": ")[2])
-        until = min(self.moments(said), default=None)
+        if next_deed.is_stuck:
+            raise EndOfTick(WARNING, next_deed.line.partition(": ")[2])
+        until = min(self.moments(next_deed), default=None)
         rolls = [roll["roll"] for roll in self.zone_status["rolls"]]
         what = f"{words.listed(rolls)} waits for caches" if rolls else "nothing is due"
         when = "" if until is None else f" before {words.moment(until)}"
         raise EndOfTick(OK, f"{what}{when}", until)
 
-    def moments(self, said: Advice) -> list[int]:
+    def moments(self, next_deed: Advice) -> list[int]:
         """From when on something may be due."""
         stands = self.standing()
         of_zone = [] if stands is None else [self.renew_from(stands), self.low_from(stands)]
         found = [*of_zone, *self.purges().values()]
-        found += [int(said.fields[0])] if said.word == advice.UNTIL else []
+        found += [int(next_deed.fields[0])] if next_deed.word == advice.UNTIL else []
         now = self.clock()
         return [moment for moment in found if moment is not None and moment > now]
 
