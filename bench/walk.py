@@ -34,14 +34,14 @@ TRACER = """\
 passed = open({passed!r}, "w")
 class Place(gdb.Breakpoint):
     def stop(self):
-        print(self.number, file=passed)
+        print(self.place_number, file=passed)
         return False
 gdb.execute("starti <{given} >/dev/null")
 with open(f"/proc/{{gdb.selected_inferior().pid}}/maps") as maps:
     of_program = (line for line in maps if line.rstrip().endswith({program!r}))
     loaded = int(next(of_program).split("-")[0], 16)
 for number, place in enumerate({places!r}):
-    Place(f"*{{loaded + place}}", internal=True).number = number
+    Place(f"*{{loaded + place}}", internal=True).place_number = number
 gdb.execute("continue")
 passed.close()
 """

@@ -16,7 +16,7 @@ from tests.command.signer_courses import (
 from tests.command.terminal import folder
 from vaqsider.errors import Failure
 from vaqsider.signers import Sets, inline
-from vaqsider.signers.inline import Inline
+from vaqsider.signers.inline import InlineSigner
 from vaqsider.signers.knot import Knot
 from vaqsider.signers.pdns import Pdnsutil
 
@@ -268,7 +268,8 @@ NAMES = ("-x.example.", "0/25.2.0.192.in-addr.arpa.", "a\\.b.example.", ".")
 def names():
     """A zone's name never becomes an option of a tool."""
     args = Namespace(keys=["."], SCRIPT="z.script", signer_config=None, zone_file="zone")
-    makers = (lambda it: Pdnsutil(it, None), lambda it: Knot(it, None), lambda it: Inline(it, args))
+    makers = (lambda it: Pdnsutil(it, None), lambda it: Knot(it, None),
+              lambda it: InlineSigner(it, args))
     for zone, maker in itertools.product(NAMES, makers):
         if bool(fault_of(lambda: maker(zone))) != zone.startswith("-"):
             yield f"a zone {zone} by {maker}"

@@ -22,7 +22,7 @@ import dns.rdatatype
 from live.postgres import Postgres
 from vaqsider import keyfiles
 from vaqsider.signers import Key, Sets
-from vaqsider.signers.inline import Inline
+from vaqsider.signers.inline import InlineSigner
 from vaqsider.signers.knot import FAR, Knot
 from vaqsider.signers.pdns import Pdnsutil
 from vaqsider.signers.pdns_api import Api
@@ -283,7 +283,7 @@ class RunningBind(RunningSigner):
         shutil.copy(shutil.which("named"), "named")
         args = Namespace(keys=[str(self.here)], SCRIPT="z.script", zone_file="zone",
                          signer_config=str(self.here / "rndc.conf"))
-        self.store = Inline(ORIGIN, args)
+        self.store = InlineSigner(ORIGIN, args)
 
     def begin(self) -> subprocess.Popen:
         process = self.start("./named", "-g", "-n", "1", "-c", "conf")

@@ -10,7 +10,7 @@ from tests.command import stores, testkeys
 from vaqsider import keyfiles
 from vaqsider.errors import Failure
 from vaqsider.signers import DELETION, Key, Sets
-from vaqsider.signers.inline import Inline
+from vaqsider.signers.inline import InlineSigner
 from vaqsider.signers.knot import Knot
 from vaqsider.signers.pdns import Pdnsutil
 from vaqsider.signers.pdns_api import Api
@@ -66,7 +66,7 @@ def of(name: str):
         fake = stores.FakeKnot()
         return Knot(ZONE, None, fake.clock), fake
     args = Namespace(keys=["."], SCRIPT="example.com.script", signer_config=None, zone_file="zone")
-    return Inline(ZONE, args, lambda: stores.NOW), stores.FakeBind(Path())
+    return InlineSigner(ZONE, args, lambda: stores.NOW), stores.FakeBind(Path())
 
 
 def steps(store, known, wanted):

@@ -261,7 +261,7 @@ def _knot(_: str, args: Namespace, origin: str) -> SignerStore:
 def _inline(_: str, args: Namespace, origin: str) -> SignerStore:
     from . import inline
 
-    return inline.Inline(origin, args)
+    return inline.InlineSigner(origin, args)
 
 
 def _hook(command: str, args: Namespace, origin: str) -> SignerStore:

@@ -63,7 +63,7 @@ class InlineKey:
         return self.is_past("SYNC Publish") and not self.is_past("SYNC Delete")
 
 
-class Inline:
+class InlineSigner:
     """named, by its keys and by rndc."""
 
     name, options = "bind-inline", ()
