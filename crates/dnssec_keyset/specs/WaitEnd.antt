@@ -24,8 +24,8 @@ HasNoWait roll set =
     (half : Half) (now : ℕ) → (cause : Error) × (wait_clearance roll half now set ≡ Barred cause)
 
 -- what is answered for the end of a roll's wait; a moment has less than 2 ^ 64 seconds
-abbrev pub TellsEnd : RollType → KeySetParts → Option WaitEnd → Type 0
-TellsEnd roll set None = HasNoWait roll set
-TellsEnd roll set (Some (At moment)) = EndsAt roll set moment
-TellsEnd roll set (Some PastTime) =
+abbrev pub SaysEnd : RollType → KeySetParts → Option WaitEnd → Type 0
+SaysEnd roll set None = HasNoWait roll set
+SaysEnd roll set (Some (At moment)) = EndsAt roll set moment
+SaysEnd roll set (Some PastTime) =
     (end : ℕ) × (2 ^ 64 * 1_000_000_000 ≤ end) × EndsAt roll set end

@@ -3,7 +3,7 @@ ghost use Rattle.std.specs.Prelude.{◌≡◌, ◌-◌, ◌*◌, ◌^◌, ◌≤
 ghost use Rattle.std.specs.Duration.{as_nanos};
 ghost use Rattle.dnssec_zone.specs.Rolls.{phase_of};
 ghost use Rattle.dnssec_keyset.specs.Step.{AnswersWait, wait_clearance};
-ghost use Rattle.dnssec_keyset.specs.WaitEnd.{EndsAt, HasNoWait, TellsEnd};
+ghost use Rattle.dnssec_keyset.specs.WaitEnd.{EndsAt, HasNoWait, SaysEnd};
 ghost use Rattle.dnssec_zone.specs.Wait.{IsOverFrom, LacksStamp};
 
 use crate::set::KeySet;
@@ -104,7 +104,7 @@ impl KeySet {
     /// }
     /// ```
     pub fn wait_end(&self, rolltype: RollType) -> Option<WaitEnd>
-        ensures { TellsEnd rolltype self.now result }
+        ensures { SaysEnd rolltype self.now result }
     {
         match self.over_in_phase(rolltype) {
             None => None,

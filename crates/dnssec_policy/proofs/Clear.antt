@@ -8,7 +8,7 @@ use Rattle.dnssec_key.specs.RollTable.{cache_expire}
 use Rattle.dnssec_zone.specs.{Rolls.phase_of, Refusals.end_refusal, Refusals.report_refusal}
 use Rattle.dnssec_zone.specs.Wait.{Clear, ttl_in, wait_in_phase, barred_by}
 use Rattle.dnssec_keyset.specs.Step as keyset
-use Rattle.dnssec_keyset.specs.WaitEnd.{EndsAt, TellsEnd}
+use Rattle.dnssec_keyset.specs.WaitEnd.{EndsAt, SaysEnd}
 use Rattle.dnssec_keyset.specs.declared.wait.WaitEnd.TheVariants.{At}
 use Rattle.dnssec_run.specs.WholeRolls.{propagation}
 use Rattle.dnssec_policy.specs.{declared.policy.Policy.Policy, Laws.NextIsAccepted, View.View}
@@ -26,12 +26,12 @@ spreads : (half : Half) → report_refusal half (Some (propagation half)) ≡ No
 spreads half = grind arith
 
 module _ (policy : Policy) (v : View)
-    (tells : (roll : RollType) → TellsEnd roll v.set (v.end roll)) where
+    (says : (roll : RollType) → SaysEnd roll v.set (v.end roll)) where
   over : (roll : RollType) (half : Half) (ttl end : ℕ)
       → phase_of v.set.rolls roll ≡ Some (cache_expire half ttl) → v.end roll ≡ Some (At end)
       → end ≤ v.now → keyset.wait_clearance roll half v.now v.set ≡ Clear
   over roll half ttl end phase is le =
-      let ends : EndsAt roll v.set end = rw is at (tells roll) in
+      let ends : EndsAt roll v.set end = rw is at (says roll) in
       let so = half-is (phase_of v.set.rolls roll) half ends.0 ttl ends.1 phase ends.2 in
       by ends.0 ends.1 so.0 so.1 ends.2 (ends.3.over v.now le)
     where
@@ -60,4 +60,4 @@ module _ (policy : Policy) (v : View)
   clear (keyset.AbortRoll roll) m = absurd m
 
 pub accepted : NextIsAccepted
-accepted policy v call tells said = clear policy v tells call (may-next policy v call said)
+accepted policy v call says said = clear policy v says call (may-next policy v call said)

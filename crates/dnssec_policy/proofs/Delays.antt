@@ -11,7 +11,7 @@ use Rattle.dnssec_key.specs.RollTable.{cache_expire, is_second}
 use Rattle.dnssec_zone.specs.Rolls.{phase_of, same_roll}
 use Rattle.dnssec_zone.specs.{Start.together, Wait.wait_in_phase}
 use Rattle.dnssec_zone.specs.Wait as waits
-use Rattle.dnssec_keyset.specs.{KeySet.KeySetParts, WaitEnd.EndsAt, WaitEnd.TellsEnd}
+use Rattle.dnssec_keyset.specs.{KeySet.KeySetParts, WaitEnd.EndsAt, WaitEnd.SaysEnd}
 use Rattle.dnssec_keyset.specs.declared.wait.WaitEnd.{WaitEnd, TheVariants.At, TheVariants.PastTime}
 use Rattle.dnssec_keyset.specs.Step as keyset
 use Rattle.dnssec_run.specs.declared.{call.Call.Call, record.Entry.Entry}
@@ -75,12 +75,12 @@ over-by set roll half ttl latest end phase clear e = elim (cases_lt latest end) 
 -- so a call is said from then on
 over-said : (v : View) (todo : Todo) (roll : RollType) (latest : ℕ) → latest ≤ v.now
     → latest < 2 ^ 64 * 1_000_000_000 → ((end : ℕ) → EndsAt roll v.set end → end ≤ latest)
-    → (o : Option WaitEnd) → TellsEnd roll v.set o → UntilOver v.now todo o → rank todo ≡ 0
-over-said v todo roll latest le small within None tells until = absurd until
-over-said v todo roll latest le small within (Some PastTime) tells until =
-    let past = tells.1 in absurd (omega (arith, within tells.0 tells.2, past, small))
-over-said v todo roll latest le small within (Some (At end)) tells until =
-    let by = within end tells in until.0 (omega (arith, by, le))
+    → (o : Option WaitEnd) → SaysEnd roll v.set o → UntilOver v.now todo o → rank todo ≡ 0
+over-said v todo roll latest le small within None says until = absurd until
+over-said v todo roll latest le small within (Some PastTime) says until =
+    let past = says.1 in absurd (omega (arith, within says.0 says.2, past, small))
+over-said v todo roll latest le small within (Some (At end)) says until =
+    let by = within end says in until.0 (omega (arith, by, le))
 
 until : (v : View) (todo : Todo) (roll : RollType) (half : Half) (ttl : ℕ)
     → IsPrompt v todo roll (cache_expire half ttl) → UntilOver v.now todo (v.end roll)

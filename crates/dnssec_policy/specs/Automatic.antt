@@ -11,7 +11,7 @@ use Rattle.std.specs.Prelude.{◌≡◌, ◌⊎◌, ℕ, zero, suc, ◌≤◌, �
 use Rattle.std.specs.Prelude.{Option, None, Some, if◌then◌else◌}
 use Rattle.dnssec_key.specs.declared.roll.RollType.{RollType}
 use Rattle.dnssec_zone.specs.Rolls.{same_roll}
-use Rattle.dnssec_keyset.specs.WaitEnd.{TellsEnd}
+use Rattle.dnssec_keyset.specs.WaitEnd.{SaysEnd}
 use Rattle.dnssec_run.specs.declared.call.Call.{Call}
 use Rattle.dnssec_run.specs.declared.call.Call.TheVariants.{AddKeyKsk, AddKeyZsk, AddKeyCsk}
 use Rattle.dnssec_run.specs.declared.call.Call.TheVariants.{AddPublicKey, CacheExpired2}
@@ -45,7 +45,7 @@ pub record IsViewAt (name : List ℕ) (calls : List Call) (entries : List Entry)
   pub set : v.set ≡ (world_at name calls entries n).set
   pub step : (roll : RollType) → v.step roll ≡ last_step entries roll (suc n)
   pub last : (roll : RollType) → v.last roll ≡ last_below calls entries roll n
-  pub end : (roll : RollType) → TellsEnd roll v.set (v.end roll)
+  pub end : (roll : RollType) → SaysEnd roll v.set (v.end roll)
   pub highest : (kind : SetKind) → v.highest kind ≡ highest_of v.before v.facts kind
   pub are_true : AreTrue v.before v.facts network time
 

@@ -9,7 +9,7 @@ use Rattle.dnssec_key.specs.declared.roll.RollType.{RollType, TheVariants.Algori
 use Rattle.dnssec_key.specs.{Key.KeyParts, Key.all_states, State.is_stale}
 use Rattle.dnssec_zone.specs.{Keys.some_key, Rolls.phase_of, Rolls.same_roll, Wait.Clear}
 use Rattle.dnssec_keyset.specs.Step as keyset
-use Rattle.dnssec_keyset.specs.WaitEnd.{TellsEnd}
+use Rattle.dnssec_keyset.specs.WaitEnd.{SaysEnd}
 use Rattle.dnssec_keyset.specs.declared.wait.WaitEnd.{WaitEnd, TheVariants.At, TheVariants.PastTime}
 use Rattle.dnssec_run.specs.declared.{call.Call.Call, record.Entry.Entry, record.Reply.Reply}
 use Rattle.dnssec_run.specs.{declared.caches.SetKind.SetKind, ByAlgorithm.KeepsWhole, Plain.IsPlain}
@@ -113,7 +113,7 @@ AutomaticDeletionsFollow =
 -- a call that is said is clear: it is accepted, memory aside
 abbrev pub NextIsAccepted : Type 0
 NextIsAccepted = (policy : Policy) (v : View) (call : keyset.Call) →
-    ((roll : RollType) → TellsEnd roll v.set (v.end roll)) →
+    ((roll : RollType) → SaysEnd roll v.set (v.end roll)) →
     next_of policy v ≡ Make call → keyset.clearance v.set call ≡ Clear
 
 -- while a wait lasts until then, nothing later is said; from then on a call is. A wait that ends
@@ -310,7 +310,7 @@ AnswersAreSaid =
     (name : List ℕ) (calls : List Call) (entries : List Entry) (network : Network) (time : ℕ)
     (s : State) (end : RollType → Option WaitEnd) (policy : Policy) (call : Call) →
     Knows name calls entries network time s →
-    ((roll : RollType) → TellsEnd roll s.keyset.now (end roll)) →
+    ((roll : RollType) → SaysEnd roll s.keyset.now (end roll)) →
     answer_of policy s.by_hand.at (view_of s end) ≡ Make (call_of call) →
     s.moment ≤ network.made (suc (length entries)) →
     IsSaid name calls entries network time (length entries) call

@@ -1,7 +1,7 @@
 //! What a policy says to do next.
 ghost use Rattle.std.specs.Prelude.{◌≡◌, IfOk, Option};
 ghost use Rattle.dnssec_key.specs.declared.roll.RollType.{RollType as AnyRoll};
-ghost use Rattle.dnssec_keyset.specs.WaitEnd.{TellsEnd};
+ghost use Rattle.dnssec_keyset.specs.WaitEnd.{SaysEnd};
 ghost use Rattle.dnssec_keyset.specs.declared.wait.WaitEnd.{WaitEnd as AnyEnd};
 ghost use Rattle.dnssec_policy.specs.Code.{AreKeysOf, end_of, todo_of, view_of};
 ghost use Rattle.dnssec_policy.specs.Next.{answer_of};
@@ -24,7 +24,7 @@ use std::alloc::{AllocError, Global};
 /// If there is no memory.
 pub fn next<'a>(alloc: Global, policy: &Policy, state: &State<'a>) -> Result<Next<'a>, AllocError>
     ensures { IfOk result (λ next. (end : AnyRoll → Option AnyEnd)
-        × ((roll : AnyRoll) → TellsEnd roll state.now.keyset.now (end roll))
+        × ((roll : AnyRoll) → SaysEnd roll state.now.keyset.now (end roll))
         × (todo_of state.now.moment next
         ≡ answer_of policy.now state.now.by_hand.at (view_of state.now end))) }
 {

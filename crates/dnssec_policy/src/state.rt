@@ -1,7 +1,7 @@
 //! What the next thing to do is said by.
 ghost use Rattle.std.specs.Prelude.{◌≡◌};
 ghost use Rattle.dnssec_key.specs.declared.roll.RollType.{RollType as AnyRoll};
-ghost use Rattle.dnssec_keyset.specs.WaitEnd.{TellsEnd};
+ghost use Rattle.dnssec_keyset.specs.WaitEnd.{SaysEnd};
 ghost use Rattle.dnssec_policy.specs.Code.{end_of};
 
 use crate::by_hand::FirstByHand;
@@ -34,7 +34,7 @@ pub(crate) struct Ends {
 
 impl Ends {
     pub(crate) fn of_keyset(keyset: &KeySet) -> Self
-        ensures { (roll : AnyRoll) → TellsEnd roll keyset.now (end_of result roll) }
+        ensures { (roll : AnyRoll) → SaysEnd roll keyset.now (end_of result roll) }
     {
         Ends {
             by_roll: [

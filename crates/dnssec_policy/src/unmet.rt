@@ -4,7 +4,7 @@ ghost use Rattle.std.specs.Option.{option_map_or};
 ghost use Rattle.dnssec_key.specs.State.{is_leaving};
 ghost use Rattle.std.specs.List.{list_any};
 ghost use Rattle.dnssec_key.specs.declared.roll.RollType.{RollType as AnyRoll};
-ghost use Rattle.dnssec_keyset.specs.WaitEnd.{TellsEnd};
+ghost use Rattle.dnssec_keyset.specs.WaitEnd.{SaysEnd};
 ghost use Rattle.dnssec_keyset.specs.declared.wait.WaitEnd.{WaitEnd as AnyEnd};
 ghost use Rattle.dnssec_zone.specs.Rolls.{phase_of};
 ghost use Rattle.dnssec_policy.specs.Code.{AreKeysOf, OfView, end_of, todo_of, view_of};
@@ -182,7 +182,7 @@ pub(crate) fn stuck_of(
 /// If there is no memory.
 pub fn stuck(alloc: Global, policy: &Policy, state: &State<'_>) -> Result<Option<Why>, AllocError>
     ensures { IfOk result (λ why. (end : AnyRoll → Option AnyEnd)
-        × ((roll : AnyRoll) → TellsEnd roll state.now.keyset.now (end roll))
+        × ((roll : AnyRoll) → SaysEnd roll state.now.keyset.now (end roll))
         × (why ≡ stuck_of policy.now (view_of state.now end))) }
 {
     let ends = Ends::of_keyset(state.keyset);

@@ -13,7 +13,7 @@ use Rattle.dnssec_run.specs.declared.record.{Published.Published, PublishedKey.P
 use Rattle.dnssec_run.specs.declared.{record.Reply.Reply, running.Recorder.Recorder}
 use Rattle.dnssec_run.specs.{Published.Id, Published.id_of}
 use Rattle.dnssec_run.{specs.Recorder.HasSameKeys, specs.Recorder.Records, proofs.Grow.at_end}
-use Rattle.dnssec_run.specs.Recorder.{TellsOutcome}
+use Rattle.dnssec_run.specs.Recorder.{SaysOutcome}
 use Rattle.dnssec_judge.specs.Judge.{IsPublishedNext}
 use Rattle.dnssec_run.proofs.Around.{keeps-kind}
 use Rattle.dnssec_run.specs.Frames.{KeepsFrames, KeepsSet, frames_in}
@@ -122,10 +122,10 @@ last_held name calls entries r so Dnskey = λ i.
     (sym (last-dnskey name calls entries r so) i, sym (last-signers name calls entries r so) i)
 last_held name calls entries r so ZoneSigners = λ i. (sym (last-zone name calls entries r so) i, [])
 
-told_held : (e : Entry) (kind : SetKind) → set_at kind (position_of e) ≡ set_in kind e.published
-told_held e Ds = refl
-told_held e Dnskey = refl
-told_held e ZoneSigners = refl
+set_held : (e : Entry) (kind : SetKind) → set_at kind (position_of e) ≡ set_in kind e.published
+set_held e Ds = refl
+set_held e Dnskey = refl
+set_held e ZoneSigners = refl
 
 -- the entry of an outcome, with what is then published
 abbrev pub entry_of : Outcome → Published → Entry
@@ -155,8 +155,8 @@ next_comes name calls entries r s outcome news so kept handed = record {
         → IsPublishedNext (option_map (set_in kind) (if b then Some s.published else None))
         (set_at kind (position_at entries (length entries)))
         (set_at kind (position_of (entry_of outcome s.published)))
-    by true kept kind = told_held (entry_of outcome s.published) kind
-    by false kept kind = told_held (entry_of outcome s.published) kind
+    by true kept kind = set_held (entry_of outcome s.published) kind
+    by false kept kind = set_held (entry_of outcome s.published) kind
         ∙ ap (set_in kind) (kept refl) ∙ last_held name calls entries r so kind
 
 -- and keeps the frames of the changes
@@ -181,7 +181,7 @@ pub goes_on : (name : List ℕ) (calls : List Call) (entries : List Entry) (old 
     (call : Call) (outcome : Outcome) (news : Option Published)
     → Follows name calls entries old
     → ((name : List ℕ) (calls : List Call) (entries : List Entry) (e : Entry)
-    → TellsOutcome e outcome → HasSameKeys e.published next.recorder.published
+    → SaysOutcome e outcome → HasSameKeys e.published next.recorder.published
     → Records name calls entries old.recorder
     → Records name (calls ++ call ∷ []) (entries ++ e ∷ []) next.recorder)
     → (outcome.may_publish ≡ false → next.recorder.published ≡ old.recorder.published)

@@ -18,7 +18,7 @@ use Rattle.dnssec_run.specs.Published.{IsPublished, World, id_of, in_ds, in_dnsk
 use Rattle.dnssec_run.specs.Published.{signs_zone}
 use Rattle.dnssec_run.specs.Record.{call_moment, call_of, reply_of, is_accepted, mark_of, world_at}
 use Rattle.dnssec_run.specs.Record.{mark_after, reference_added, with_added, world_after, new_world}
-use Rattle.dnssec_run.specs.Recorder.{Agrees, ChangesOnly, HasSameKeys, Records, TellsOutcome}
+use Rattle.dnssec_run.specs.Recorder.{Agrees, ChangesOnly, HasSameKeys, Records, SaysOutcome}
 use Rattle.dnssec_run.specs.Recorder.{positions_after, reference_deleted, reference_set}
 use Rattle.dnssec_run.specs.declared.running.Recorder.{Recorder}
 use Rattle.dnssec_run.proofs.{Effects.looked-up, Grow.run_more, Grow.world_more}
@@ -134,7 +134,7 @@ published-same one other w same shown = record {
 
 -- a recorder that made one more call has its entry too
 pub records-more : (name : List ℕ) (calls : List Call) (entries : List Entry) (r s : Recorder)
-    (x : Call) (o : Outcome) (e : Entry) → Records name calls entries r → TellsOutcome e o
+    (x : Call) (o : Outcome) (e : Entry) → Records name calls entries r → SaysOutcome e o
     → HasSameKeys e.published s.published → s.at ≡ suc r.at
     → keyset.Step r.keyset (call_of x) (reply_of o.reply) s.keyset → o.mark ≡ mark_after x o.reply
     → o.moment ≡ call_moment x → Agrees s.keyset (tree.get_by_text s.added)
@@ -142,12 +142,12 @@ pub records-more : (name : List ℕ) (calls : List Call) (entries : List Entry) 
     → IsPublished s.published
     (world_after s.at (world_at name calls entries (length calls)) x o.reply)
     → Records name (calls ++ x ∷ []) (entries ++ e ∷ []) s
-records-more name calls entries r s x o e so tells same at step mark moment agrees shown =
+records-more name calls entries r s x o e so says same at step mark moment agrees shown =
     let here : s.at ≡ suc (length calls) = omega (arith, at, so.at, so.run.count) in
     let before = world_at name calls entries (length calls) in
     let next : world_after s.at before x o.reply
     ≡ world_after (suc (length calls)) before x e.reply =
-    (λ i. world_after (here i) before x (sym tells.reply i)) in
+    (λ i. world_after (here i) before x (sym says.reply i)) in
     let count : length (calls ++ x ∷ []) ≡ suc (length calls) =
     let l = length-append calls (x ∷ []) in omega arith in
     let ends = next ∙ sym (world_more name calls entries x e so.run.count)
@@ -156,9 +156,9 @@ records-more name calls entries r s x o e so tells same at step mark moment agre
       run = run_more name calls entries x e _ so.run next (record {
         step = subst (λ (t : KeySetParts × KeySetParts × Reply).
             keyset.Step t.0 (call_of x) (reply_of t.2) t.1)
-            (λ i. (so.agrees.same i, agrees.same i, sym tells.reply i)) step;
-        mark = tells.mark ∙ mark ∙ ap (mark_after x) (sym tells.reply);
-        moment = tells.moment ∙ moment;
+            (λ i. (so.agrees.same i, agrees.same i, sym says.reply i)) step;
+        mark = says.mark ∙ mark ∙ ap (mark_after x) (sym says.reply);
+        moment = says.moment ∙ moment;
         published = published-same e.published s.published _ same shown;
       });
       at = let l = length-append entries (e ∷ []) in omega (arith, here, so.run.count);

@@ -180,7 +180,7 @@ pub record HasSameKeys (one other : Published) : Type 0 where
   pub zone_signers : map id_of one.zone_signers.items ≡ map id_of other.zone_signers.items
 
 -- an entry says what its call came to
-pub record TellsOutcome (entry : Entry) (outcome : Outcome) : Type 0 where
+pub record SaysOutcome (entry : Entry) (outcome : Outcome) : Type 0 where
   pub reply : entry.reply ≡ outcome.reply
   pub mark : entry.mark ≡ outcome.mark
   pub moment : entry.moment ≡ outcome.moment

@@ -13,7 +13,7 @@ ghost use Rattle.dnssec_run.specs.Plain.{StaysSafe};
 ghost use Rattle.dnssec_run.specs.ByAlgorithm.{StaysSafeByEach};
 ghost use Rattle.dnssec_run.specs.Record.{IsRun, KeepsSidesApart};
 ghost use Rattle.dnssec_run.specs.Record.{NeighboursMayBeExchanged, StaysSound, call_of, world_at};
-ghost use Rattle.dnssec_run.specs.Recorder.{HasSameKeys, IsCopyOf, Records, TellsOutcome};
+ghost use Rattle.dnssec_run.specs.Recorder.{HasSameKeys, IsCopyOf, Records, SaysOutcome};
 ghost use Rattle.dnssec_run.specs.Recorder.{positions_after, put_by, reference_set, taken_by};
 ghost use Rattle.dnssec_run.specs.declared.call.Call.{Call};
 ghost use Rattle.dnssec_run.specs.declared.record.Entry.{Entry};
@@ -106,7 +106,7 @@ impl Recorder {
     pub fn advance(&mut self, alloc: Global, call: Call<'_>) -> Result<Outcome, Error>
         ensures ok { IfOk result (λ outcome.
             (name : List ℕ) (calls : List Call) (entries : List Entry) (entry : Entry) →
-            TellsOutcome entry outcome → HasSameKeys entry.published self.new.published →
+            SaysOutcome entry outcome → HasSameKeys entry.published self.new.published →
             Records name calls entries self.old →
             Records name (calls ++ call.entry ∷ []) (entries ++ entry ∷ []) self.new) }
         ensures kept { IfOk result (λ outcome. outcome.may_publish ≡ false →

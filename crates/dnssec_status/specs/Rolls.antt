@@ -11,7 +11,7 @@ use Rattle.dnssec_key.specs.declared.roll.RollState.TheVariants.{Propagation2, C
 use Rattle.dnssec_key.specs.RollTable.{actions_of, column}
 use Rattle.dnssec_zone.specs.Rolls.{all_rolls, phase_of}
 use Rattle.dnssec_keyset.specs.KeySet.{KeySetParts}
-use Rattle.dnssec_keyset.specs.WaitEnd.{TellsEnd}
+use Rattle.dnssec_keyset.specs.WaitEnd.{SaysEnd}
 use Rattle.dnssec_keyset.specs.declared.wait.WaitEnd.{WaitEnd}
 use Rattle.dnssec_keyset.specs.declared.wait.WaitEnd.TheVariants.{At, PastTime}
 use Rattle.dnssec_status.specs.Json.{array_json}
@@ -36,7 +36,7 @@ phase_pair g = (g.roll, g.phase)
 -- these are all the rolls in progress, each with the end of its wait
 pub record AreGoing (set : KeySetParts) (rolls : List RollInProgress) : Type 0 where
   pub all : map phase_pair rolls ≡ rolls_in_progress set
-  pub ends : All (λ (g : RollInProgress). TellsEnd g.roll set g.end) rolls
+  pub ends : All (λ (g : RollInProgress). SaysEnd g.roll set g.end) rolls
 
 -- ---- what is said of each
 

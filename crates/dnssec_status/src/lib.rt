@@ -21,7 +21,7 @@ mod sets;
 use crate::json::{push_array, push_bytes, push_text};
 use crate::keys::KeyWriter;
 use crate::listed::Listings;
-use crate::rolls::{Ended, Going, RollInProgress, in_progress};
+use crate::rolls::{EarlyEndWriter, ProgressWriter, RollInProgress, in_progress};
 use crate::sets::{push_chain, push_sets};
 use dnssec_keyset::{Key, RollType};
 use dnssec_record::{Broken, Published, Session};
@@ -117,8 +117,8 @@ fn push_rest(
     push_bytes(out, b",\"keys\":")?;
     push_array(out, &KeyWriter { alloc, listings }, keys)?;
     push_bytes(out, b",\"rolls\":")?;
-    push_array(out, &Going { alloc }, rolls)?;
+    push_array(out, &ProgressWriter { alloc }, rolls)?;
     push_bytes(out, b",\"ended\":")?;
-    push_array(out, &Ended, ended)?;
+    push_array(out, &EarlyEndWriter, ended)?;
     push_bytes(out, b"}\n")
 }

@@ -1,7 +1,7 @@
 //! The rolls of a status.
 ghost use Rattle.std.specs.Prelude.{◌≡◌, ◌++◌, IfOk, OnOk, codes, decimal, map};
 ghost use Rattle.std.specs.List.{All, list_any};
-ghost use Rattle.dnssec_keyset.specs.WaitEnd.{TellsEnd};
+ghost use Rattle.dnssec_keyset.specs.WaitEnd.{SaysEnd};
 ghost use Rattle.dnssec_status.specs.Rolls.{end_json, ended_json, going_json};
 ghost use Rattle.dnssec_status.specs.Rolls.{is_for_parent, parts_json, phase_json};
 ghost use Rattle.dnssec_status.specs.Rolls.{phase_pair, rolls_in_progress, waits_for};
@@ -29,7 +29,7 @@ pub(crate) fn in_progress(alloc: Global, keyset: &KeySet) -> Result<Vec<RollInPr
     ensures all { IfOk result (λ rolls.
         map phase_pair rolls.items ≡ rolls_in_progress keyset.now) }
     ensures ends { IfOk result (λ rolls.
-        All (λ (g : AnyRoll). TellsEnd g.roll keyset.now g.end) rolls.items) }
+        All (λ (g : AnyRoll). SaysEnd g.roll keyset.now g.end) rolls.items) }
 {
     let mut rolls = Vec::new(alloc);
     for roll in all_rolls() {
@@ -44,8 +44,8 @@ fn note(rolls: &mut Vec<RollInProgress>, keyset: &KeySet, roll: RollType) -> Res
     ensures all { OnOk result (map phase_pair rolls.new.items ≡ map phase_pair rolls.old.items
         ++ with_its_phase roll (phase_of keyset.now.rolls roll)) }
     ensures ends { OnOk result (
-        All (λ (g : AnyRoll). TellsEnd g.roll keyset.now g.end) rolls.old.items →
-        All (λ (g : AnyRoll). TellsEnd g.roll keyset.now g.end) rolls.new.items) }
+        All (λ (g : AnyRoll). SaysEnd g.roll keyset.now g.end) rolls.old.items →
+        All (λ (g : AnyRoll). SaysEnd g.roll keyset.now g.end) rolls.new.items) }
 {
     match keyset.rollstates().get(&roll) {
         None => Ok(()),
@@ -63,11 +63,11 @@ fn note(rolls: &mut Vec<RollInProgress>, keyset: &KeySet, roll: RollType) -> Res
 
 /// What writes rolls in progress.
 #[derive(Drop)]
-pub(crate) struct Going {
+pub(crate) struct ProgressWriter {
     pub(crate) alloc: Global,
 }
 
-impl Writer<RollInProgress> for Going {
+impl Writer<RollInProgress> for ProgressWriter {
     ghost json = { λ _ going. going_json going };
 
     /// Writes a roll in progress, with what is due.
@@ -215,9 +215,9 @@ fn is_for_parent(action: Action) -> bool
 
 /// What writes rolls that were ended early.
 #[derive(Drop)]
-pub(crate) struct Ended;
+pub(crate) struct EarlyEndWriter;
 
-impl Writer<RollType> for Ended {
+impl Writer<RollType> for EarlyEndWriter {
     ghost json = { λ _ roll. ended_json roll };
 
     /// Writes a roll that was ended early, with what its end asked for.

@@ -10,7 +10,7 @@ use mir.Syntax.{dnil, impl, tnil}
 use mir.Val.{Val, WT, has_ty, vcons, vnil, vptr, vstruct}
 use Rattle.std.proofs.alloc.Global.TheLaws as heap_laws
 use Rattle.std.specs.contracts.alloc.Global as heap
-use Rattle.keyset_c.specs.contracts.kept.Kept as store
+use Rattle.keyset_c.specs.contracts.open_session.OpenSession as store
 use Rattle.keyset_c.specs.contracts.box_parts.BoxParts as parts
 use Rattle.keyset_c.specs.contracts.pointer.Pointer as pointer
 

@@ -16,11 +16,11 @@ use Rattle.dnssec_record.specs.Session.{Accepts, Closes, GoesOn, Refuses}
 use Rattle.dnssec_record.specs.Session.{Stands, StandsAfter}
 use Rattle.dnssec_record.specs.declared.session.Session.{Session}
 use Rattle.dnssec_status.specs.Status.{IsStatus}
-use Rattle.keyset_c.specs.declared.kept.Kept.{Kept}
+use Rattle.keyset_c.specs.declared.open_session.OpenSession.{OpenSession}
 
 -- it was opened with this line, and has made no call yet
-pub record Opens (new : Option Kept) (line : List ℕ) : Type 0 where
-  pub kept : Kept
+pub record Opens (new : Option OpenSession) (line : List ℕ) : Type 0 where
+  pub kept : OpenSession
   pub is : new ≡ Some kept
   pub stands : Stands (line ∷ []) [] kept.session
   pub notes : kept.notes ≡ None
@@ -28,38 +28,38 @@ pub record Opens (new : Option Kept) (line : List ℕ) : Type 0 where
 -- ---- a call
 
 -- what comes of a line, of a session that is open
-pub record IfOpen (Comes : Kept → List ℕ → Kept → Type 0) (old : Option Kept) (line : List ℕ)
-    (new : Option Kept) : Type 0 where
-  pub before : Kept
+pub record IfOpen (Comes : OpenSession → List ℕ → OpenSession → Type 0) (old : Option OpenSession) (line : List ℕ)
+    (new : Option OpenSession) : Type 0 where
+  pub before : OpenSession
   pub is_before : old ≡ Some before
-  pub after : Kept
+  pub after : OpenSession
   pub is_after : new ≡ Some after
   pub comes : Comes before line after
 
 -- whatever lines it had, and whatever record their run has, it has one line more, and the text that
 -- is given when it is asked for is what a run of them answers to it; the notes stay
-pub record CallsLine (before : Kept) (line : List ℕ) (after : Kept) : Type 0 where
+pub record CallsLine (before : OpenSession) (line : List ℕ) (after : OpenSession) : Type 0 where
   pub goes_on : (lines : List (List ℕ)) (entries : List Entry) → Stands lines entries before.session
       → GoesOn lines entries line after.session (string_bytes after.answer)
   pub notes : after.notes ≡ before.notes
 
 -- so it is, and this text is the answer
-pub record Calls (old new : Option Kept) (line text : List ℕ) : Type 0 where
+pub record Calls (old new : Option OpenSession) (line text : List ℕ) : Type 0 where
   pub called : IfOpen CallsLine old line new
-  pub tells : string_bytes called.after.answer ≡ text
+  pub is_said : string_bytes called.after.answer ≡ text
 
 -- ---- a call that is made only if it is accepted
 
 -- whatever lines it had, it has this one too, whose call was accepted; the text that is given when
 -- it is asked for is the answer, and the notes stay
-pub record AcceptsLine (before : Kept) (line : List ℕ) (after : Kept) : Type 0 where
+pub record AcceptsLine (before : OpenSession) (line : List ℕ) (after : OpenSession) : Type 0 where
   pub accepts : (lines : List (List ℕ)) (entries : List Entry) → Stands lines entries before.session
       → Accepts lines entries line after.session (string_bytes after.answer)
   pub notes : after.notes ≡ before.notes
 
 -- the call of this line would be refused, and is not made: the text that is given when it is asked
 -- for is the answer to it, and all else is as it was
-pub record RefusesCall (before : Kept) (line : List ℕ) (after : Kept) : Type 0 where
+pub record RefusesCall (before : OpenSession) (line : List ℕ) (after : OpenSession) : Type 0 where
   pub session : after.session ≡ before.session
   pub refuses : (lines : List (List ℕ)) (entries : List Entry) → Stands lines entries before.session
       → Refuses lines entries line (string_bytes after.answer)
@@ -68,19 +68,19 @@ pub record RefusesCall (before : Kept) (line : List ℕ) (after : Kept) : Type 0
 -- ---- questions
 
 -- it is open, and this is so of what it keeps
-pub record Keeps (Is : Kept → Type 0) (old : Option Kept) : Type 0 where
-  pub kept : Kept
+pub record Keeps (Is : OpenSession → Type 0) (old : Option OpenSession) : Type 0 where
+  pub kept : OpenSession
   pub is : old ≡ Some kept
   pub so : Is kept
 
 -- how many calls it has made
-abbrev pub HasMade : Option Kept → ℕ → Type 0
+abbrev pub HasMade : Option OpenSession → ℕ → Type 0
 HasMade None n = n ≡ 0
 HasMade (Some kept) n = (lines : List (List ℕ)) (entries : List Entry) →
     Stands lines entries kept.session → n ≡ length entries
 
 -- the text is the last answer that it gave
-abbrev pub Repeats : Option Kept → List ℕ → Type 0
+abbrev pub Repeats : Option OpenSession → List ℕ → Type 0
 Repeats old text = Keeps (λ kept. string_bytes kept.answer ≡ text) old
 
 -- the text is the last two lines of the answers to the calls of this session so far
@@ -88,7 +88,7 @@ abbrev pub IsClosingOf : Session → List ℕ → Type 0
 IsClosingOf session text = (name : List ℕ) (calls : List Call) (entries : List Entry) →
     StandsAfter name calls entries session → Closes entries text
 
-abbrev pub ClosesWith : Option Kept → List ℕ → Type 0
+abbrev pub ClosesWith : Option OpenSession → List ℕ → Type 0
 ClosesWith old text = Keeps (λ kept. IsClosingOf kept.session text) old
 
 -- the text is the status after the calls of this session so far
@@ -96,14 +96,14 @@ abbrev pub IsStatusOf : Session → List ℕ → Type 0
 IsStatusOf session text = (name : List ℕ) (calls : List Call) (entries : List Entry) →
     StandsAfter name calls entries session → IsStatus name calls entries text
 
-abbrev pub ShowsStatus : Option Kept → List ℕ → Type 0
+abbrev pub ShowsStatus : Option OpenSession → List ℕ → Type 0
 ShowsStatus old text = Keeps (λ kept. IsStatusOf kept.session text) old
 
 -- ---- notes
 
 -- whatever lines the session had, and whatever lines its notes took: they took this one too, and
 -- all else is as it was
-pub record NotesLine (before : Kept) (line : List ℕ) (after : Kept) : Type 0 where
+pub record NotesLine (before : OpenSession) (line : List ℕ) (after : OpenSession) : Type 0 where
   pub session : after.session ≡ before.session
   pub answer : after.answer ≡ before.answer
   pub takes : (lines notes : List (List ℕ)) (entries : List Entry) →
@@ -121,38 +121,38 @@ status_of (Refused note.OutOfMemory) = 3
 status_of OutOfMemory = 3
 
 -- the notes don't take this line, for the cause that the status says
-pub record RefusesLine (kept : Kept) (line : List ℕ) (status : ℕ) : Type 0 where
+pub record RefusesLine (kept : OpenSession) (line : List ℕ) (status : ℕ) : Type 0 where
   pub fault : LineFault
   pub says : status ≡ status_of fault
   pub is_fault : (name : List ℕ) (calls : List Call) (entries : List Entry) →
       StandsAfter name calls entries kept.session →
       IsTakeFault (moments_of entries) kept.notes line fault
 
-abbrev pub RefusesNote : Option Kept → List ℕ → ℕ → Type 0
+abbrev pub RefusesNote : Option OpenSession → List ℕ → ℕ → Type 0
 RefusesNote old line status = Keeps (λ kept. RefusesLine kept line status) old
 
 -- the text has the reports that are due at this second, as `answer_due` answers them of the
 -- session's lines and of its notes
-abbrev pub IsDueOf : ℕ → Kept → List ℕ → Type 0
+abbrev pub IsDueOf : ℕ → OpenSession → List ℕ → Type 0
 IsDueOf seconds kept text = (lines notes : List (List ℕ)) (entries : List Entry) →
     Stands lines entries kept.session → HasTaken (moments_of entries) notes kept.notes →
     IsDueAfter lines notes entries seconds text
 
-abbrev pub ShowsDue : ℕ → Option Kept → List ℕ → Type 0
+abbrev pub ShowsDue : ℕ → Option OpenSession → List ℕ → Type 0
 ShowsDue seconds old text = Keeps (λ kept. IsDueOf seconds kept text) old
 
 -- it has no notes
-abbrev pub LacksNotes : Option Kept → Type 0
+abbrev pub LacksNotes : Option OpenSession → Type 0
 LacksNotes = Keeps (λ kept. kept.notes ≡ None)
 
 -- the other one stands after the same calls, gives the same answer to the last, and has the same
 -- notes
-pub record Copies (old copy : Option Kept) : Type 0 where
-  pub kept : Kept
+pub record Copies (old copy : Option OpenSession) : Type 0 where
+  pub kept : OpenSession
   pub is : old ≡ Some kept
-  pub copied : Kept
+  pub copied : OpenSession
   pub is_copy : copy ≡ Some copied
   pub stands : (name : List ℕ) (calls : List Call) (entries : List Entry) →
       StandsAfter name calls entries kept.session → StandsAfter name calls entries copied.session
-  pub tells : string_bytes copied.answer ≡ string_bytes kept.answer
+  pub is_said : string_bytes copied.answer ≡ string_bytes kept.answer
   pub notes : copied.notes ≡ kept.notes

@@ -4,7 +4,7 @@ ghost use Rattle.std.specs.Borrow.{sem};
 ghost use Rattle.keyset_c.specs.Handles.{IsWhole, kept_by};
 
 use crate::box_parts::BoxParts;
-use crate::kept::Kept;
+use crate::open_session::OpenSession;
 use crate::pointer::Pointer;
 use std::alloc::Global;
 use std::mem;
@@ -29,7 +29,7 @@ impl Handle {
     }
 
     /// What an open session keeps, lent.
-    pub(crate) fn look(&mut self) -> Option<&mut Kept>
+    pub(crate) fn look(&mut self) -> Option<&mut OpenSession>
         requires { IsWhole self.old }
         ensures* writes_back { sem 𝓛 (lends_if_open self.entry result) }
         ensures value { IfSome result (λ kept. kept_by self.old ≡ Some kept.now) }
@@ -43,7 +43,7 @@ impl Handle {
     }
 
     /// Takes out what an open session keeps, and leaves it closed.
-    pub(crate) fn take(&mut self, alloc: Global) -> Option<Box<Kept>>
+    pub(crate) fn take(&mut self, alloc: Global) -> Option<Box<OpenSession>>
         requires { IsWhole self.old }
         ensures whole { IsWhole self.new }
         ensures taken { IfSome result (λ kept. kept_by self.old ≡ Some kept.value) }
@@ -60,7 +60,7 @@ impl Handle {
     }
 
     /// Keeps this, and is open.
-    pub(crate) fn put(&mut self, kept: Box<Kept>)
+    pub(crate) fn put(&mut self, kept: Box<OpenSession>)
         requires { kept_by self.old ≡ None }
         ensures whole { IsWhole self.new }
         ensures kept { kept_by self.new ≡ Some kept.value }

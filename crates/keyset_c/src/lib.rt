@@ -18,7 +18,7 @@ ghost use Rattle.keyset_c.specs.Sessions.{RefusesCall, RefusesNote};
 mod answered;
 mod box_parts;
 mod handle;
-mod kept;
+mod open_session;
 mod pointer;
 mod policies;
 mod questions;
@@ -28,7 +28,7 @@ mod texts;
 pub use crate::answered::Answered;
 use crate::answered::{ANSWERED, CLOSED, IS_OPEN, LOST, MALFORMED, OUT_OF_MEMORY, fault, hand_out};
 pub use crate::handle::Handle;
-use crate::kept::Kept;
+use crate::open_session::OpenSession;
 pub use crate::policies::keyset_next;
 pub use crate::questions::{
     keyset_calls, keyset_closing, keyset_copy, keyset_due, keyset_status, keyset_told,
@@ -123,7 +123,7 @@ pub extern "C" fn keyset_open(alloc: Global, line: &[u8], session: &mut Handle) 
     }
     match Session::open(alloc, line) {
         Ok(opened) => {
-            let kept = Kept {
+            let kept = OpenSession {
                 session: opened,
                 answer: String::new(alloc),
                 notes: SessionNotes::new(),

@@ -2,12 +2,12 @@
 ghost use Rattle.std.specs.Prelude.{◌≡◌, Option, Some, None, IsSome};
 ghost use Rattle.std.specs.Borrow.{sem};
 ghost use Rattle.std.specs.Coded.{coded_option};
-ghost use Rattle.keyset_c.specs.declared.kept.Kept.{Kept as Value};
-ghost use Rattle.keyset_c.specs.contracts.kept.Kept.{the_row};
+ghost use Rattle.keyset_c.specs.declared.open_session.OpenSession.{OpenSession as Value};
+ghost use Rattle.keyset_c.specs.contracts.open_session.OpenSession.{the_row};
 ghost use Rattle.keyset_c.specs.Owned.{kept_owned};
 
 use crate::box_parts::BoxParts;
-use crate::kept::Kept;
+use crate::open_session::OpenSession;
 use std::alloc::Global;
 use std::marker::Model;
 use std::ptr::null_mut;
@@ -38,7 +38,7 @@ impl Pointer {
     }
 
     /// Keeps what is in a box.
-    pub(crate) fn of_parts(parts: BoxParts<Kept, Global>) -> Pointer
+    pub(crate) fn of_parts(parts: BoxParts<OpenSession, Global>) -> Pointer
         ensures { result.value ≡ Some parts.value }
     {
         let BoxParts { ptr, alloc: _ } = parts;
@@ -48,22 +48,22 @@ impl Pointer {
     }
 
     /// What is in the box, lent.
-    pub(crate) fn look(&mut self) -> &mut Kept
+    pub(crate) fn look(&mut self) -> &mut OpenSession
         requires { IsSome self.old.value }
         ensures* writes_back { sem 𝓛 (lends_kept self.entry result) }
         ensures value { Some result.now ≡ self.old.value }
     {
-        unsafe { &mut *(self.ptr as *mut Kept) }
+        unsafe { &mut *(self.ptr as *mut OpenSession) }
     }
 
     /// The box again, by its parts.
-    pub(crate) fn into_parts(self, alloc: Global) -> BoxParts<Kept, Global>
+    pub(crate) fn into_parts(self, alloc: Global) -> BoxParts<OpenSession, Global>
         requires { IsSome self.value }
         ensures { Some result.value ≡ self.value }
     {
         let Pointer { ptr } = self;
         BoxParts {
-            ptr: ptr as *mut Kept,
+            ptr: ptr as *mut OpenSession,
             alloc,
         }
     }

@@ -8,7 +8,7 @@ ghost use Rattle.keyset_c.specs.Sessions.{ShowsDue, ShowsStatus};
 
 use crate::answered::{ANSWERED, Answered, CLOSED, IS_OPEN, OUT_OF_MEMORY, fault, hand_out};
 use crate::handle::Handle;
-use crate::sessions::{copy_of, tell_closing, tell_due, tell_status};
+use crate::sessions::{copy_of, say_closing, say_due, say_status};
 use std::alloc::Global;
 
 /// How many calls a session has made: the number of the last one. 0 of a closed session.
@@ -60,7 +60,7 @@ pub extern "C" fn keyset_closing(alloc: Global, session: &mut Handle, out: &mut 
     ensures handed { Hands result.status result.length result.line out.old out.new }
 {
     match session.look() {
-        Some(kept) => tell_closing(alloc, &kept.session, out),
+        Some(kept) => say_closing(alloc, &kept.session, out),
         None => fault(CLOSED),
     }
 }
@@ -81,7 +81,7 @@ pub extern "C" fn keyset_status(alloc: Global, session: &mut Handle, out: &mut [
     ensures handed { Hands result.status result.length result.line out.old out.new }
 {
     match session.look() {
-        Some(kept) => tell_status(alloc, &kept.session, out),
+        Some(kept) => say_status(alloc, &kept.session, out),
         None => fault(CLOSED),
     }
 }
@@ -110,7 +110,7 @@ pub extern "C" fn keyset_due(
     ensures handed { Hands result.status result.length result.line out.old out.new }
 {
     match session.look() {
-        Some(kept) => tell_due(alloc, kept, seconds, out),
+        Some(kept) => say_due(alloc, kept, seconds, out),
         None => fault(CLOSED),
     }
 }

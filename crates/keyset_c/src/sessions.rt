@@ -12,13 +12,13 @@ ghost use Rattle.keyset_c.specs.Sessions.{NotesLine, RefusesCall, RefusesLine};
 use crate::answered::{
     ANSWERED, Answered, LOST, MALFORMED, OUT_OF_MEMORY, REFUSED, fault, hand_out, refused,
 };
-use crate::kept::Kept;
+use crate::open_session::OpenSession;
 use dnssec_record::{Attempt, CallFault, Response, Session};
 use dnssec_status::status;
 use std::alloc::{AllocError, Global};
 
 /// Makes the call of a line: its status.
-pub(crate) fn call(alloc: Global, kept: &mut Kept, line: &[u8]) -> u32
+pub(crate) fn call(alloc: Global, kept: &mut OpenSession, line: &[u8]) -> u32
     ensures called { result ≡ 0 → CallsLine kept.old line.now kept.new }
     ensures malformed { result ≡ 1 → says line.now ≡ None }
     ensures memory { result ≡ 3 → IsSome (says line.now) }
@@ -40,7 +40,7 @@ pub(crate) fn call(alloc: Global, kept: &mut Kept, line: &[u8]) -> u32
 }
 
 /// Writes the last two lines of the answers so far.
-pub(crate) fn tell_closing(alloc: Global, session: &Session, out: &mut [u8]) -> Answered
+pub(crate) fn say_closing(alloc: Global, session: &Session, out: &mut [u8]) -> Answered
     ensures answered { result.status ≡ 0 → IsClosingOf session.now (take result.length out.new) }
     ensures needed { result.status ≡ 4 → AtLength (IsClosingOf session.now) result.length }
     ensures status { (result.status ≡ 0) ⊎ (result.status ≡ 3) ⊎ (result.status ≡ 4) }
@@ -53,7 +53,7 @@ pub(crate) fn tell_closing(alloc: Global, session: &Session, out: &mut [u8]) -> 
 }
 
 /// Writes the status of the zone.
-pub(crate) fn tell_status(alloc: Global, session: &Session, out: &mut [u8]) -> Answered
+pub(crate) fn say_status(alloc: Global, session: &Session, out: &mut [u8]) -> Answered
     ensures answered { result.status ≡ 0 → IsStatusOf session.now (take result.length out.new) }
     ensures needed { result.status ≡ 4 → AtLength (IsStatusOf session.now) result.length }
     ensures status { (result.status ≡ 0) ⊎ (result.status ≡ 3) ⊎ (result.status ≡ 4) }
@@ -66,7 +66,7 @@ pub(crate) fn tell_status(alloc: Global, session: &Session, out: &mut [u8]) -> A
 }
 
 /// Writes the reports that are due at a second since 1970.
-pub(crate) fn tell_due(alloc: Global, kept: &Kept, seconds: u64, out: &mut [u8]) -> Answered
+pub(crate) fn say_due(alloc: Global, kept: &OpenSession, seconds: u64, out: &mut [u8]) -> Answered
     ensures answered { result.status ≡ 0 →
         IsDueOf seconds kept.now (take result.length out.new) }
     ensures needed { result.status ≡ 4 → AtLength (IsDueOf seconds kept.now) result.length }
@@ -83,7 +83,7 @@ pub(crate) fn tell_due(alloc: Global, kept: &Kept, seconds: u64, out: &mut [u8])
 }
 
 /// Makes the call of a line if it is accepted: its status.
-pub(crate) fn accept(alloc: Global, kept: &mut Kept, line: &[u8]) -> u32
+pub(crate) fn accept(alloc: Global, kept: &mut OpenSession, line: &[u8]) -> u32
     ensures accepted { result ≡ 0 → AcceptsLine kept.old line.now kept.new }
     ensures refused { result ≡ 10 → RefusesCall kept.old line.now kept.new }
     ensures malformed { result ≡ 1 → says line.now ≡ None }
@@ -107,7 +107,7 @@ pub(crate) fn accept(alloc: Global, kept: &mut Kept, line: &[u8]) -> u32
 }
 
 /// Lets the notes take a line: its status.
-pub(crate) fn note(alloc: Global, kept: &mut Kept, line: &[u8]) -> u32
+pub(crate) fn note(alloc: Global, kept: &mut OpenSession, line: &[u8]) -> u32
     ensures noted { result ≡ 0 → NotesLine kept.old line.now kept.new }
     ensures refused { result ≢ 0 → RefusesLine kept.old line.now result }
     ensures unchanged { result ≢ 0 → kept.new ≡ kept.old }
@@ -120,7 +120,7 @@ pub(crate) fn note(alloc: Global, kept: &mut Kept, line: &[u8]) -> u32
 }
 
 /// A copy of what a session keeps.
-pub(crate) fn copy_of(alloc: Global, kept: &Kept) -> Result<Box<Kept>, AllocError>
+pub(crate) fn copy_of(alloc: Global, kept: &OpenSession) -> Result<Box<OpenSession>, AllocError>
     ensures stands { IfOk result (λ copy.
         (name : List ℕ) (calls : List Call) (entries : List Entry) →
         StandsAfter name calls entries kept.now.session →
@@ -129,7 +129,7 @@ pub(crate) fn copy_of(alloc: Global, kept: &Kept) -> Result<Box<Kept>, AllocErro
         string_bytes copy.value.answer ≡ string_bytes kept.now.answer) }
     ensures notes { IfOk result (λ copy. copy.value.notes ≡ kept.now.notes) }
 {
-    let copy = Kept {
+    let copy = OpenSession {
         session: kept.session.try_clone(alloc)?,
         answer: kept.answer.clone()?,
         notes: kept.notes.try_clone(alloc)?,

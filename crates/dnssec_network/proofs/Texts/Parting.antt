@@ -12,12 +12,12 @@ use Rattle.std.proofs.lemmas.Slice.Zip.{all_zipped_more}
 use Rattle.dnssec_record.specs.declared.session.Session.{Session}
 use Rattle.dnssec_script.{specs.Script.lines_of, proofs.Texts.blank}
 use Rattle.dnssec_network.specs.Text.Questions.{IsAnswersFault}
-use Rattle.dnssec_network.specs.Text.Scripts.{AnswersEach, AnswersOne, IsUnanswered, NotedScript}
+use Rattle.dnssec_network.specs.Text.Scripts.{AnswersEach, AnswersOne, IsUnanswered, ScriptWithNotes}
 use Rattle.dnssec_network.specs.Text.Scripts.{as_noted, no_script, parts_after, scripts_after}
 use Rattle.dnssec_network.specs.declared.text.fault.NotesFault.{NotesFault}
 use Rattle.dnssec_network.specs.declared.text.fault.NotesFault.TheVariants.{Malformed, Refused}
 use Rattle.dnssec_network.specs.declared.text.fault.NotesFault.TheVariants.{OutOfMemory}
-use Rattle.dnssec_network.specs.declared.text.scripts.NotedScript as code
+use Rattle.dnssec_network.specs.declared.text.scripts.ScriptWithNotes as code
 
 -- ---- bytes
 
@@ -84,11 +84,11 @@ module _ (text : List ℕ) (from i : ℕ) (begins : Bool) (parts all : List (Lis
 -- ---- scripts
 
 -- the script of two parts
-abbrev pub pair_at : List (List ℕ) → ℕ → NotedScript
+abbrev pub pair_at : List (List ℕ) → ℕ → ScriptWithNotes
 pair_at ps at = record { script = get_or ps at []; notes = get_or ps (at + 1) [] }
 
 -- that of the last part
-abbrev pub last_at : List (List ℕ) → ℕ → NotedScript
+abbrev pub last_at : List (List ℕ) → ℕ → ScriptWithNotes
 last_at ps at = record { script = get_or ps at []; notes = [] }
 
 left_last : (ps : List (List ℕ)) (at : ℕ) → at < length ps → length ps ≤ at + 1
@@ -97,7 +97,7 @@ left_last ps at within last =
     drop_more ps at [] within
     ∙ ap (λ qs. get_or ps at [] ∷ qs) (drop_of_length-le ps last)
 
-module _ (ps : List (List ℕ)) (at : ℕ) (before all : List NotedScript)
+module _ (ps : List (List ℕ)) (at : ℕ) (before all : List ScriptWithNotes)
     (so : all ≡ before ++ scripts_after (at == 0) (drop at ps)) where
   -- the scripts with one more
   pub pair_more : at + 1 < length ps
@@ -142,19 +142,19 @@ module _ (ps : List (List ℕ)) (at : ℕ) (before all : List NotedScript)
 -- ---- answers
 
 -- the script at a place, with its notes
-abbrev pub blank_noted : code.NotedScript
+abbrev pub blank_noted : code.ScriptWithNotes
 blank_noted = record { script = blank; notes = blank }
 
-pub noted_at : (xs : List code.NotedScript) (i : ℕ) → i < length xs
+pub noted_at : (xs : List code.ScriptWithNotes) (i : ℕ) → i < length xs
     → get_or (map as_noted xs) i no_script ≡ as_noted (get_or xs i blank_noted)
 noted_at xs i within = get_or-map as_noted xs i blank_noted no_script within
 
-pub noted_within : (xs : List code.NotedScript) (i : ℕ) → i < length xs
+pub noted_within : (xs : List code.ScriptWithNotes) (i : ℕ) → i < length xs
     → i < length (map as_noted xs)
 noted_within xs i within = rw length-map within
 
 -- the answers to one script more
-pub each_more : (scripts : List NotedScript) (noted : NotedScript) (texts more : List (List ℕ))
+pub each_more : (scripts : List ScriptWithNotes) (noted : ScriptWithNotes) (texts more : List (List ℕ))
     → AnswersEach scripts texts → AnswersOne noted more
     → AnswersEach (scripts ++ noted ∷ []) (texts ++ more)
 each_more scripts noted texts more so here = record {

@@ -10,7 +10,7 @@ use Rattle.dnssec_network.specs.declared.text.fault.{DueFault.DueFault, NotesFau
 use Rattle.dnssec_network.specs.declared.text.fault.NotesFault.TheVariants.{Malformed, Refused}
 use Rattle.dnssec_network.specs.declared.text.fault.NotesFault.TheVariants.{OutOfMemory}
 use Rattle.dnssec_network.specs.declared.text.fault.DueFault.TheVariants as due
-use Rattle.dnssec_network.specs.declared.text.scripts.NotedScript as code
+use Rattle.dnssec_network.specs.declared.text.scripts.ScriptWithNotes as code
 
 -- ---- the scripts of a text
 
@@ -26,38 +26,38 @@ abbrev pub parts_of : List ℕ → List (List ℕ)
 parts_of text = parts_after true [] text
 
 -- a script, and the notes beside it
-pub record NotedScript : Type 0 where
+pub record ScriptWithNotes : Type 0 where
   pub script : List ℕ
   pub notes : List ℕ
 
 -- the parts by twos, a script and its notes. The last part may be a script without notes; an empty
 -- one is none, unless it is the first script
-abbrev pub scripts_after : Bool → List (List ℕ) → List NotedScript
+abbrev pub scripts_after : Bool → List (List ℕ) → List ScriptWithNotes
 scripts_after is_first [] = []
 scripts_after is_first (script ∷ []) =
-    let last : NotedScript = record { script = script; notes = [] } in
+    let last : ScriptWithNotes = record { script = script; notes = [] } in
     if is_first || not (length script == 0) then last ∷ [] else []
 scripts_after is_first (script ∷ notes ∷ parts) =
     record { script = script; notes = notes } ∷ scripts_after false parts
 
-abbrev pub scripts_among : List (List ℕ) → List NotedScript
+abbrev pub scripts_among : List (List ℕ) → List ScriptWithNotes
 scripts_among parts = scripts_after true parts
 
-abbrev pub scripts_of : List ℕ → List NotedScript
+abbrev pub scripts_of : List ℕ → List ScriptWithNotes
 scripts_of text = scripts_among (parts_of text)
 
 -- the same in code
-abbrev pub as_noted : code.NotedScript → NotedScript
+abbrev pub as_noted : code.ScriptWithNotes → ScriptWithNotes
 as_noted noted = record { script = noted.script.now; notes = noted.notes.now }
 
 -- ---- their answers
 
 -- the texts answer the questions among the notes of a script, and there is one
-abbrev pub AnswersOne : NotedScript → List (List ℕ) → Type 0
+abbrev pub AnswersOne : ScriptWithNotes → List (List ℕ) → Type 0
 AnswersOne noted texts = AreAnswers noted.script noted.notes texts × (0 < length texts)
 
 -- the texts answer the questions of each script, first those of the first
-pub record AnswersEach (scripts : List NotedScript) (texts : List (List ℕ)) : Type 0 where
+pub record AnswersEach (scripts : List ScriptWithNotes) (texts : List (List ℕ)) : Type 0 where
   pub answers : List (List (List ℕ))
   pub each : AllZip AnswersOne scripts answers
   pub all : texts ≡ flat_map (λ of_one. of_one) answers
@@ -87,15 +87,15 @@ IsFaultBeside script notes (due.Notes fault) =
     (session : Session) × Resumes script session × IsUnanswered session notes fault
 
 -- the fault of one of the scripts
-abbrev pub IsFaultOfOne : NotedScript → DueFault → Type 0
+abbrev pub IsFaultOfOne : ScriptWithNotes → DueFault → Type 0
 IsFaultOfOne noted fault = IsFaultBeside noted.script noted.notes fault
 
 -- what stands at the place of no script
-abbrev pub no_script : NotedScript
+abbrev pub no_script : ScriptWithNotes
 no_script = record { script = []; notes = [] }
 
 -- the scripts before one are answered, and this is the fault of that one
-pub record IsFirstUnanswered (scripts : List NotedScript) (fault : DueFault) : Type 0 where
+pub record IsFirstUnanswered (scripts : List ScriptWithNotes) (fault : DueFault) : Type 0 where
   pub i : ℕ
   pub within : i < length scripts
   pub texts : List (List ℕ)
@@ -103,7 +103,7 @@ pub record IsFirstUnanswered (scripts : List NotedScript) (fault : DueFault) : T
   pub here : IsFaultOfOne (slice_index_or scripts i no_script) fault
 
 -- it is the first that is not answered, or memory has run out
-abbrev pub IsFaultAmong : List NotedScript → DueFault → Type 0
+abbrev pub IsFaultAmong : List ScriptWithNotes → DueFault → Type 0
 IsFaultAmong scripts fault =
     IsFirstUnanswered scripts fault ⊎ (fault ≡ due.Notes OutOfMemory)
 

@@ -100,11 +100,11 @@ impl SessionNotes {
         session: &Session,
         line: &[u8],
     ) -> Result<Option<String>, LineFault>
-        ensures told { IfOk result (λ told. (script notes : List (List ℕ)) (entries : List Entry) →
+        ensures answer { IfOk result (λ text. (script notes : List (List ℕ)) (entries : List Entry) →
             Stands script entries session.now → HasTaken (moments_of entries) notes self.old →
-            ComesOf script entries notes line.now (option_map string_bytes told) self.new) }
-        ensures question { IfOk result (λ told. is_some told ≡ is_some (as_question line.now)) }
-        ensures begun { IfOk result (λ told. IsSome told → IsSome self.old) }
+            ComesOf script entries notes line.now (option_map string_bytes text) self.new) }
+        ensures question { IfOk result (λ text. is_some text ≡ is_some (as_question line.now)) }
+        ensures begun { IfOk result (λ text. IsSome text → IsSome self.old) }
         ensures err { IfErr result (λ fault. (script : List (List ℕ)) (entries : List Entry) →
             Stands script entries session.now →
             IsAnswerFault (moments_of entries) self.old (as_question line.now) line.now fault) }

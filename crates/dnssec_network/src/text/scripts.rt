@@ -12,7 +12,7 @@ use std::alloc::{AllocError, Global};
 
 /// A script, and the notes beside it.
 #[derive(Clone, Copy)]
-struct NotedScript<'a> {
+struct ScriptWithNotes<'a> {
     script: &'a [u8],
     notes: &'a [u8],
 }
@@ -70,14 +70,14 @@ fn ends_part(line_begins: bool, is_end: bool) -> bool
 }
 
 /// The parts by twos: each script with its notes.
-fn pair<'a>(alloc: Global, parts: &[&'a [u8]]) -> Result<Vec<NotedScript<'a>>, AllocError>
+fn pair<'a>(alloc: Global, parts: &[&'a [u8]]) -> Result<Vec<ScriptWithNotes<'a>>, AllocError>
     ensures { IfOk result (λ scripts.
         map as_noted scripts.items ≡ scripts_among (map now parts.now)) }
 {
     let mut scripts = Vec::new(alloc);
     let mut at = 0;
     while at + 1 < parts.len() {
-        scripts.push(NotedScript {
+        scripts.push(ScriptWithNotes {
             script: parts[at],
             notes: parts[at + 1],
         })?;
@@ -90,7 +90,7 @@ fn pair<'a>(alloc: Global, parts: &[&'a [u8]]) -> Result<Vec<NotedScript<'a>>, A
     if !is_script(at == 0, last) {
         return Ok(scripts);
     }
-    scripts.push(NotedScript {
+    scripts.push(ScriptWithNotes {
         script: last,
         notes: b"",
     })?;
@@ -105,7 +105,7 @@ fn is_script(is_first: bool, part: &[u8]) -> bool
 }
 
 /// The answers to the questions of each script, in their order.
-fn answer_each(alloc: Global, scripts: &[NotedScript<'_>]) -> Result<Vec<String>, DueFault>
+fn answer_each(alloc: Global, scripts: &[ScriptWithNotes<'_>]) -> Result<Vec<String>, DueFault>
     ensures ok { IfOk result (λ answers.
         AnswersEach (map as_noted scripts.now) (map string_bytes answers.items)) }
     ensures err { IfErr result (IsFaultAmong (map as_noted scripts.now)) }

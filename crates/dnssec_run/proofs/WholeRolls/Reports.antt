@@ -47,16 +47,16 @@ module _ (entries : List Entry) where
   Arms set n r half = (from : LastReport entries r (counts_from r half) n)
       × Armed r half from.moment set
 
-  abbrev pub Tells : ℕ → RollType → Half → ℕ → Type 0
-  Tells n r half ttl = (last : LastReport entries r half n) × (last.ttl ≡ ttl)
+  abbrev pub Says : ℕ → RollType → Half → ℕ → Type 0
+  Says n r half ttl = (last : LastReport entries r half n) × (last.ttl ≡ ttl)
 
   -- what the record and the set say of a roll in a phase
   abbrev pub Data : (set : KeySetParts) → ℕ → RollType → RollState → Type 0
   Data set n r Propagation1 = Reads r First set
-  Data set n r (CacheExpire1 ttl) = Arms set n r First × Tells n r First ttl
+  Data set n r (CacheExpire1 ttl) = Arms set n r First × Says n r First ttl
       × (is_zds r ≡ true → Arms set n r Second)
   Data set n r Propagation2 = Reads r Second set × (is_zds r ≡ true → Arms set n r Second)
-  Data set n r (CacheExpire2 ttl) = Arms set n r Second × Tells n r Second ttl
+  Data set n r (CacheExpire2 ttl) = Arms set n r Second × Says n r Second ttl
   Data set n r Done = Unit {0}
 
   -- one more position that is no report of this half
@@ -99,15 +99,15 @@ module _ (entries : List Entry) where
       armed-beside r half old new b a.0.moment a.1,
     )
 
-    tells-on : (half : Half) (ttl : ℕ) → Tells n r half ttl → Tells (suc n) r half ttl
-    tells-on half ttl t = (last_on r half n (none half) t.0, t.1)
+    says-on : (half : Half) (ttl : ℕ) → Says n r half ttl → Says (suc n) r half ttl
+    says-on half ttl t = (last_on r half n (none half) t.0, t.1)
 
     pub data-beside : (p : RollState) → Data old n r p → Data new (suc n) r p
     data-beside Propagation1 d = reads-beside r First old new b d
     data-beside (CacheExpire1 ttl) d =
-        (arms-on First d.0, tells-on First ttl d.1, λ z. arms-on Second (d.2 z))
+        (arms-on First d.0, says-on First ttl d.1, λ z. arms-on Second (d.2 z))
     data-beside Propagation2 d = (reads-beside r Second old new b d.0, λ z. arms-on Second (d.1 z))
-    data-beside (CacheExpire2 ttl) d = (arms-on Second d.0, tells-on Second ttl d.1)
+    data-beside (CacheExpire2 ttl) d = (arms-on Second d.0, says-on Second ttl d.1)
     data-beside Done d = tt
 
   -- the roll's own calls

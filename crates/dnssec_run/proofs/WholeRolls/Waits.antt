@@ -25,7 +25,7 @@ use Rattle.dnssec_run.proofs.WholeRolls.Armed.{zds_facts}
 use Rattle.dnssec_run.proofs.WholeRolls.Keys.{Expiring, dates, fits_of, roll_now}
 use Rattle.dnssec_run.proofs.WholeRolls.Order.{by-time, in-order, nothing_set}
 use Rattle.dnssec_run.proofs.WholeRolls.Replies.{outcome, position-is, since, step-made}
-use Rattle.dnssec_run.proofs.WholeRolls.Reports.{Tells, Arms, Data, data-beside, data-step}
+use Rattle.dnssec_run.proofs.WholeRolls.Reports.{Says, Arms, Data, data-beside, data-step}
 use Rattle.dnssec_run.specs.{declared.call.Call.Call, declared.record.Entry.Entry, Safe.position_at}
 use Rattle.dnssec_run.{specs.Safe.time_at, proofs.Laws.made-at, proofs.Laws.stays-sound}
 use Rattle.dnssec_run.proofs.{Premise.SetsNothing, Premise.sets-nothing, Chain.Facts.stays_facts}
@@ -153,7 +153,7 @@ module _ {name : List ℕ} {calls : List Call} {entries : List Entry} (run : IsR
   -- the reports that a wait counts from
   counted : (n : ℕ) → n ≤ length entries → (r : RollType) (h : Half) (ttl : ℕ)
       → roll_now (set_at n) r ≡ Some (cache_expire h ttl)
-      → Arms entries (set_at n) n r h × Tells entries n r h ttl
+      → Arms entries (set_at n) n r h × Says entries n r h ttl
   counted n within r First ttl phase =
       let d = (clocks n within).data_of r (CacheExpire1 ttl) phase in (d.0, d.1)
   counted n within r Second ttl phase = (clocks n within).data_of r (CacheExpire2 ttl) phase

@@ -6,7 +6,7 @@ use Rattle.dnssec_record.specs.Session.{FaultOfZone, Stands}
 use Rattle.dnssec_record.specs.declared.session.Session.{Session}
 use Rattle.dnssec_script.specs.Script.{NamesZone}
 use Rattle.keyset_c.specs.Handles.{kept_by}
-use Rattle.keyset_c.specs.declared.kept.Kept.{Kept}
+use Rattle.keyset_c.specs.declared.open_session.OpenSession.{OpenSession}
 use Rattle.keyset_c.proofs.keyset_open.Goals as goal
 
 -- what stands after a line alone has it as its zone
@@ -26,7 +26,7 @@ returns-in-Ok-new-clause-opened c = λ opened. record {
   kept = c.in-Ok-new.kept.value;
   is = c.put.ensures.kept;
   stands = rw c.in-Ok-new.ensures.ok c.in-Ok.ensures.ok;
-  notes = ap (λ (k : Kept). k.notes) c.in-Ok-new.ensures.ok ∙ c.new-in-Ok.ensures;
+  notes = ap (λ (k : OpenSession). k.notes) c.in-Ok-new.ensures.ok ∙ c.new-in-Ok.ensures;
 }
 
 pub returns-in-Ok-new-clause-unnamed : goal.returns-in-Ok-new-clause-unnamed

@@ -29,37 +29,37 @@ newest-is p kind (fact ∷ facts) = grind (arith, newest-is (progress_after p fa
 -- ---- what true facts say of it
 
 -- no server gives it before it was published
-abbrev Tells : Network → SetKind → ℕ → ℕ → Newest → Type 0
-Tells network kind time n newest = (server t : ℕ) → server < network.servers kind → t ≤ time →
+abbrev Says : Network → SetKind → ℕ → ℕ → Newest → Type 0
+Says network kind time n newest = (server t : ℕ) → server < network.servers kind → t ≤ time →
     n ≤ network.version kind server t → newest.published ≤ t
 
-tells-on : (network : Network) (kind : SetKind) (time n : ℕ) (newest : Newest)
-    (news : List News) (last : News) → Tells network kind time n newest
+says-on : (network : Network) (kind : SetKind) (time n : ℕ) (newest : Newest)
+    (news : List News) (last : News) → Says network kind time n newest
     → AreTrueFrom network kind time n (news ++ last ∷ [])
-    → (m : ℕ) × Tells network kind time m (fold next newest news)
+    → (m : ℕ) × Says network kind time m (fold next newest news)
     × AreTrueFrom network kind time m (last ∷ [])
-tells-on network kind time n newest [] last tells are = (n, tells, are)
-tells-on network kind time n newest (Published position ttl moment ∷ news) last tells are =
-    tells-on network kind time (suc n) _ news last are.2 are.3
-tells-on network kind time n newest (Everywhere moment ∷ news) last tells are =
-    tells-on network kind time n _ news last tells are.1
+says-on network kind time n newest [] last says are = (n, says, are)
+says-on network kind time n newest (Published position ttl moment ∷ news) last says are =
+    says-on network kind time (suc n) _ news last are.2 are.3
+says-on network kind time n newest (Everywhere moment ∷ news) last says are =
+    says-on network kind time n _ news last says are.1
 
 -- ---- refusals
 
 -- no publication is refused so, and a sight that is refused so came before the publication
 untrue : (network : Network) (kind : SetKind) (moments : List ℕ) (time n : ℕ) (newest : Newest)
     (last : News) → 0 < network.servers kind → moment_of last ≤ time
-    → Tells network kind time n newest
+    → Says network kind time n newest
     → AreTrueFrom network kind time n (last ∷ [])
     → news_refusal moments newest last ≡ Some SeenBeforePublished → ⊥
-untrue network kind moments time n newest (Published position ttl moment) serves by tells are
+untrue network kind moments time n newest (Published position ttl moment) serves by says are
     refused = by-call (moment_of_call moments position) refused
   where
     by-call : (made : Option ℕ) → version_refusal made newest moment ≡ Some SeenBeforePublished → ⊥
     by-call None refused = absurd cc
     by-call (Some made) refused = grind arith
-untrue network kind moments time n newest (Everywhere moment) serves by tells are refused =
-    grind (arith, tells 0 moment serves by (are.0 0 serves by))
+untrue network kind moments time n newest (Everywhere moment) serves by says are refused =
+    grind (arith, says 0 moment serves by (are.0 0 serves by))
 
 -- the news of a kind, with one more fact of it at the end
 news-after : (facts : List Fact) (fact : Fact)
@@ -72,7 +72,7 @@ pub returns : goal.returns
 returns c before facts fact network moments time refused serves by are =
     let kind : SetKind = kind_of fact.kind in
     let first : Newest = newest_of first_progress fact.kind in
-    let last = tells-on network kind time 0 first (news_of kind facts) fact.news
+    let last = says-on network kind time 0 first (news_of kind facts) fact.news
     (λ server t h by le. grind arith)
     (subst (λ news. AreTrueFrom network kind time 0 news) (news-after facts fact) (are kind).1) in
     untrue network kind moments time last.0 (fold next first (news_of kind facts)) fact.news serves

@@ -4,14 +4,14 @@ use Rattle.dnssec_policy.{specs.Code.view_of, proofs.ByHand.answered}
 use Rattle.dnssec_policy.proofs.laws.answers_are_said.Goals as goal
 
 pub returns : goal.returns
-returns c = λ name calls entries network time s end policy call knows tells is clock. record {
+returns c = λ name calls entries network time s end policy call knows says is clock. record {
   policy = policy;
   view = view_of s end;
   at = record {
     set = knows.set;
     step = λ roll. knows.steps roll;
     last = knows.lasts;
-    end = tells;
+    end = says;
     highest = knows.highest;
     are_true = knows.are_true;
   };

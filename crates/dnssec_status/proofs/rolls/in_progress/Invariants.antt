@@ -1,7 +1,7 @@
 -- The rolls in progress so far, each with the end of its wait.
 use Rattle.std.proofs.Common.{◌≡◌, map, take}
 use Rattle.std.specs.List.{All, flat_map}
-use Rattle.dnssec_keyset.specs.WaitEnd.{TellsEnd}
+use Rattle.dnssec_keyset.specs.WaitEnd.{SaysEnd}
 use Rattle.dnssec_status.specs.declared.rolls.RollInProgress.{RollInProgress}
 use Rattle.dnssec_status.specs.Rolls.{phase_pair, with_its_phase}
 use Rattle.dnssec_zone.specs.Rolls.{phase_of}
@@ -12,4 +12,4 @@ invariant-loop-roll l =
     (map phase_pair l.rolls.items
     ≡ flat_map (λ roll. with_its_phase roll (phase_of l.keyset.rolls roll))
     (take l.roll-index l.roll-items))
-    × All (λ (g : RollInProgress). TellsEnd g.roll l.keyset g.end) l.rolls.items
+    × All (λ (g : RollInProgress). SaysEnd g.roll l.keyset g.end) l.rolls.items

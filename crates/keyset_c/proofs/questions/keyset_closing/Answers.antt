@@ -3,7 +3,7 @@ use Rattle.keyset_c.proofs.Opened.{keeps_at, keeps_if}
 use Rattle.keyset_c.proofs.questions.keyset_closing.Goals as goal
 
 pub returns-in-Some-clause-told : goal.returns-in-Some-clause-told
-returns-in-Some-clause-told c = keeps_if c.in-Some.ensures.value c.tell_closing.ensures.answered
+returns-in-Some-clause-told c = keeps_if c.in-Some.ensures.value c.say_closing.ensures.answered
 
 pub returns-in-Some-clause-needed : goal.returns-in-Some-clause-needed
-returns-in-Some-clause-needed c = keeps_at c.in-Some.ensures.value c.tell_closing.ensures.needed
+returns-in-Some-clause-needed c = keeps_at c.in-Some.ensures.value c.say_closing.ensures.needed

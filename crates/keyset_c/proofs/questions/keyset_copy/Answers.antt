@@ -8,6 +8,6 @@ returns-in-Ok-clause-copied c = λ copied. record {
   copied = c.in-Ok.made.value;
   is_copy = c.put.ensures.kept;
   stands = c.in-Ok.ensures.stands;
-  tells = c.in-Ok.ensures.answer;
+  is_said = c.in-Ok.ensures.answer;
   notes = c.in-Ok.ensures.notes;
 }

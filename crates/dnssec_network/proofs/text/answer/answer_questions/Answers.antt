@@ -11,11 +11,11 @@ pub returns-clause-ok : goal.returns-clause-ok
 returns-clause-ok c =
     let ran = c.in_ok-session.ensures.ok in
     let read = ap (map now) c.deref.ensures.value ∙ c.in-Ok.ensures in
-    let told = subst (λ (ls : List (List ℕ)). AnswersAll c.in_ok-session.session ls
+    let answers = subst (λ (ls : List (List ℕ)). AnswersAll c.in_ok-session.session ls
     (map string_bytes c.in_ok-answers.answers.items)) read c.in_ok-answers.ensures.ok in
     zip_weaker _ _ _ _ (λ question text due.
     record { entries = ran.entries; is_due = due; had_memory = ran.had_memory })
-    (told (lines_of c.args.script.now) ran.entries ran.stands).1.answers
+    (answers (lines_of c.args.script.now) ran.entries ran.stands).1.answers
 
 pub returns-in_default-clause-err : goal.returns-in_default-clause-err
 returns-in_default-clause-err c = (c.in_ok-session.session, c.in_ok-session.ensures.ok, tt)

@@ -14,7 +14,7 @@ returns-in-None-clause-ok c script lines entries so answered =
     answered
     (subst (λ (o : Option (String Global)). ComesOf script entries (notes_among lines)
     c.args.line.now (option_map string_bytes o) c.answer_line.new.self) c.in-None.is
-    (c.in_ok-answer_line.ensures.told script (notes_among lines) entries so answered.taken))
+    (c.in_ok-answer_line.ensures.answer script (notes_among lines) entries so answered.taken))
 
 pub returns-after-push-clause-ok : goal.returns-after-push-clause-ok
 returns-after-push-clause-ok c = elim c.match-push.branch [
@@ -24,7 +24,7 @@ returns-after-push-clause-ok c = elim c.match-push.branch [
       c.args.notes.now c.answer_line.new.self _ (string_bytes c.in-Some.text) answered
       (subst (λ (o : Option (String Global)). ComesOf script entries (notes_among lines)
       c.args.line.now (option_map string_bytes o) c.answer_line.new.self) c.in-Some.is
-      (c.in_ok-answer_line.ensures.told script (notes_among lines) entries so answered.taken))))
+      (c.in_ok-answer_line.ensures.answer script (notes_among lines) entries so answered.taken))))
   | in-Err w ↦ rw w.result-is tt
 ]
 

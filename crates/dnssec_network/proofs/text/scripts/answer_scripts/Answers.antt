@@ -3,7 +3,7 @@ use Rattle.std.proofs.Common.{List, ap, map, subst, ◌∙◌}
 use Rattle.std.proofs.lemmas.Result.{err_from_is_err_and}
 use Rattle.std.specs.{List.join_by, Prelude.codes, Prelude.string_bytes}
 use Rattle.std.specs.declared.alloc.Global.{Global}
-use Rattle.dnssec_network.specs.Text.Scripts.{AnswersEach, NotedScript, as_noted, scripts_among}
+use Rattle.dnssec_network.specs.Text.Scripts.{AnswersEach, ScriptWithNotes, as_noted, scripts_among}
 use Rattle.dnssec_network.proofs.Texts.Parting.{joined_bytes}
 use denote.Bor.{now}
 use Rattle.dnssec_network.proofs.text.scripts.answer_scripts.Goals as goal
@@ -15,7 +15,7 @@ returns-clause-ok c =
     ∙ ap scripts_among parts in
     record {
       texts = map string_bytes c.in_ok-answers.answers.items;
-      answers = subst (λ (ss : List NotedScript). AnswersEach ss
+      answers = subst (λ (ss : List ScriptWithNotes). AnswersEach ss
           (map string_bytes c.in_ok-answers.answers.items)) scripts c.in_ok-answers.ensures.ok;
       joined = c.in_ok-all.ensures.ok
           ∙ ap (join_by (string_bytes {Z = Global}) (codes "\n")) c.deref-3.ensures.value

@@ -15,13 +15,13 @@ use Rattle.dnssec_keyset.specs.Step as keyset
 use Rattle.dnssec_run.proofs.running.Recorder.advance.Goals as goal
 
 pub returns-in-Refused-clause-ok : goal.returns-in-Refused-clause-ok
-returns-in-Refused-clause-ok c name calls entries e tells same so =
+returns-in-Refused-clause-ok c name calls entries e says same so =
     let x = c.args.call in
     let r = c.make-reply.result in
     let n = c.in-Some.at in
     let before = world_at name calls entries (length calls) in
     let no : is_accepted r ≡ false = search rules in
-    records-more name calls entries _ _ x _ e so tells same (omega (arith, c.in-Some.ensures))
+    records-more name calls entries _ _ x _ e so says same (omega (arith, c.in-Some.ensures))
     c.make-reply.ensures (mark-refused x r no) c.in_ok-meaning.ensures.moment
     (agrees-refused n before _ _ _ x r no so.agrees
     (step-after _ _ (call_of x) (reply_of r) c.make-reply.ensures))
@@ -29,7 +29,7 @@ returns-in-Refused-clause-ok c name calls entries e tells same so =
 
 pub returns : goal.returns
 returns c = record {
-  ok = λ name calls entries e tells same so.
+  ok = λ name calls entries e says same so.
       let x = c.args.call in
       let r = c.make-reply.result in
       let n = c.in-Some.at in
@@ -50,7 +50,7 @@ returns c = record {
       let shown = c.in_ok-may_publish.ensures.read before after so.published left
       (subst (λ o. ChangesOnly o before after) (sym c.in_ok-meaning.ensures.only)
       (changes-only n before x r)) agrees in
-      records-more name calls entries _ _ x _ e so tells same (omega (arith, c.in-Some.ensures))
+      records-more name calls entries _ _ x _ e so says same (omega (arith, c.in-Some.ensures))
       c.make-reply.ensures (c.in_ok-meaning.ensures.mark ∙ mark-accepted x r ok)
       c.in_ok-meaning.ensures.moment agrees shown;
   kept = c.in_ok-may_publish.ensures.kept;

@@ -1,6 +1,6 @@
 -- What was handed out, or is too long, is the status.
 use Rattle.std.proofs.Common.{ap, length, sym, ◌∙◌}
-use Rattle.keyset_c.proofs.sessions.tell_status.Goals as goal
+use Rattle.keyset_c.proofs.sessions.say_status.Goals as goal
 
 pub returns-in-Ok-clause-answered : goal.returns-in-Ok-clause-answered
 returns-in-Ok-clause-answered c = λ written name calls entries stands.

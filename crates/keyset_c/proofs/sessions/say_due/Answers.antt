@@ -3,7 +3,7 @@ use Rattle.std.proofs.Common.{Option, ap, length, string_bytes, sym, subst, ◌�
 use Rattle.std.specs.{Option.option_map, declared.alloc.Global.Global}
 use Rattle.std.specs.declared.string.String.{String}
 use Rattle.dnssec_network.specs.Text.Due.{AnswersDue, IsDueAfter}
-use Rattle.keyset_c.proofs.sessions.tell_due.Goals as goal
+use Rattle.keyset_c.proofs.sessions.say_due.Goals as goal
 
 pub returns-in-Ok-Some-clause-answered : goal.returns-in-Ok-Some-clause-answered
 returns-in-Ok-Some-clause-answered c = λ written lines notes entries stands taken.
