@@ -13,13 +13,17 @@ loop-reference-init c =
     let begun : c.into_iter-reference-iterator.result ≡ c.args.added.now.entries = search rules in
     record {
       ds = let new = c.new-ds.ensures in
-          reads-begin in_ds key _ _ _ _ _ begun new.touched new.none new.before new.fits new.around;
+          reads-begin in_ds key _ _ _ _ _ begun new.touched new.none new.before new.fits
+          new.around;
       dnskey = let new = c.new-dnskey.ensures in
-          reads-begin in_dnskey key _ _ _ _ _ begun new.touched new.none new.before new.fits new.around;
+          reads-begin in_dnskey key _ _ _ _ _ begun new.touched new.none new.before new.fits
+          new.around;
       dnskey_signers = let new = c.new-dnskey_signers.ensures in
-          reads-begin signs_dnskey key _ _ _ _ _ begun new.touched new.none new.before new.fits new.around;
+          reads-begin signs_dnskey key _ _ _ _ _ begun new.touched new.none new.before new.fits
+          new.around;
       zone_signers = let new = c.new-zone_signers.ensures in
-          reads-begin signs_zone key _ _ _ _ _ begun new.touched new.none new.before new.fits new.around;
+          reads-begin signs_zone key _ _ _ _ _ begun new.touched new.none new.before new.fits
+          new.around;
     }
 
 pub loop-reference-preserved : goal.loop-reference-preserved

@@ -1,6 +1,6 @@
 -- The key stands at the end of those that were read, before the others.
-use Rattle.std.proofs.Common.{◌≡◌, ◌+◌, ◌-◌, ◌++◌, ◌∷◌, ◌∙◌, [], List, ap, arith, length, map, rules}
-use Rattle.std.proofs.Common.{take, vec_len}
+use Rattle.std.proofs.Common.{◌≡◌, ◌+◌, ◌-◌, ◌++◌, ◌∷◌, ◌∙◌, [], List, ap, arith, length, map}
+use Rattle.std.proofs.Common.{rules, take, vec_len}
 use Rattle.dnssec_run.specs.{declared.record.PublishedKey.PublishedKey, Published.Id}
 use Rattle.dnssec_run.proofs.{Around.keeps-with, Around.kept-more, Positions.puts-next}
 use Rattle.dnssec_run.specs.Published.{id_of}
