@@ -3,7 +3,7 @@ use Rattle.std.proofs.Common.{◌≡◌, ℕ, List, length, map, sym, ◌∙◌,
 use Rattle.dnssec_run.specs.declared.{call.Call.Call, record.Entry.Entry, running.Recorder.Recorder}
 use Rattle.dnssec_run.specs.{Published.IsPublished, Published.id_of, Record.world_at}
 use Rattle.dnssec_run.{specs.Recorder.Records, specs.Safe.position_at, proofs.Asked.Changes.list-is}
-use Rattle.dnssec_run.specs.declared.sets.Shown.TheVariants as lists
+use Rattle.dnssec_run.specs.declared.lists.Shown.TheVariants as lists
 
 module _ (name : List ℕ) (calls : List Call) (entries : List Entry) (r : Recorder)
     (so : Records name calls entries r) where

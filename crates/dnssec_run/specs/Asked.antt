@@ -18,8 +18,8 @@ use Rattle.dnssec_run.specs.declared.record.Entry.{Entry}
 use Rattle.dnssec_run.specs.declared.record.Mark.TheVariants.{Report}
 use Rattle.dnssec_run.specs.declared.record.Reply.{Reply}
 use Rattle.dnssec_run.specs.declared.record.Reply.TheVariants.{Done, Actions, Refused}
-use Rattle.dnssec_run.specs.declared.sets.Shown.{Shown}
-use Rattle.dnssec_run.specs.declared.sets.Shown.TheVariants as lists
+use Rattle.dnssec_run.specs.declared.lists.Shown.{Shown}
+use Rattle.dnssec_run.specs.declared.lists.Shown.TheVariants as lists
 use Rattle.dnssec_run.specs.Record.{call_of}
 use Rattle.dnssec_run.specs.Safe.{SetKind, Ds, Dnskey, ZoneSigners, Position, position_at}
 use Rattle.dnssec_run.specs.Safe.{base_below, retires}

@@ -7,10 +7,10 @@ ghost use Rattle.dnssec_run.specs.Asked.{sets_shown};
 ghost use Rattle.dnssec_run.specs.Recorder.{at_list, put_by, reference_deleted, reference_set};
 ghost use Rattle.dnssec_run.specs.Recorder.{taken_by};
 ghost use Rattle.dnssec_run.specs.Record.{call_of, mark_of, call_moment, reference_added, reply_of};
-ghost use Rattle.dnssec_run.specs.declared.sets.Shown.{Shown};
+ghost use Rattle.dnssec_run.specs.declared.lists.Shown.{Shown};
 
 use crate::record::{Mark, Reply};
-use crate::sets::ByList;
+use crate::lists::ByList;
 use dnssec_base::SecurityAlgorithm;
 use dnssec_keyset::{Action, Available, Error, KeySet, RollType, UnixTime};
 

@@ -7,6 +7,7 @@
 mod caches;
 mod call;
 mod in_order;
+mod lists;
 mod moments;
 mod places;
 mod plain;
@@ -19,9 +20,9 @@ mod steps;
 pub use caches::{ByKind, SetKind, retires};
 pub use call::Call;
 pub use in_order::keys_in_order;
+pub use lists::Shown;
 pub use moments::Moments;
 pub use plain::{each_chain_is_one, starts_suffice, whole_runs_stay_safe};
 pub use record::{Entry, Frame, Frames, Mark, Outcome, Published, PublishedKey, Reply, Run};
 pub use running::{Recorder, run};
-pub use sets::Shown;
 pub use steps::{LastStep, Origins, Steps};

@@ -9,7 +9,7 @@ ghost use Rattle.dnssec_run.specs.Recorder.{Agrees, ChangesAt, HasSameKeys, Leav
 ghost use Rattle.dnssec_run.specs.Recorder.{PlacesKey, passing, shows};
 
 use crate::record::{Frame, Frames, Published, PublishedKey};
-use crate::sets::{ByList, Shown};
+use crate::lists::{ByList, Shown};
 use dnssec_keyset::{Error, Key, KeySet};
 use std::alloc::Global;
 use std::collections::BTreeMap;

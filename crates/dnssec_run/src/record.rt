@@ -8,10 +8,10 @@ ghost use Rattle.dnssec_run.specs.Origins.{set_in};
 ghost use Rattle.dnssec_run.specs.Published.{id_of};
 ghost use Rattle.dnssec_run.specs.Recorder.{at_list};
 ghost use Rattle.dnssec_run.specs.Safe.{kind_of};
-ghost use Rattle.dnssec_run.specs.declared.sets.Shown.{Shown};
+ghost use Rattle.dnssec_run.specs.declared.lists.Shown.{Shown};
 
 use crate::caches::SetKind;
-use crate::sets::ByList;
+use crate::lists::ByList;
 use dnssec_keyset::{Action, Error, KeySet, RollType, UnixTime};
 use std::alloc::Global;
 

@@ -9,7 +9,7 @@ ghost use Rattle.dnssec_run.specs.declared.record.PublishedKey.{PublishedKey};
 
 use crate::places::published_key;
 use crate::record::{Frame, PublishedKey};
-use crate::sets::Shown;
+use crate::lists::Shown;
 use dnssec_keyset::{Error, KeyType};
 use std::alloc::Global;
 use std::mem;

@@ -21,13 +21,13 @@ use Rattle.dnssec_run.proofs.Effects.{accepted_step, added-free, added-same, end
 use Rattle.dnssec_run.proofs.Effects.{moved_key, passing-moved, put_at, refused_step, start-kind}
 use Rattle.dnssec_run.proofs.Positions.{passing, same-shown, shown-none}
 use Rattle.dnssec_run.specs.declared.{call.Call.Call, record.Entry.Entry, record.Reply.Reply}
-use Rattle.dnssec_run.specs.declared.sets.{ByList.ByList, Shown.Shown}
+use Rattle.dnssec_run.specs.declared.lists.{ByList.ByList, Shown.Shown}
 use Rattle.dnssec_run.specs.Recorder.{Leaves, at_list, reference_set, shows}
 use Rattle.dnssec_run.proofs.Chain.Trust.{adds_blank}
 use Rattle.dnssec_run.proofs.{Chain.Trust.plainly, Laws.made-at, WholeRolls.Replies.added-next}
 use Rattle.dnssec_zone.specs.Wait as waits
 use Rattle.dnssec_keyset.specs.Step as keyset
-use Rattle.dnssec_run.specs.declared.sets.Shown.TheVariants as lists
+use Rattle.dnssec_run.specs.declared.lists.Shown.TheVariants as lists
 
 -- what a reply of the key set asks
 abbrev pub due : keyset.Reply → List Action
