@@ -1,5 +1,9 @@
-//! The fields of a line of a script, and what each says.
-ghost use Rattle.std.specs.Prelude.{◌≡◌, ◌≤◌, if◌then◌else◌, List, [], map, IfOk};
+//! A text that is cut at a byte: a script at its line feeds, and a line at its spaces. Then the
+//! fields of a line, and what each says.
+ghost use Rattle.std.specs.Prelude.{◌≡◌, ◌≤◌, ◌+◌, ◌==◌, ◌∷◌, if◌then◌else◌, List, [], map};
+ghost use Rattle.std.specs.Prelude.{IfOk, length, not};
+ghost use Rattle.std.specs.List.{position_or_len, prefix_len, slice_split};
+ghost use Rattle.std.specs.Simd.Lanes.{chunk};
 ghost use Rattle.std.specs.Prelude.{Option, Some, None, is_some, IfSome, IfNone};
 ghost use Rattle.std.specs.Str.{IsAscii};
 ghost use denote.Bor.{now};
@@ -9,14 +13,62 @@ ghost use Rattle.dnssec_script.specs.Script.{Number, Moment, is_reference, as_re
 ghost use Rattle.dnssec_script.specs.Script.{as_private, as_list, as_yes_no, as_roll, as_number};
 ghost use Rattle.dnssec_script.specs.Script.{as_algorithm, as_tag, as_ttl, as_time};
 ghost use Rattle.dnssec_script.specs.Script.{is_list, is_number, number_of, references_of};
+ghost use Rattle.dnssec_script.specs.Inner.Reading.{parts_left};
 ghost use Rattle.dnssec_script.specs.Script.{value_at, values_of, first_field, fields_of};
+ghost use Rattle.dnssec_script.specs.Script.{word_at, word_named};
 
-use crate::cut::split_once;
+use crate::statement::Word;
 use dnssec_base::SecurityAlgorithm;
 use dnssec_keyset::{RollType, UnixTime};
 use std::alloc::{AllocError, Global};
 use std::marker::Model;
+use std::simd::prelude::*;
 use std::time::Duration;
+
+/// How many bytes are looked at together.
+const LANES: usize = 16;
+
+/// The text up to the first such byte, and what comes after it; none if it has no such byte.
+pub(crate) fn split_once(text: &[u8], byte: u8) -> (&[u8], Option<&[u8]>)
+    ensures { slice_split (λ b. b == byte) text.now ≡ result.0.now ∷ parts_left byte result.1 }
+{
+    let end = place_of(text, byte);
+    if end < text.len() {
+        (&text[..end], Some(&text[end + 1..]))
+    } else {
+        (text, None)
+    }
+}
+
+/// Where the first such byte stands, or the length of a text without one. Each byte of a script is
+/// read here first, so it looks at many at a time.
+fn place_of(text: &[u8], byte: u8) -> usize
+    ensures { result ≡ position_or_len (λ b. b == byte) text.now }
+{
+    let mut end = 0;
+    while text.len() - end >= LANES {
+        let ahead = bytes_before(text, end, byte) as usize;
+        if ahead < LANES {
+            return end + ahead;
+        }
+        end += LANES;
+    }
+    while end < text.len() && text[end] != byte {
+        end += 1;
+    }
+    end
+}
+
+/// How many of the next bytes come before the first such byte among them.
+fn bytes_before(text: &[u8], at: usize, byte: u8) -> u32
+    requires { at + 16 ≤ length text.now }
+    ensures { result ≡ prefix_len (λ b. not (b == byte)) (chunk at 16 text.now) }
+{
+    let hits = u8x16::from_slice(&text[at..])
+        .simd_eq(u8x16::splat(byte))
+        .to_bitmask();
+    if hits == 0 { 16 } else { hits.trailing_zeros() }
+}
 
 /// Whether the text is visible ASCII characters, except the comma, and not a single `-`.
 #[tactic(auto, unfolding(crate::specs::Script::is_reference))]
@@ -125,6 +177,36 @@ fn is_list(text: &[u8]) -> bool
             .all(|part| is_reference(part))
 }
 
+/// The word with this name.
+#[tactic(auto, using(crate::proofs::Ascii::steps), unfolding(crate::specs::Script::word_named))]
+fn word_named(name: &[u8]) -> Option<Word>
+    ensures { result ≡ word_named name.now }
+{
+    match ascii(name)? {
+        "add-ksk" => Some(Word::AddKsk),
+        "add-zsk" => Some(Word::AddZsk),
+        "add-csk" => Some(Word::AddCsk),
+        "add-public" => Some(Word::AddPublic),
+        "set-decoupled" => Some(Word::SetDecoupled),
+        "set-present" => Some(Word::SetPresent),
+        "set-signer" => Some(Word::SetSigner),
+        "set-at-parent" => Some(Word::SetAtParent),
+        "set-stale" => Some(Word::SetStale),
+        "set-visible" => Some(Word::SetVisible),
+        "set-ds-visible" => Some(Word::SetDsVisible),
+        "set-rrsig-visible" => Some(Word::SetRrsigVisible),
+        "delete" => Some(Word::Delete),
+        "start" => Some(Word::Start),
+        "report1" => Some(Word::Report1),
+        "wait1" => Some(Word::Wait1),
+        "report2" => Some(Word::Report2),
+        "wait2" => Some(Word::Wait2),
+        "done" => Some(Word::Done),
+        "abort" => Some(Word::Abort),
+        _ => None,
+    }
+}
+
 /// The fields of a line that haven't been read yet, each between single spaces.
 #[derive(Drop)]
 pub struct Fields<'a> {
@@ -166,6 +248,14 @@ impl<'a> Fields<'a> {
             Some(_) => None,
             None => Some(()),
         }
+    }
+
+    /// The next field as a word.
+    pub(crate) fn word(self) -> Option<(Word, Fields<'a>)>
+        ensures { option_map (λ x. (x.0, x.1)) result ≡ word_at self.entry }
+    {
+        let (name, fields) = self.next()?;
+        Some((word_named(name)?, fields))
     }
 
     /// The next field as a reference.
@@ -249,6 +339,15 @@ impl<'a> Fields<'a> {
         let (text, fields) = self.next()?;
         let seconds = number(u64::MAX, text)?;
         Some((UnixTime::from(Duration::from_secs(seconds)), fields))
+    }
+
+    /// The moment that is the last field.
+    pub(crate) fn last_time(self) -> Option<UnixTime>
+        ensures { option_map (λ t. Moment t ∷ []) result ≡ values_of (as_time ∷ []) self.entry }
+    {
+        let (time, fields) = self.time()?;
+        fields.end()?;
+        Some(time)
     }
 
     /// The next field as a list of references.

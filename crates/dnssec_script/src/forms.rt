@@ -8,7 +8,7 @@ ghost use Rattle.dnssec_script.specs.Script.{as_ttl, as_yes_no, public_key_forms
 ghost use Rattle.dnssec_script.specs.Script.{signing_key_forms, trait_forms, values_of};
 ghost use Rattle.dnssec_script.specs.Inner.Statement.{traits_say};
 
-use crate::fields::{Fields, ReferenceList};
+use crate::fields::Fields;
 use dnssec_base::SecurityAlgorithm;
 use dnssec_keyset::{RollType, UnixTime};
 use std::alloc::{AllocError, Global};
@@ -126,7 +126,7 @@ pub(crate) fn timed_flag<'a>(fields: Fields<'a>) -> Option<(&'a str, bool, UnixT
 {
     let (pubref, fields) = fields.reference()?;
     let (value, fields) = fields.yes_no()?;
-    Some((pubref, value, time(fields)?))
+    Some((pubref, value, fields.last_time()?))
 }
 
 /// The fields of a setter of a stamp.
@@ -136,7 +136,7 @@ pub(crate) fn stamp<'a>(fields: Fields<'a>) -> Option<(&'a str, UnixTime)>
         ≡ values_of (as_reference ∷ as_time ∷ []) fields.entry }
 {
     let (pubref, fields) = fields.reference()?;
-    Some((pubref, time(fields)?))
+    Some((pubref, fields.last_time()?))
 }
 
 /// The only field of a word for a key.
@@ -149,19 +149,6 @@ pub(crate) fn key<'a>(fields: Fields<'a>) -> Option<&'a str>
     Some(pubref)
 }
 
-/// The fields of a start, with lists that are parts of the line.
-pub(crate) fn start<'a>(
-    fields: Fields<'a>,
-) -> Option<(RollType, ReferenceList<'a>, ReferenceList<'a>, UnixTime)>
-    ensures { option_map (λ x. Roll x.0 ∷ References x.1 ∷ References x.2 ∷ Moment x.3 ∷ []) result
-        ≡ values_of (as_roll ∷ as_list ∷ as_list ∷ as_time ∷ []) fields.entry }
-{
-    let (rolltype, fields) = fields.roll()?;
-    let (old, fields) = fields.list()?;
-    let (new, fields) = fields.list()?;
-    Some((rolltype, old, new, time(fields)?))
-}
-
 /// The fields of a report, with the TTL in seconds.
 pub(crate) fn report(fields: Fields<'_>) -> Option<(RollType, u32, UnixTime)>
     ensures { option_map (λ x. Roll x.0 ∷ Number x.1 ∷ Moment x.2 ∷ []) result
@@ -169,7 +156,7 @@ pub(crate) fn report(fields: Fields<'_>) -> Option<(RollType, u32, UnixTime)>
 {
     let (rolltype, fields) = fields.roll()?;
     let (ttl, fields) = fields.ttl()?;
-    Some((rolltype, ttl, time(fields)?))
+    Some((rolltype, ttl, fields.last_time()?))
 }
 
 /// The fields of the end of a wait.
@@ -178,7 +165,7 @@ pub(crate) fn wait(fields: Fields<'_>) -> Option<(RollType, UnixTime)>
         ≡ values_of (as_roll ∷ as_time ∷ []) fields.entry }
 {
     let (rolltype, fields) = fields.roll()?;
-    Some((rolltype, time(fields)?))
+    Some((rolltype, fields.last_time()?))
 }
 
 /// The only field of a word that ends a roll.
@@ -188,13 +175,4 @@ pub(crate) fn roll(fields: Fields<'_>) -> Option<RollType>
     let (rolltype, fields) = fields.roll()?;
     fields.end()?;
     Some(rolltype)
-}
-
-/// The moment that is the last field.
-fn time(fields: Fields<'_>) -> Option<UnixTime>
-    ensures { option_map (λ t. Moment t ∷ []) result ≡ values_of (as_time ∷ []) fields.entry }
-{
-    let (time, fields) = fields.time()?;
-    fields.end()?;
-    Some(time)
 }

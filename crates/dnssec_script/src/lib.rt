@@ -1,7 +1,6 @@
 //! The reader of scripts: from the bytes of a script to the calls that its lines make.
 #![tactic(auto)]
 
-mod cut;
 mod fields;
 mod forms;
 mod lines;

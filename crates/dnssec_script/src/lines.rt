@@ -8,7 +8,7 @@ ghost use Rattle.dnssec_script.specs.Script.{lines_of, without_end};
 ghost use Rattle.dnssec_script.specs.Inner.Reading.{HasRead, IsReadFault, ReadsOn, lines_left};
 ghost use Rattle.dnssec_script.specs.declared.lines.ReadFault.TheVariants.{OutOfMemory};
 
-use crate::cut::split_once;
+use crate::fields::split_once;
 use crate::statement::{Statement, read_line};
 use dnssec_base::{Name, NameError};
 use std::alloc::{AllocError, Global};

@@ -1,15 +1,16 @@
 //! What a line of a script says: the call of its word, made from its fields.
-ghost use Rattle.std.specs.Prelude.{◌≡◌, if◌then◌else◌, IfOk, IfErr, IsSome, None, true};
+ghost use Rattle.std.specs.Prelude.{◌≡◌, if◌then◌else◌, IfOk, IfErr, IsSome, None, true, [], ◌∷◌};
 ghost use Rattle.std.specs.Option.{option_map};
 ghost use Rattle.dnssec_key.specs.Key.{is_available};
-ghost use Rattle.dnssec_script.specs.Script.{call_says, said_after_word, says, word_at};
-ghost use Rattle.dnssec_script.specs.Script.{word_named};
+ghost use Rattle.dnssec_script.specs.Script.{call_says, said_after_word, says};
+ghost use Rattle.dnssec_script.specs.Script.{Moment, References, Roll, as_list, as_roll, as_time};
+ghost use Rattle.dnssec_script.specs.Script.{values_of};
 ghost use Rattle.dnssec_script.specs.Inner.Statement.{MakesEntry, start_says};
 ghost use Rattle.dnssec_script.specs.Inner.Statement.{adds, statement_says, takes_memory};
 
-use crate::fields::{Fields, ascii};
+use crate::fields::{Fields, ReferenceList};
 use crate::forms::{
-    KeyTraits, flag, key, public_key, report, roll, signing_key, stamp, start, timed_flag, wait,
+    KeyTraits, flag, key, public_key, report, roll, signing_key, stamp, timed_flag, wait,
 };
 use dnssec_keyset::{Available, Error, RollType, UnixTime};
 use dnssec_run::{Call, Entry, Recorder};
@@ -93,47 +94,9 @@ pub fn read_line<'a>(alloc: Global, line: &'a [u8]) -> Result<Option<Statement<'
     ensures read { IfOk result (λ found. option_map statement_says found ≡ says line.now) }
     ensures memory { IfErr result (λ _. IsSome (says line.now)) }
 {
-    match first_word(Fields::of(line)) {
+    match Fields::of(line).word() {
         Some((word, fields)) => call_of_word(alloc, word, fields),
         None => Ok(None),
-    }
-}
-
-/// The first field as a word.
-fn first_word<'a>(fields: Fields<'a>) -> Option<(Word, Fields<'a>)>
-    ensures { option_map (λ x. (x.0, x.1)) result ≡ word_at fields.entry }
-{
-    let (name, fields) = fields.next()?;
-    Some((word_named(name)?, fields))
-}
-
-/// The word with this name.
-#[tactic(auto, using(crate::proofs::Ascii::steps), unfolding(crate::specs::Script::word_named))]
-fn word_named(name: &[u8]) -> Option<Word>
-    ensures { result ≡ word_named name.now }
-{
-    match ascii(name)? {
-        "add-ksk" => Some(Word::AddKsk),
-        "add-zsk" => Some(Word::AddZsk),
-        "add-csk" => Some(Word::AddCsk),
-        "add-public" => Some(Word::AddPublic),
-        "set-decoupled" => Some(Word::SetDecoupled),
-        "set-present" => Some(Word::SetPresent),
-        "set-signer" => Some(Word::SetSigner),
-        "set-at-parent" => Some(Word::SetAtParent),
-        "set-stale" => Some(Word::SetStale),
-        "set-visible" => Some(Word::SetVisible),
-        "set-ds-visible" => Some(Word::SetDsVisible),
-        "set-rrsig-visible" => Some(Word::SetRrsigVisible),
-        "delete" => Some(Word::Delete),
-        "start" => Some(Word::Start),
-        "report1" => Some(Word::Report1),
-        "wait1" => Some(Word::Wait1),
-        "report2" => Some(Word::Report2),
-        "wait2" => Some(Word::Wait2),
-        "done" => Some(Word::Done),
-        "abort" => Some(Word::Abort),
-        _ => None,
     }
 }
 
@@ -311,7 +274,7 @@ fn call_that_starts<'a>(
         option_map statement_says found ≡ said_after_word Word.Start fields.entry) }
     ensures memory { IfErr result (λ _. IsSome (said_after_word Word.Start fields.entry)) }
 {
-    let Some((rolltype, old, new, moment)) = start(fields) else {
+    let Some((rolltype, old, new, moment)) = start_fields(fields) else {
         return Ok(None);
     };
     Ok(Some(Statement::Start(Start {
@@ -320,4 +283,17 @@ fn call_that_starts<'a>(
         new: new.references(alloc)?,
         moment,
     })))
+}
+
+/// The fields of a start, with lists that are parts of the line.
+fn start_fields<'a>(
+    fields: Fields<'a>,
+) -> Option<(RollType, ReferenceList<'a>, ReferenceList<'a>, UnixTime)>
+    ensures { option_map (λ x. Roll x.0 ∷ References x.1 ∷ References x.2 ∷ Moment x.3 ∷ []) result
+        ≡ values_of (as_roll ∷ as_list ∷ as_list ∷ as_time ∷ []) fields.entry }
+{
+    let (rolltype, fields) = fields.roll()?;
+    let (old, fields) = fields.list()?;
+    let (new, fields) = fields.list()?;
+    Some((rolltype, old, new, fields.last_time()?))
 }

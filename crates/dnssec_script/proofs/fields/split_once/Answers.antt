@@ -3,7 +3,7 @@ use Rattle.std.proofs.Common.{◌+◌, true, false, arith}
 use Rattle.std.proofs.lemmas.List.{take_rest}
 use Rattle.std.proofs.lemmas.Bool.Decides.{nat_tests}
 use Rattle.dnssec_script.proofs.Cuts.{by_place}
-use Rattle.dnssec_script.proofs.cut.split_once.Goals as goal
+use Rattle.dnssec_script.proofs.fields.split_once.Goals as goal
 
 pub returns-then-end-text : goal.returns-then-end-text
 returns-then-end-text c =

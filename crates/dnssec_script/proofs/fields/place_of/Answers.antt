@@ -4,7 +4,7 @@ use Rattle.std.proofs.lemmas.Bool.Decides.{nat_tests}
 use Rattle.std.proofs.lemmas.List.Sums.{position_or_len_is}
 use Rattle.std.proofs.lemmas.Simd.{run_in_chunk_stops}
 use Rattle.dnssec_script.proofs.Cuts.{further}
-use Rattle.dnssec_script.proofs.cut.place_of.Goals as goal
+use Rattle.dnssec_script.proofs.fields.place_of.Goals as goal
 
 pub returns-then-ahead-lt-LANES : goal.returns-then-ahead-lt-LANES
 returns-then-ahead-lt-LANES c =

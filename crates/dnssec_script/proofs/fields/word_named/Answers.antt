@@ -2,7 +2,7 @@
 use Rattle.std.proofs.Common.{◌∙◌, ◌≡◌, None, rules, subst}
 use Rattle.dnssec_script.specs.Script.{word_named}
 use Rattle.dnssec_script.proofs.Ascii.{no_word, unless_word}
-use Rattle.dnssec_script.proofs.statement.word_named.Goals as goal
+use Rattle.dnssec_script.proofs.fields.word_named.Goals as goal
 
 pub returns-in_err-ascii : goal.returns-in_err-ascii
 returns-in_err-ascii c = c.from_residual.ensures ∙ no_word c.args.name.now (search rules)

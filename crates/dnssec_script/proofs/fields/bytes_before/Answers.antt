@@ -4,7 +4,7 @@ use lib.Count.{count_trailing_zeros}
 use lib.Lanes.{chunk}
 use Rattle.std.proofs.lemmas.Simd.{length-chunk, bitmask_splat, leading_from_mask_l}
 use Rattle.std.proofs.lemmas.Simd.{trailing_mask_l}
-use Rattle.dnssec_script.proofs.cut.bytes_before.Goals as goal
+use Rattle.dnssec_script.proofs.fields.bytes_before.Goals as goal
 
 pub returns-then-hits-eq0 : goal.returns-then-hits-eq0
 returns-then-hits-eq0 c =

@@ -1,6 +1,6 @@
 -- Both loops have seen no such byte so far.
 use Rattle.std.proofs.Common.{◌≡◌, ◌≤◌, ◌<◌, ◌-◌, ◌==◌, ℕ, length, false, get_or}
-use Rattle.dnssec_script.proofs.cut.place_of.Given as goal
+use Rattle.dnssec_script.proofs.fields.place_of.Given as goal
 
 abbrev pub invariant-loop-end : goal.invariant-loop-end
 invariant-loop-end l = (l.end ≤ length l.text)
