@@ -1,5 +1,5 @@
--- Which keys a roll changes, what its start has to leave, whether it may change algorithms, and
--- which waits change keys that stay (RFC 6781, section 4.1).
+-- Which keys a roll changes, what its start has to leave and which keys serve for that, whether it
+-- may change algorithms, and which waits change keys that stay (RFC 6781, section 4.1).
 use Rattle.std.specs.Prelude.{Bool, true, false, List, [], ◌∷◌}
 use Rattle.dnssec_key.specs.declared.roll.Half.{Half}
 use Rattle.dnssec_key.specs.declared.roll.Half.TheVariants.{First}
@@ -8,6 +8,9 @@ use Rattle.dnssec_key.specs.declared.roll.Side.TheVariants.{KskSide, ZskSide, Bo
 use Rattle.dnssec_key.specs.declared.roll.Want.{Want}
 use Rattle.dnssec_key.specs.declared.roll.Want.TheVariants.{PresentKsk, KskAtParent, PresentZsk}
 use Rattle.dnssec_key.specs.declared.roll.Want.TheVariants.{PresentKskRole, PresentZskRole}
+use Rattle.dnssec_key.specs.declared.kind.KeyType.{KeyType}
+use Rattle.dnssec_key.specs.State.{Flags, kept_present, kept_at_parent}
+use Rattle.dnssec_key.specs.Key.{ksk, zsk, ksk_role, zsk_role}
 use Rattle.dnssec_key.specs.declared.roll.RollType.{RollType}
 use Rattle.dnssec_key.specs.declared.roll.RollType.TheVariants.{KskRoll, KskDoubleDsRoll, ZskRoll}
 use Rattle.dnssec_key.specs.declared.roll.RollType.TheVariants.{ZskDoubleSignatureRoll, CskRoll}
@@ -30,6 +33,19 @@ wants ZskRoll = PresentZsk ∷ []
 wants ZskDoubleSignatureRoll = PresentZsk ∷ []
 wants CskRoll = PresentKskRole ∷ PresentZskRole ∷ []
 wants AlgorithmRoll = PresentKskRole ∷ PresentZskRole ∷ []
+
+-- the role that a want speaks of passes
+abbrev pub wanted_role : Want → (Flags → Bool) → KeyType → Bool
+wanted_role PresentKsk = ksk
+wanted_role KskAtParent = ksk
+wanted_role PresentZsk = zsk
+wanted_role PresentKskRole = ksk_role
+wanted_role PresentZskRole = zsk_role
+
+-- a key that isn't listed as old serves if it is where it is wanted, and stays
+abbrev pub serves_as_kept : Want → KeyType → Bool
+serves_as_kept KskAtParent = ksk kept_at_parent
+serves_as_kept want = wanted_role want kept_present
 
 -- only an algorithm roll goes from one set of algorithms to another (RFC 6781, section 4.1.4)
 abbrev pub may_change_algorithms : RollType → Bool

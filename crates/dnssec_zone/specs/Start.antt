@@ -19,10 +19,11 @@ pub use Rattle.dnssec_key.specs.declared.roll.Side.TheVariants.{KskSide, ZskSide
 pub use Rattle.dnssec_key.specs.declared.roll.Want.{Want}
 pub use Rattle.dnssec_key.specs.declared.roll.Want.TheVariants.{PresentKsk, KskAtParent, PresentZsk}
 pub use Rattle.dnssec_key.specs.declared.roll.Want.TheVariants.{PresentKskRole, PresentZskRole}
-pub use Rattle.dnssec_key.specs.Sides.{side_of, wants, may_change_algorithms}
+pub use Rattle.dnssec_key.specs.Sides.{side_of, wants, may_change_algorithms, serves_as_kept}
+use Rattle.dnssec_key.specs.Sides.{wanted_role}
 use Rattle.dnssec_key.specs.declared.kind.KeyType.{KeyType}
-use Rattle.dnssec_key.specs.State.{Flags, is_any, is_fresh, kept_present, kept_at_parent}
-use Rattle.dnssec_key.specs.Key.{ksk, zsk, any_key, KeyParts, all_states, ksk_role, zsk_role}
+use Rattle.dnssec_key.specs.State.{is_any, is_fresh}
+use Rattle.dnssec_key.specs.Key.{ksk, zsk, any_key, KeyParts, all_states}
 use Rattle.dnssec_zone.specs.Rolls.{Rolls, phase_of, all_rolls}
 use Rattle.dnssec_zone.specs.Keys.{Keys, some_entry}
 
@@ -114,22 +115,9 @@ algorithm_fault roll at olds news =
 
 -- ---- the keys to go on with
 
--- the role that a want speaks of passes
-abbrev pub wanted_role : Want → (Flags → Bool) → KeyType → Bool
-wanted_role PresentKsk = ksk
-wanted_role KskAtParent = ksk
-wanted_role PresentZsk = zsk
-wanted_role PresentKskRole = ksk_role
-wanted_role PresentZskRole = zsk_role
-
 -- a new key serves as soon as it comes in
 abbrev pub serves_as_new : Want → KeyType → Bool
 serves_as_new want = wanted_role want is_any
-
--- a key that isn't listed as old serves if it is where it is wanted, and stays
-abbrev pub serves_as_kept : Want → KeyType → Bool
-serves_as_kept KskAtParent = ksk kept_at_parent
-serves_as_kept want = wanted_role want kept_present
 
 -- a listed key passes
 abbrev pub some_listed : (KeyType → Bool) → (List ℕ → Option KeyParts) → List (List ℕ) → Bool

@@ -8,8 +8,7 @@ ghost use Rattle.std.specs.HashMap as hash;
 ghost use Rattle.dnssec_base.specs.declared.error.Error.TheVariants.{OutOfMemory};
 ghost use Rattle.dnssec_key.specs.Setters.{setting_of, set_by};
 ghost use Rattle.dnssec_key.specs.Inner.TagIndex.{has};
-ghost use Rattle.dnssec_zone.specs.Inner.Counts.{CountsAgree, count_after, count_of, counts_after};
-ghost use Rattle.dnssec_zone.specs.Inner.Counts.{count_in};
+ghost use Rattle.dnssec_zone.specs.Inner.Counts.{CountsAgree, count_in};
 ghost use Rattle.dnssec_zone.specs.Inner.Counts.{end_moves_kept, moves_counts, no_counts, with_key};
 ghost use Rattle.dnssec_zone.specs.Inner.Counts.{without_key};
 ghost use Rattle.dnssec_zone.specs.Inner.KeyMark.{marked};
@@ -21,97 +20,13 @@ ghost use Rattle.dnssec_zone.specs.Refusals.{Answers, reference_refusal};
 use crate::mark::KeyMark;
 use crate::wait_end::{KeyMap, Waits};
 use dnssec_key::{
-    Error, Half, Key, KeyType, PhaseEnd, RollType, Setting, TagIndex, Want, is_kept_at_parent,
-    is_kept_present, mark_new, mark_old, wait_moves_kept,
+    Counting, Counts, Error, Half, Key, KeyType, PhaseEnd, RollType, Setting, TagIndex, mark_new,
+    mark_old, wait_moves_kept,
 };
 use std::alloc::Global;
 
 /// Up to this many keys we read each key's tag; more keys have an index of their tags.
 const KEYS_WITHOUT_INDEX: usize = 16;
-
-/// For each want, how many keys meet it in their state, whether a start lists them as old or not.
-#[derive(Clone, Copy)]
-pub(crate) struct Counts {
-    present_ksk: usize,
-    ksk_at_parent: usize,
-    present_zsk: usize,
-    present_ksk_role: usize,
-    present_zsk_role: usize,
-}
-
-/// Whether a key comes into the counts, or goes out of them.
-#[derive(Clone, Copy)]
-pub(crate) enum Counting {
-    OneMore,
-    OneLess,
-}
-
-impl Counting {
-    /// Changes a count, if the key serves.
-    fn change(self, count: &mut usize, serves: bool)
-        ensures { count.new ≡ count_after serves self count.old }
-    {
-        if serves {
-            *count = match self {
-                Counting::OneMore => count.saturating_add(1),
-                Counting::OneLess => count.saturating_sub(1),
-            };
-        }
-    }
-}
-
-impl Counts {
-    /// The counts of no keys.
-    pub(crate) fn none() -> Counts
-        ensures { result ≡ no_counts }
-    {
-        Counts {
-            present_ksk: 0,
-            ksk_at_parent: 0,
-            present_zsk: 0,
-            present_ksk_role: 0,
-            present_zsk_role: 0,
-        }
-    }
-
-    /// How many keys meet a want.
-    pub(crate) fn of(&self, want: Want) -> usize
-        ensures { result ≡ count_of self.now want }
-    {
-        match want {
-            Want::PresentKsk => self.present_ksk,
-            Want::KskAtParent => self.ksk_at_parent,
-            Want::PresentZsk => self.present_zsk,
-            Want::PresentKskRole => self.present_ksk_role,
-            Want::PresentZskRole => self.present_zsk_role,
-        }
-    }
-
-    /// Counts a key, or counts it no longer.
-    pub(crate) fn count(&mut self, keytype: &KeyType, counting: Counting)
-        ensures { self.new ≡ counts_after counting keytype.now self.old }
-    {
-        match *keytype {
-            KeyType::Ksk(ksk) => {
-                let present = is_kept_present(Some(ksk));
-                let at_parent = is_kept_at_parent(Some(ksk));
-                counting.change(&mut self.present_ksk, present);
-                counting.change(&mut self.present_ksk_role, present);
-                counting.change(&mut self.ksk_at_parent, at_parent);
-            }
-            KeyType::Zsk(zsk) => {
-                let present = is_kept_present(Some(zsk));
-                counting.change(&mut self.present_zsk, present);
-                counting.change(&mut self.present_zsk_role, present);
-            }
-            KeyType::Csk(ksk, zsk) => {
-                counting.change(&mut self.present_ksk_role, is_kept_present(Some(ksk)));
-                counting.change(&mut self.present_zsk_role, is_kept_present(Some(zsk)));
-            }
-            KeyType::Include(_) => {}
-        }
-    }
-}
 
 /// Whether a setter may change the counts. None of them asks whether a key signs.
 fn moves_counts(setting: &Setting) -> bool
