@@ -5,15 +5,16 @@ ghost use Rattle.std.specs.Prelude.{◌≡◌, false};
 ghost use Rattle.std.specs.Option.{option_map_or};
 ghost use Rattle.dnssec_key.specs.RollTable.{at_roles, comes_in_signing, leaves_dnskey};
 ghost use Rattle.dnssec_key.specs.RollTable.{half_of, after_end};
-ghost use Rattle.dnssec_key.specs.RollTable.{new_at_start, old_at_start, new_at_early_end};
+ghost use Rattle.dnssec_key.specs.RollTable.{key_by, old_at_start, new_at_early_end};
 ghost use Rattle.dnssec_key.specs.RollTable.{old_at_early_end};
 ghost use Rattle.dnssec_key.specs.Setters.{setting_of, set_by};
 ghost use Rattle.dnssec_key.specs.Stamping.{stamps_after};
 ghost use Rattle.dnssec_key.specs.Inner.Columns.{test_of, keys_of, move_of, change_of, writes_of};
+ghost use Rattle.dnssec_key.specs.Inner.Columns.{column_of};
 
 use crate::column::KeyMove::{AtEachRole, AtEachState, AtRoles};
 use crate::column::RoleMove::{SetAtParent, SetPresent, SetSigner, SetStale, Stays, TurnsOld};
-use crate::column::{KeyMove, KeyTest, RoleMove, RoleTest};
+use crate::column::{Column, KeyMove, KeyTest, RoleMove, RoleTest};
 use crate::key::Key;
 use crate::kind::KeyType;
 use crate::roll::{Half, PhaseEnd, RollType};
@@ -251,11 +252,11 @@ pub fn mark_old(key: &mut Key)
     AtEachRole(TurnsOld).at(&mut key.keytype);
 }
 
-/// A start lists the key as new.
-pub fn mark_new(key: &mut Key, roll: RollType, now: UnixTime)
-    ensures { key.new ≡ new_at_start roll now key.old }
+/// A start of the roll with this column lists the key as new.
+pub fn mark_new(key: &mut Key, column: &Column, now: UnixTime)
+    ensures { key.new
+        ≡ key_by (column_of column.now).comes (column_of column.now).writes now key.old }
 {
-    let column = roll.column();
     write_stamps(column.writes, &key.keytype, now, &mut key.timestamps);
     column.comes.at(&mut key.keytype);
 }

@@ -1,11 +1,13 @@
-//! Keys.
+//! Keys, and how many of them serve for what a start wants.
 ghost use Rattle.std.specs.Prelude.{◌≡◌, IfOk, IsOkUnless, string_bytes};
 ghost use Rattle.std.specs.Option.{option_map};
 ghost use Rattle.dnssec_key.specs.State.{is_stale, is_fresh, is_kept};
 ghost use Rattle.dnssec_key.specs.Key.{all_states, new_key};
+ghost use Rattle.dnssec_key.specs.Inner.Counts.{count_after, count_of, counts_after, no_counts};
 ghost use Rattle.dnssec_base.specs.declared.error.Error.TheVariants.{OutOfMemory};
 
 use crate::kind::KeyType;
+use crate::roll::Want;
 use crate::state::FRESH;
 use dnssec_base::{Error, KeyTimestamps, SecurityAlgorithm, UnixTime, new_stamps};
 use std::alloc::AllocError;
@@ -162,6 +164,91 @@ impl Key {
         match self.keytype {
             KeyType::Ksk(state) | KeyType::Zsk(state) | KeyType::Include(state) => !state.old,
             KeyType::Csk(ksk, zsk) => !ksk.old && !zsk.old,
+        }
+    }
+}
+
+/// For each want, how many keys meet it by the states of their roles, whether a start lists them as
+/// old or not.
+#[derive(Clone, Copy)]
+pub struct Counts {
+    present_ksk: usize,
+    ksk_at_parent: usize,
+    present_zsk: usize,
+    present_ksk_role: usize,
+    present_zsk_role: usize,
+}
+
+/// Whether a key comes into the counts, or goes out of them.
+#[derive(Clone, Copy)]
+pub enum Counting {
+    OneMore,
+    OneLess,
+}
+
+impl Counting {
+    /// Changes a count, if the key serves.
+    fn change(self, count: &mut usize, serves: bool)
+        ensures { count.new ≡ count_after serves self count.old }
+    {
+        if serves {
+            *count = match self {
+                Counting::OneMore => count.saturating_add(1),
+                Counting::OneLess => count.saturating_sub(1),
+            };
+        }
+    }
+}
+
+impl Counts {
+    /// The counts of no keys.
+    pub fn none() -> Counts
+        ensures { result ≡ no_counts }
+    {
+        Counts {
+            present_ksk: 0,
+            ksk_at_parent: 0,
+            present_zsk: 0,
+            present_ksk_role: 0,
+            present_zsk_role: 0,
+        }
+    }
+
+    /// How many keys meet a want.
+    pub fn of(&self, want: Want) -> usize
+        ensures { result ≡ count_of self.now want }
+    {
+        match want {
+            Want::PresentKsk => self.present_ksk,
+            Want::KskAtParent => self.ksk_at_parent,
+            Want::PresentZsk => self.present_zsk,
+            Want::PresentKskRole => self.present_ksk_role,
+            Want::PresentZskRole => self.present_zsk_role,
+        }
+    }
+
+    /// Counts a key, or counts it no longer.
+    pub fn count(&mut self, keytype: &KeyType, counting: Counting)
+        ensures { self.new ≡ counts_after counting keytype.now self.old }
+    {
+        match *keytype {
+            KeyType::Ksk(ksk) => {
+                let present = !ksk.old && ksk.present;
+                let at_parent = !ksk.old && ksk.at_parent;
+                counting.change(&mut self.present_ksk, present);
+                counting.change(&mut self.present_ksk_role, present);
+                counting.change(&mut self.ksk_at_parent, at_parent);
+            }
+            KeyType::Zsk(zsk) => {
+                let present = !zsk.old && zsk.present;
+                counting.change(&mut self.present_zsk, present);
+                counting.change(&mut self.present_zsk_role, present);
+            }
+            KeyType::Csk(ksk, zsk) => {
+                counting.change(&mut self.present_ksk_role, !ksk.old && ksk.present);
+                counting.change(&mut self.present_zsk_role, !zsk.old && zsk.present);
+            }
+            KeyType::Include(_) => {}
         }
     }
 }

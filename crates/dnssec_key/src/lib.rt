@@ -27,9 +27,9 @@ pub use dnssec_base::{
 pub use facts_for_proofs::{
     default_states_are_unused, equal_kinds_are_one, equal_phases_are_one, equal_states_are_one,
 };
-pub use key::{Key, new_key};
+pub use key::{Counting, Counts, Key, new_key};
 pub use kind::KeyType;
 pub use roll::{Action, Half, PhaseEnd, RollState, RollType, Side, Want};
 pub use setting::Setting;
-pub use state::{Available, Counting, Counts, KeyState, is_kept_at_parent, is_kept_present};
+pub use state::{Available, KeyState, is_kept_at_parent, is_kept_present};
 pub use table::{roll_name, side_of, stamp_read, wait_moves_kept};

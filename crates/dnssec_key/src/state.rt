@@ -1,14 +1,10 @@
-//! The state of a key in one of its roles, and how many keys there are with states that a start
-//! wants.
+//! The state of a key in one of its roles.
 ghost use Rattle.std.specs.Prelude.{◌≡◌, Some, false};
 ghost use Rattle.std.specs.Option.{option_map_or};
 ghost use Rattle.dnssec_key.specs.State.{is_stale, kept_present, kept_at_parent};
 ghost use Rattle.dnssec_key.specs.Key.{is_available, new_state};
 ghost use Rattle.dnssec_key.specs.Texts.{ending, state_text};
-ghost use Rattle.dnssec_key.specs.Inner.Counts.{count_after, count_of, counts_after, no_counts};
 
-use crate::kind::KeyType;
-use crate::roll::Want;
 use std::fmt;
 use std::marker::Model;
 
@@ -124,91 +120,6 @@ pub fn is_kept_at_parent(role: Option<KeyState>) -> bool
     ensures { result ≡ option_map_or kept_at_parent role false }
 {
     role.is_some_and(|state| !state.old && state.at_parent)
-}
-
-/// For each want, how many keys meet it by the states of their roles, whether a start lists them as
-/// old or not.
-#[derive(Clone, Copy)]
-pub struct Counts {
-    present_ksk: usize,
-    ksk_at_parent: usize,
-    present_zsk: usize,
-    present_ksk_role: usize,
-    present_zsk_role: usize,
-}
-
-/// Whether a key comes into the counts, or goes out of them.
-#[derive(Clone, Copy)]
-pub enum Counting {
-    OneMore,
-    OneLess,
-}
-
-impl Counting {
-    /// Changes a count, if the key serves.
-    fn change(self, count: &mut usize, serves: bool)
-        ensures { count.new ≡ count_after serves self count.old }
-    {
-        if serves {
-            *count = match self {
-                Counting::OneMore => count.saturating_add(1),
-                Counting::OneLess => count.saturating_sub(1),
-            };
-        }
-    }
-}
-
-impl Counts {
-    /// The counts of no keys.
-    pub fn none() -> Counts
-        ensures { result ≡ no_counts }
-    {
-        Counts {
-            present_ksk: 0,
-            ksk_at_parent: 0,
-            present_zsk: 0,
-            present_ksk_role: 0,
-            present_zsk_role: 0,
-        }
-    }
-
-    /// How many keys meet a want.
-    pub fn of(&self, want: Want) -> usize
-        ensures { result ≡ count_of self.now want }
-    {
-        match want {
-            Want::PresentKsk => self.present_ksk,
-            Want::KskAtParent => self.ksk_at_parent,
-            Want::PresentZsk => self.present_zsk,
-            Want::PresentKskRole => self.present_ksk_role,
-            Want::PresentZskRole => self.present_zsk_role,
-        }
-    }
-
-    /// Counts a key, or counts it no longer.
-    pub fn count(&mut self, keytype: &KeyType, counting: Counting)
-        ensures { self.new ≡ counts_after counting keytype.now self.old }
-    {
-        match *keytype {
-            KeyType::Ksk(ksk) => {
-                let present = is_kept_present(Some(ksk));
-                let at_parent = is_kept_at_parent(Some(ksk));
-                counting.change(&mut self.present_ksk, present);
-                counting.change(&mut self.present_ksk_role, present);
-                counting.change(&mut self.ksk_at_parent, at_parent);
-            }
-            KeyType::Zsk(zsk) => {
-                let present = is_kept_present(Some(zsk));
-                counting.change(&mut self.present_zsk, present);
-                counting.change(&mut self.present_zsk_role, present);
-            }
-            KeyType::Csk(ksk, zsk) => {
-                counting.change(&mut self.present_ksk_role, is_kept_present(Some(ksk)));
-                counting.change(&mut self.present_zsk_role, is_kept_present(Some(zsk)));
-            }
-            KeyType::Include(_) => {}
-        }
-    }
 }
 
 impl fmt::Display for KeyState {

@@ -234,10 +234,11 @@ impl KeySet {
         self.rolls.check_conflict(rolltype)?;
         let of_old = self.keys.check_old(rolltype, old)?;
         let of_new = self.keys.check_new(rolltype, old, new)?;
-        if !may_go_over(rolltype, &of_old, &of_new.algorithms) {
+        let column = rolltype.column();
+        if !may_go_over(column, &of_old, &of_new.algorithms) {
             return Err(Error::AlgorithmSetsMismatch);
         }
-        self.keys.check_suitability(rolltype, old, &of_new)
+        self.keys.check_suitability(column.wants, old, &of_new)
     }
 
     /// A report of the first or the second half.

@@ -4,7 +4,6 @@ ghost use Rattle.std.specs.Duration.{as_nanos};
 ghost use Rattle.dnssec_zone.specs.Rolls.{phase_of};
 ghost use Rattle.dnssec_keyset.specs.Step.{AnswersWait, wait_clearance};
 ghost use Rattle.dnssec_keyset.specs.WaitEnd.{EndsAt, HasNoWait, SaysEnd};
-ghost use Rattle.dnssec_zone.specs.Wait.{IsOverFrom, LacksStamp};
 
 use crate::set::KeySet;
 use dnssec_key::{Error, Half, RollState, RollType, UnixTime};
@@ -39,16 +38,6 @@ fn moment_of(nanos: u128) -> Option<UnixTime>
 }
 
 impl KeySet {
-    /// The nanosecond since 1970 from which a wait of `ttl` seconds is over, or `None` if a stamp
-    /// is missing.
-    fn over_from(&self, rolltype: RollType, half: Half, ttl: u32) -> Option<u128>
-        ensures over { IfSome result (λ end.
-            IsOverFrom rolltype half ttl self.now.keys end) }
-        ensures missing { IfNone result (LacksStamp rolltype half ttl self.now.keys) }
-    {
-        self.keys.over_from(rolltype, half, ttl)
-    }
-
     /// Whether a wait is over. It is refused in another phase, then for a missing stamp, then if it
     /// is early. What it finds out is kept, so that the next call of this wait needs no walk.
     pub(crate) fn check_wait(
@@ -81,8 +70,8 @@ impl KeySet {
         ensures none { IfNone result (HasNoWait rolltype self.now) }
     {
         match self.rolls.phase_of(rolltype) {
-            Some(RollState::CacheExpire1(ttl)) => self.over_from(rolltype, Half::First, ttl),
-            Some(RollState::CacheExpire2(ttl)) => self.over_from(rolltype, Half::Second, ttl),
+            Some(RollState::CacheExpire1(ttl)) => self.keys.over_from(rolltype, Half::First, ttl),
+            Some(RollState::CacheExpire2(ttl)) => self.keys.over_from(rolltype, Half::Second, ttl),
             Some(RollState::Propagation1) => None,
             Some(RollState::Propagation2) => None,
             Some(RollState::Done) => None,

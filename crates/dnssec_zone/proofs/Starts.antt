@@ -1,6 +1,6 @@
 -- What the check of a start cites: the keys to go on with, and the algorithms of its two lists.
 use Rattle.std.proofs.Common.{◌≡◌, ℕ, Bool, List, None, Ok, ap, sym, ◌∙◌, arith, ◌+◌, ◌*◌, ◌/◌, ◌%◌}
-use Rattle.dnssec_zone.specs.Start.{is_met, some_kept, serves_as_kept, algorithms_within, wants}
+use Rattle.dnssec_zone.specs.Start.{is_met, some_kept, serves_as_kept, algorithms_within}
 use Rattle.std.proofs.Common.{◌<◌, ◌^◌, true, false, [], ◌∷◌, length, get_or, refl}
 use Rattle.std.proofs.{lemmas.Bool.and_from, lemmas.Bool.and_parts, lemmas.Bool.or_right}
 use Rattle.std.proofs.{lemmas.Bool.Decides.nat_tests, lemmas.List.ext_get_or}
@@ -9,20 +9,19 @@ use Rattle.std.specs.{Prelude.Option, Prelude.◌&&◌, Prelude.◌||◌, Prelud
 use Rattle.std.specs.{FinMap.get, Int.bit_at, Option.option_map_or, Str.bytes_eq}
 use Rattle.std.specs.{Cmp.Lexicographic.bytes_decides, Cmp.both_ways}
 use Rattle.dnssec_base.specs.declared.error.Error.{Error}
-use Rattle.dnssec_key.specs.{declared.roll.RollType.RollType, Key.KeyParts, Inner.Bits.is_set}
+use Rattle.dnssec_key.specs.{Key.KeyParts, Inner.Bits.is_set}
 use Rattle.dnssec_zone.specs.{Start.Want, Start.has_algorithm, Inner.NewKeys.AreOf}
 use Rattle.dnssec_zone.specs.{Inner.NewKeys.some_serves, declared.check.NewKeys.NewKeys, Keys.Keys}
 use Rattle.dnssec_zone.specs.{Refusals.AnswersExactly}
 
 -- all that a start has to leave is there, by the kinds of the new keys and a walk over what the
 -- code asks for
-pub all_met-is : (roll : RollType) (keys : Keys) (olds news : List (List ℕ)) (new : NewKeys)
-    → AreOf (get keys) news new → (ws : List Want) → ws ≡ wants roll → (met : Bool)
+pub all_met-is : (keys : Keys) (olds news : List (List ℕ)) (new : NewKeys)
+    → AreOf (get keys) news new → (ws : List Want) → (met : Bool)
     → met ≡ list_all (λ w. some_serves new w || some_kept (serves_as_kept w) keys olds) ws
-    → list_all (is_met keys olds news) (wants roll) ≡ met
-all_met-is roll keys olds news new of ws asked met is =
-    (λ i. list_all (λ w. sym (of w) i || some_kept (serves_as_kept w) keys olds) (sym asked i))
-    ∙ sym is
+    → list_all (is_met keys olds news) ws ≡ met
+all_met-is keys olds news new of ws met is =
+    (λ i. list_all (λ w. sym (of w) i || some_kept (serves_as_kept w) keys olds) ws) ∙ sym is
 
 -- an accepted answer has no cause
 pub passed : {T : Type 0} (o : Option Error) (x : T) → AnswersExactly o (Ok x) → o ≡ None

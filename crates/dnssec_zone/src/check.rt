@@ -1,22 +1,24 @@
 //! Why a start is refused for its keys. Nothing is changed here.
 ghost use Rattle.std.specs.Prelude.{◌≡◌, ℕ, Bool, List, [], false, not, ◌&&◌, ◌||◌, length, None};
 ghost use Rattle.std.specs.Prelude.{Some, Option, IfOk, IfErr, OnOk, nat_eq};
-ghost use Rattle.std.specs.Option.{option_map_or};
+ghost use Rattle.std.specs.Prelude.{if◌then◌else◌};
+ghost use Rattle.std.specs.{List.list_all, Option.option_map_or};
 ghost use Rattle.std.specs.Str.{bytes_eq};
 ghost use Rattle.std.specs.FinMap as map;
 ghost use Rattle.dnssec_key.specs.{Inner.Bits.is_set, Key.KeyParts};
 ghost use Rattle.dnssec_zone.specs.Inner.Counts.{count_in, listed_passes};
 ghost use Rattle.dnssec_zone.specs.Inner.NewKeys.{AreOf, freshness_fault, some_serves};
 ghost use Rattle.dnssec_zone.specs.Inner.Tags.{HasListed};
-ghost use Rattle.dnssec_zone.specs.Start.{algorithms_within, may_change_algorithms};
+ghost use Rattle.dnssec_zone.specs.Start.{algorithms_within};
 ghost use Rattle.dnssec_zone.specs.Start.{texts, is_listed, old_entry_fault, old_fault};
 ghost use Rattle.dnssec_zone.specs.Start.{new_fault, has_algorithm, serves_as_new, serves_as_kept};
-ghost use Rattle.dnssec_zone.specs.Start.{some_kept, suitability_fault, Want as AnyWant};
+ghost use Rattle.dnssec_zone.specs.Start.{some_kept, is_met, Want as AnyWant};
+ghost use Rattle.dnssec_base.specs.declared.error.Error.TheVariants.{NoSuitableKeyPresent};
 ghost use Rattle.dnssec_zone.specs.Refusals.{AnswersExactly};
 
 use crate::keys::Keys;
 use dnssec_key::{
-    AlgorithmSet, Error, Key, KeyType, RollType, Side, TagSet, Want, is_kept_at_parent,
+    AlgorithmSet, Column, Error, Key, KeyType, RollType, Side, TagSet, Want, is_kept_at_parent,
     is_kept_present, is_set, set,
 };
 
@@ -90,16 +92,16 @@ fn serves_as_kept(want: Want, keytype: KeyType) -> bool
     }
 }
 
-/// Whether a roll may go from keys of some algorithms to keys of others.
-pub fn may_go_over(roll: RollType, old: &AlgorithmSet, new: &AlgorithmSet) -> bool
-    ensures same { result ≡ (may_change_algorithms roll || bytes_eq old.now new.now) }
+/// Whether the roll of this column may go from keys of some algorithms to keys of others.
+pub fn may_go_over(column: &Column, old: &AlgorithmSet, new: &AlgorithmSet) -> bool
+    ensures same { result ≡ (column.now.changes_algorithms || bytes_eq old.now new.now) }
     ensures within { (at : List ℕ → Option KeyParts) (olds news : List (List ℕ))
         → ((a : ℕ) → is_set old.now a ≡ has_algorithm at olds a)
         → ((a : ℕ) → is_set new.now a ≡ has_algorithm at news a)
-        → result ≡ (may_change_algorithms roll
+        → result ≡ (column.now.changes_algorithms
         || (algorithms_within at olds news && algorithms_within at news olds)) }
 {
-    roll.column().changes_algorithms || *old == *new
+    column.changes_algorithms || *old == *new
 }
 
 /// Whether a reference stands in a list.
@@ -207,14 +209,14 @@ impl Keys {
     /// key that isn't listed as old.
     pub fn check_suitability(
         &self,
-        roll: RollType,
+        wants: &[Want],
         old: &[&str],
         new: &NewKeys,
     ) -> Result<(), Error>
         ensures { (news : List (List ℕ)) → AreOf (map.get self.now) news new.now
-            → AnswersExactly (suitability_fault roll self.now (texts old.now) news) result }
+            → AnswersExactly (if list_all (is_met self.now (texts old.now) news) wants.now
+            then None else Some NoSuitableKeyPresent) result }
     {
-        let wants = roll.column().wants;
         if wants
             .iter()
             .all(|want| new.serve(*want) || self.has_kept(*want, old))

@@ -168,7 +168,7 @@ impl Derived {
         self.counts.count(&key.keytype(), Counting::OneLess);
         match *mark {
             KeyMark::AsOld => mark_old(key),
-            KeyMark::AsNew(roll, now) => mark_new(key, roll, now),
+            KeyMark::AsNew(roll, now) => mark_new(key, roll.column(), now),
         }
         self.counts.count(&key.keytype(), Counting::OneMore);
     }

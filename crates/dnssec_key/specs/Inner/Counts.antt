@@ -1,9 +1,9 @@
 -- How many keys meet each want, as it is kept while keys come in and go out.
 use Rattle.std.specs.Prelude.{ℕ, ◌+◌, ◌-◌, min, Bool, true, false}
 use Rattle.dnssec_key.specs.declared.kind.KeyType.{KeyType}
-use Rattle.dnssec_key.specs.declared.state.Counts.{Counts}
-use Rattle.dnssec_key.specs.declared.state.Counting.{Counting}
-use Rattle.dnssec_key.specs.declared.state.Counting.TheVariants.{OneMore, OneLess}
+use Rattle.dnssec_key.specs.declared.key.Counts.{Counts}
+use Rattle.dnssec_key.specs.declared.key.Counting.{Counting}
+use Rattle.dnssec_key.specs.declared.key.Counting.TheVariants.{OneMore, OneLess}
 use Rattle.dnssec_key.specs.declared.roll.Want.{Want}
 use Rattle.dnssec_key.specs.declared.roll.Want.TheVariants.{PresentKsk, KskAtParent, PresentZsk}
 use Rattle.dnssec_key.specs.declared.roll.Want.TheVariants.{PresentKskRole, PresentZskRole}

@@ -9,7 +9,7 @@ use Rattle.dnssec_key.specs.declared.roll.{Half.Half, RollType.RollType}
 use Rattle.dnssec_key.specs.{Key.KeyParts, Sides.wait_moves_kept}
 use Rattle.dnssec_key.specs.Setters.{Setting, Present, AtParent, Stale}
 use Rattle.dnssec_zone.specs.Keys.{Keys}
-use Rattle.dnssec_key.specs.declared.state.Counts.{Counts}
+use Rattle.dnssec_key.specs.declared.key.Counts.{Counts}
 pub use Rattle.dnssec_key.specs.Inner.Counts.{count_of, no_counts, with_key, without_key}
 use Rattle.dnssec_zone.specs.Start.{is_listed, serves_as_kept, Want}
 

@@ -10,4 +10,4 @@ returns-else-column-clause-within c = λ at olds news of_olds of_news.
     c.eq.ensures
     ∙ same_algorithms at olds news c.args.old.now c.args.new.now (search rules)
     (λ i h. search rules) (λ i h. search rules) of_olds of_news
-    ∙ ap (λ may. may || both) (sym c.if-column.false ∙ c.column.ensures.algorithms)
+    ∙ ap (λ may. may || both) (sym c.if-column.false)

@@ -8,13 +8,14 @@ pub returns-in-Some-CacheExpire1-clause-none : goal.returns-in-Some-CacheExpire1
 returns-in-Some-CacheExpire1-clause-none c =
     no-end _ c.self.inside _ c.self.view_is First c.in-Some-CacheExpire1.ttl
     (sym c.in-Some-CacheExpire1.ensures ∙ ap Some c.in-Some-CacheExpire1.field-0-is)
-    c.over_from.result c.over_from.ensures.missing
+    c.over_from.result (rw (← c.self.view_is) c.over_from.ensures.missing)
 
 pub returns-in-Some-CacheExpire2-clause-none : goal.returns-in-Some-CacheExpire2-clause-none
 returns-in-Some-CacheExpire2-clause-none c =
     no-end _ c.self.inside _ c.self.view_is Second c.in-Some-CacheExpire2.ttl
     (sym c.in-Some-CacheExpire2.ensures ∙ ap Some c.in-Some-CacheExpire2.field-0-is)
-    c.over_from-in-Some-CacheExpire2.result c.over_from-in-Some-CacheExpire2.ensures.missing
+    c.over_from-in-Some-CacheExpire2.result
+    (rw (← c.self.view_is) c.over_from-in-Some-CacheExpire2.ensures.missing)
 
 pub returns-in-Some-Propagation1-clause-none : goal.returns-in-Some-Propagation1-clause-none
 returns-in-Some-Propagation1-clause-none c =
