@@ -94,22 +94,9 @@ pub fn read_line<'a>(alloc: Global, line: &'a [u8]) -> Result<Option<Statement<'
     ensures read { IfOk result (λ found. option_map statement_says found ≡ says line.now) }
     ensures memory { IfErr result (λ _. IsSome (says line.now)) }
 {
-    match Fields::of(line).word() {
-        Some((word, fields)) => call_of_word(alloc, word, fields),
-        None => Ok(None),
-    }
-}
-
-/// The call of a word, made from the fields after it.
-fn call_of_word<'a>(
-    alloc: Global,
-    word: Word,
-    fields: Fields<'a>,
-) -> Result<Option<Statement<'a>>, AllocError>
-    ensures read { IfOk result (λ found.
-        option_map statement_says found ≡ said_after_word word fields.entry) }
-    ensures memory { IfErr result (λ _. IsSome (said_after_word word fields.entry)) }
-{
+    let Some((word, fields)) = Fields::of(line).word() else {
+        return Ok(None);
+    };
     match word {
         Word::AddKsk | Word::AddZsk | Word::AddCsk | Word::AddPublic => {
             call_that_adds(alloc, word, fields)
