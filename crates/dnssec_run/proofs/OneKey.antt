@@ -20,8 +20,9 @@ use Rattle.dnssec_zone.proofs.Quantified.{first, second}
 use Rattle.dnssec_run.specs.declared.record.{Published.Published, PublishedKey.PublishedKey}
 use Rattle.dnssec_run.specs.Published.{Id, World, id_of, keys_where}
 use Rattle.dnssec_run.specs.Recorder.{Agrees, ChangesAt, HasSameKeys, IsAscending, PlacesKey}
-use Rattle.dnssec_run.specs.Recorder.{SetsPlace, passing, position_after, position_in}
-use Rattle.dnssec_run.specs.Recorder.{position_shown}
+use Rattle.dnssec_run.specs.Recorder.{SaysShownAt, SetsPlace, at_list, passing, position_after}
+use Rattle.dnssec_run.specs.Recorder.{position_in, position_shown, shows}
+use Rattle.dnssec_run.specs.declared.lists.{ByList.ByList, Shown.Shown}
 use Rattle.dnssec_run.proofs.Positions.{equal-keys, order, shown-ascending, shown-by, shown-found}
 
 abbrev reference : PublishedKey → List ℕ
@@ -280,14 +281,26 @@ some-there : (passes : KeyType → Bool) (o : Option KeyParts) (at : Option ℕ)
     → at ≡ option_map (λ (k : KeyParts). n) o → passing passes o ≡ true → is_some at ≡ true
 some-there passes o at n is shown = grind arith
 
+-- the lists that are touched show the key if these lists say so: by the call, or by the key itself
+pub shown-there : (says : Option Bool) (touched there : ByList) (r : List ℕ) (set : KeySetParts)
+    → SaysShownAt says touched r set
+    → ((b : Bool) → says ≡ Some b → (list : Shown) → at_list there list ≡ b)
+    → (says ≡ None → (list : Shown) → at_list there list ≡ passing (shows list) (get set.keys r))
+    → (list : Shown) → at_list touched list ≡ true
+    → passing (shows list) (get set.keys r) ≡ at_list there list
+shown-there None touched there r set says said looked list t = sym (looked refl list)
+shown-there (Some b) touched there r set says said looked list t =
+    says b refl list t ∙ sym (said b refl list)
+
 -- a set that is touched has the key at its place, and another stays
 pub renewed : (passes : KeyType → Bool) (touched : Bool) (v w : World) (r : List ℕ)
-    (set : KeySetParts) (at : List ℕ → Option ℕ) (old new : List Id) (key : Option KeyParts)
-    → key ≡ get set.keys r → (touched ≡ true → PlacesKey at r (passing passes key) old new)
+    (set : KeySetParts) (at : List ℕ → Option ℕ) (old new : List Id) (shown : Bool)
+    → (touched ≡ true → passing passes (get set.keys r) ≡ shown)
+    → (touched ≡ true → PlacesKey at r shown old new)
     → (touched ≡ false → new ≡ old) → old ≡ keys_where passes v → ChangesAt r v w
     → Agrees set at w → (touched ≡ false → keys_where passes w ≡ keys_where passes v)
     → new ≡ keys_where passes w
-renewed passes touched v w r set at old new key found sets left was only agrees leaves =
+renewed passes touched v w r set at old new shown is sets left was only agrees leaves =
     by touched refl
   where
     before : (q : List ℕ) → position_in old q
@@ -299,16 +312,17 @@ renewed passes touched v w r set at old new key found sets left was only agrees 
         (option_map (λ (k : KeyParts). w.added q) (get w.set.keys q))
     here q = rw (agrees.positions q, agrees.same) refl
 
-    added : at r ≡ option_map (λ (k : KeyParts). w.added r) key
-    added = rw found (agrees.positions r ∙ ap (λ (s : KeySetParts).
-        option_map (λ (k : KeyParts). w.added r) (get s.keys r)) (sym agrees.same))
+    added : at r ≡ option_map (λ (k : KeyParts). w.added r) (get set.keys r)
+    added = agrees.positions r ∙ ap (λ (s : KeySetParts).
+        option_map (λ (k : KeyParts). w.added r) (get s.keys r)) (sym agrees.same)
 
     by : (t : Bool) → touched ≡ t → new ≡ keys_where passes w
     by true t =
         let then : SetsPlace r (position_shown passes (get set.keys r) (at r)) old new =
-        subst (λ o. SetsPlace r o old new) (shown-if passes key (at r)
-        ∙ ap (λ o. position_shown passes o (at r)) found) (sets t
-        (rw was (shown-ascending passes v)) (some-there passes key (at r) (w.added r) added)) in
+        subst (λ o. SetsPlace r o old new) (shown-if passes (get set.keys r) (at r))
+        (subst (λ b. PlacesKey at r b old new) (sym (is t)) (sets t)
+        (rw was (shown-ascending passes v))
+        (some-there passes (get set.keys r) (at r) (w.added r) added)) in
         shown-by passes w new then.ascending (λ q. then.found q ∙ published-at passes r q
         (λ q. position_shown passes (get set.keys q) (at q)) (position_in old q)
         (get w.set.keys q) (get v.set.keys q) (w.added q) (before q) (here q) (only.others q))

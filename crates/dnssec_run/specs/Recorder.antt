@@ -14,6 +14,7 @@ use Rattle.std.specs.Ordering.{nat_cmp}
 use Rattle.std.specs.declared.string.String.{String}
 use Rattle.dnssec_key.specs.declared.kind.KeyType.{KeyType}
 use Rattle.dnssec_key.specs.Key.{KeyParts}
+use Rattle.dnssec_key.specs.Setters.{Setting, Present, Signer, AtParent, Stale}
 use Rattle.dnssec_keyset.specs.KeySet.{KeySetParts}
 use Rattle.dnssec_keyset.specs.Step as keyset
 use Rattle.dnssec_run.specs.declared.call.Call.{Call}
@@ -87,6 +88,18 @@ abbrev pub ChangesOnly : Option (List ℕ) → World → World → Type 0
 ChangesOnly None v w = Unit {0}
 ChangesOnly (Some reference) v w = ChangesAt reference v w
 
+-- whether the lists that show a setter's flag show the key after it, if the setting alone says so
+abbrev pub shown_after : Setting → Option Bool
+shown_after (Present value now) = Some value
+shown_after (Signer value) = if value then None else Some false
+shown_after (AtParent value) = Some value
+shown_after Stale = Some false
+shown_after _ = None
+
+abbrev pub shown_by : keyset.Call → Option Bool
+shown_by (keyset.Set reference setting) = shown_after setting
+shown_by _ = None
+
 -- the lists that a call doesn't touch are the same after it
 pub record Leaves (touched : ByList) (v w : World) : Type 0 where
   pub ds : touched.ds ≡ false → keys_where in_ds w ≡ keys_where in_ds v
@@ -126,6 +139,16 @@ pub record SetsPlace (reference : List ℕ) (at : Option ℕ) (old new : List Id
 -- the key is there and passes
 abbrev pub passing : (KeyType → Bool) → Option KeyParts → Bool
 passing passes key = option_map_or (λ (k : KeyParts). passes k.keytype) key false
+
+-- if this says whether the lists that are touched show the key, they do so
+abbrev pub SaysShownAt : Option Bool → ByList → List ℕ → KeySetParts → Type 0
+SaysShownAt says touched reference set = (is_shown : Bool) → says ≡ Some is_shown →
+    (list : Shown) → at_list touched list ≡ true →
+    passing (shows list) (get set.keys reference) ≡ is_shown
+
+abbrev pub SaysShown : Option Bool → ByList → Option (List ℕ) → KeySetParts → Type 0
+SaysShown says touched None set = Unit {0}
+SaysShown says touched (Some reference) set = SaysShownAt says touched reference set
 
 -- a set that is in order has the key at the position of its add if it shows it, and else not; a key
 -- that is shown was added

@@ -5,7 +5,7 @@ ghost use Rattle.dnssec_base.specs.declared.error.Error.TheVariants.{OutOfMemory
 ghost use Rattle.dnssec_keyset.specs.Step.{Step, reply_done, reply_list};
 ghost use Rattle.dnssec_run.specs.Asked.{sets_shown};
 ghost use Rattle.dnssec_run.specs.Recorder.{at_list, put_by, reference_deleted, reference_set};
-ghost use Rattle.dnssec_run.specs.Recorder.{taken_by};
+ghost use Rattle.dnssec_run.specs.Recorder.{shown_by, taken_by};
 ghost use Rattle.dnssec_run.specs.Record.{call_of, mark_of, call_moment, reference_added, reply_of};
 ghost use Rattle.dnssec_run.specs.declared.lists.Shown.{Shown};
 
@@ -139,6 +139,8 @@ pub(crate) struct Meaning<'a> {
     pub(crate) reference_set: Option<&'a str>,
     /// The lists that show what it sets by hand.
     pub(crate) sets_shown: ByList,
+    /// Whether these show the key then, if the call alone says so.
+    pub(crate) is_shown: Option<bool>,
     /// Which key it adds or deletes, if it is accepted.
     pub(crate) change: KeyChange<'a>,
 }
@@ -150,6 +152,7 @@ impl Meaning<'_> {
         mark: Mark::Other,
         reference_set: None,
         sets_shown: ByList::NONE,
+        is_shown: None,
         change: KeyChange::Nothing,
     };
 }
@@ -167,6 +170,7 @@ impl<'a> Call<'a> {
             ≡ reference_set (call_of self.now)) }
         ensures shown { IfOk result (λ means. (list : Shown) →
             at_list means.sets_shown list ≡ sets_shown list (call_of self.now)) }
+        ensures says { IfOk result (λ means. means.is_shown ≡ shown_by (call_of self.now)) }
         ensures put { IfOk result (λ means. put_by means.change
             ≡ reference_added (call_of self.now)) }
         ensures taken { IfOk result (λ means. taken_by means.change
@@ -192,35 +196,39 @@ impl<'a> Call<'a> {
                 reference_set: Some(pubref),
                 ..Meaning::NONE
             }),
-            Call::SetPresent { pubref, now, .. } => Ok(Meaning {
+            Call::SetPresent { pubref, value, now } => Ok(Meaning {
                 moment: Some(*now),
                 reference_set: Some(pubref),
                 sets_shown: ByList {
                     dnskey: true,
                     ..ByList::NONE
                 },
+                is_shown: Some(*value),
                 ..Meaning::NONE
             }),
-            Call::SetSigner { pubref, .. } => Ok(Meaning {
+            Call::SetSigner { pubref, value } => Ok(Meaning {
                 reference_set: Some(pubref),
                 sets_shown: ByList {
                     dnskey_signers: true,
                     zone_signers: true,
                     ..ByList::NONE
                 },
+                is_shown: if *value { None } else { Some(false) },
                 ..Meaning::NONE
             }),
-            Call::SetAtParent { pubref, .. } => Ok(Meaning {
+            Call::SetAtParent { pubref, value } => Ok(Meaning {
                 reference_set: Some(pubref),
                 sets_shown: ByList {
                     ds: true,
                     ..ByList::NONE
                 },
+                is_shown: Some(*value),
                 ..Meaning::NONE
             }),
             Call::SetStale { pubref } => Ok(Meaning {
                 reference_set: Some(pubref),
                 sets_shown: ByList::ALL,
+                is_shown: Some(false),
                 ..Meaning::NONE
             }),
             Call::StartRoll { rolltype, now, .. } | Call::CacheExpired1 { rolltype, now } => {

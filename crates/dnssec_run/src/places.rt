@@ -1,21 +1,23 @@
 //! The places of one key in the sets.
-ghost use Rattle.std.specs.Prelude.{◌≡◌, ◌≢◌, map, IfOk, IfErr, OnOk, true, false, length};
+ghost use Rattle.std.specs.Prelude.{◌≡◌, ◌≢◌, Bool, None, Some, map, IfOk, IfErr, OnOk, true};
+ghost use Rattle.std.specs.Prelude.{false, length};
 ghost use Rattle.std.specs.BTreeMap as tree;
-ghost use Rattle.std.specs.Option.{option_map};
+ghost use Rattle.std.specs.FinMap.{get};
 ghost use Rattle.dnssec_base.specs.declared.error.Error.TheVariants.{OutOfMemory};
 ghost use Rattle.dnssec_run.specs.Frames.{KeepsFrame, KeepsFrames};
 ghost use Rattle.dnssec_run.specs.Published.{IsPublished, World, id_of};
+ghost use Rattle.dnssec_run.specs.declared.lists.Shown.{Shown};
 ghost use Rattle.dnssec_run.specs.Recorder.{Agrees, ChangesAt, HasSameKeys, Leaves};
-ghost use Rattle.dnssec_run.specs.Recorder.{PlacesKey, passing, shows};
+ghost use Rattle.dnssec_run.specs.Recorder.{PlacesKey, SaysShownAt, at_list, passing, shows};
 
 use crate::record::{Frame, Frames, Published, PublishedKey};
 use crate::lists::{ByList, Shown};
-use dnssec_keyset::{Error, Key, KeySet};
+use dnssec_keyset::{Error, KeySet, KeyType};
 use std::alloc::Global;
 use std::collections::BTreeMap;
 
-/// Renews what is published of one key, and says whether that has changed. Notes the frames of the
-/// changes.
+/// Renews what is published of one key, and says whether that has changed. `says` is whether the
+/// sets that are touched show the key, if the call says so. Notes the frames of the changes.
 pub(crate) fn renew_key(
     alloc: Global,
     keyset: &KeySet,
@@ -23,54 +25,63 @@ pub(crate) fn renew_key(
     sets: &mut Published,
     touched: ByList,
     reference: &str,
+    says: Option<bool>,
     frames: &mut Frames,
 ) -> Result<bool, Error>
     ensures kept { IfOk result (λ changed. changed ≡ false → sets.new ≡ sets.old) }
     ensures changed { IfOk result (λ changed. changed ≡ true → ¬ HasSameKeys sets.old sets.new) }
     ensures frames { OnOk result (KeepsFrames frames.new sets.old sets.new) }
     ensures read { OnOk result ((v w : World) → IsPublished sets.old v → Leaves touched v w →
-        ChangesAt reference.now v w → Agrees keyset.now (tree.get_by_text added.now) w →
-        IsPublished sets.new w) }
+        ChangesAt reference.now v w → SaysShownAt says touched reference.now keyset.now →
+        Agrees keyset.now (tree.get_by_text added.now) w → IsPublished sets.new w) }
     ensures err { IfErr result (λ e. e ≡ OutOfMemory) }
 {
-    let key = keyset.keys().get(reference);
+    let shown = lists_with(keyset, reference, says);
     let keys = &mut sets.ds;
     let frame = &mut frames.ds;
-    let list = Shown::Ds;
-    let ds = renew_place(alloc, touched.ds, list, key, added, keys, reference, frame)?;
+    let ds = renew_place(alloc, touched.ds, shown.ds, added, keys, reference, frame)?;
     let keys = &mut sets.dnskey;
     let frame = &mut frames.dnskey;
-    let list = Shown::Dnskey;
-    let dnskey = renew_place(
-        alloc,
-        touched.dnskey,
-        list,
-        key,
-        added,
-        keys,
-        reference,
-        frame,
-    )?;
+    let may = touched.dnskey;
+    let dnskey = renew_place(alloc, may, shown.dnskey, added, keys, reference, frame)?;
     let keys = &mut sets.dnskey_signers;
     let frame = &mut frames.dnskey_signers;
-    let list = Shown::DnskeySigners;
     let may = touched.dnskey_signers;
-    let signers = renew_place(alloc, may, list, key, added, keys, reference, frame)?;
+    let signers = renew_place(alloc, may, shown.dnskey_signers, added, keys, reference, frame)?;
     let keys = &mut sets.zone_signers;
     let frame = &mut frames.zone_signers;
-    let list = Shown::ZoneSigners;
     let may = touched.zone_signers;
-    let zone = renew_place(alloc, may, list, key, added, keys, reference, frame)?;
+    let zone = renew_place(alloc, may, shown.zone_signers, added, keys, reference, frame)?;
     Ok(ds | dnskey | signers | zone)
 }
 
-/// Whether a list shows the key.
-fn is_shown(list: Shown, key: Option<&Key>) -> bool
-    ensures { result ≡ passing (shows list) (option_map (λ k. k.now) key.entry) }
+/// The lists that show a key: all or none if the call says so, and else by the key, which is looked
+/// up.
+fn lists_with(keyset: &KeySet, reference: &str, says: Option<bool>) -> ByList
+    ensures said { (is_shown : Bool) → says ≡ Some is_shown → (list : Shown) →
+        at_list result list ≡ is_shown }
+    ensures looked_up { says ≡ None → (list : Shown) →
+        at_list result list ≡ passing (shows list) (get keyset.now.keys reference.now) }
 {
-    match key {
-        Some(key) => list.shows(key.keytype()),
-        None => false,
+    match says {
+        Some(true) => ByList::ALL,
+        Some(false) => ByList::NONE,
+        None => match keyset.keys().get(reference) {
+            Some(key) => lists_showing(&key.keytype()),
+            None => ByList::NONE,
+        },
+    }
+}
+
+/// The lists that show a key of this kind, in its state.
+fn lists_showing(keytype: &KeyType) -> ByList
+    ensures { (list : Shown) → at_list result list ≡ shows list keytype.now }
+{
+    ByList {
+        ds: Shown::Ds.shows(*keytype),
+        dnskey: Shown::Dnskey.shows(*keytype),
+        dnskey_signers: Shown::DnskeySigners.shows(*keytype),
+        zone_signers: Shown::ZoneSigners.shows(*keytype),
     }
 }
 
@@ -81,8 +92,7 @@ fn is_shown(list: Shown, key: Option<&Key>) -> bool
 fn renew_place(
     alloc: Global,
     is_touched: bool,
-    list: Shown,
-    key: Option<&Key>,
+    is_shown: bool,
     added: &BTreeMap<String, usize>,
     keys: &mut Vec<PublishedKey>,
     reference: &str,
@@ -94,8 +104,7 @@ fn renew_place(
     ensures frame { OnOk result (KeepsFrame frame.new (map id_of keys.old.items)
         (map id_of keys.new.items)) }
     ensures ok { OnOk result (is_touched ≡ true → PlacesKey (tree.get_by_text added.now)
-        reference.now (passing (shows list) (option_map (λ k. k.now) key.entry))
-        (map id_of keys.old.items) (map id_of keys.new.items)) }
+        reference.now is_shown (map id_of keys.old.items) (map id_of keys.new.items)) }
     ensures left { OnOk result (is_touched ≡ false →
         map id_of keys.new.items ≡ map id_of keys.old.items) }
     ensures err { IfErr result (λ e. e ≡ OutOfMemory) }
@@ -104,7 +113,7 @@ fn renew_place(
         *frame = Frame::whole(keys.len());
         return Ok(false);
     }
-    place_key(alloc, is_shown(list, key), added, keys, reference, frame)
+    place_key(alloc, is_shown, added, keys, reference, frame)
 }
 
 /// Puts a key into a list at the position of its add, or takes it out. Says whether the list has

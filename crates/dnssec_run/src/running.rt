@@ -145,6 +145,7 @@ impl Recorder {
             &mut self.published,
             touched,
             meaning.reference_set,
+            meaning.is_shown,
             &mut frames,
         )?;
         Ok(Outcome {

@@ -8,7 +8,7 @@ ghost use Rattle.dnssec_base.specs.declared.error.Error.TheVariants.{OutOfMemory
 ghost use Rattle.dnssec_run.specs.Frames.{KeepsFrames};
 ghost use Rattle.dnssec_run.specs.Published.{IsPublished, World, id_of};
 ghost use Rattle.dnssec_run.specs.Recorder.{Agrees, AreFound, ChangesOnly, HasSameKeys, Leaves};
-ghost use Rattle.dnssec_run.specs.Recorder.{ids_read, shown_once, shows};
+ghost use Rattle.dnssec_run.specs.Recorder.{SaysShown, ids_read, shown_once, shows};
 
 use crate::lists::{ByList, Shown};
 use crate::places::{published_key, renew_key};
@@ -118,8 +118,8 @@ fn key_at<'a>(
 }
 
 /// Renews the sets that a call has touched, and says whether there are any. After a setter it looks
-/// only at the key that was set, and says whether they have changed. Notes the frames of the
-/// changes.
+/// only at the key that was set, and says whether they have changed. `says` is whether these sets
+/// show that key, if the call says so. Notes the frames of the changes.
 #[inline(always)]
 pub(crate) fn renew(
     alloc: Global,
@@ -129,6 +129,7 @@ pub(crate) fn renew(
     sets: &mut Published,
     touched: ByList,
     only: Option<&str>,
+    says: Option<bool>,
     frames: &mut Frames,
 ) -> Result<bool, Error>
     ensures frames { IfOk result (λ changed. changed ≡ true →
@@ -141,6 +142,7 @@ pub(crate) fn renew(
         ¬ HasSameKeys sets.old sets.new) }
     ensures read { OnOk result ((v w : World) → IsPublished sets.old v → Leaves touched v w →
         ChangesOnly (option_map (λ r. r.now) only.entry) v w →
+        SaysShown says touched (option_map (λ r. r.now) only.entry) keyset.now →
         Agrees keyset.now (tree.get_by_text added.now) w → IsPublished sets.new w) }
     ensures err { IfErr result (λ e. e ≡ OutOfMemory) }
 {
@@ -148,7 +150,7 @@ pub(crate) fn renew(
         return Ok(false);
     }
     if let Some(reference) = only {
-        return renew_key(alloc, keyset, added, sets, touched, reference, frames);
+        return renew_key(alloc, keyset, added, sets, touched, reference, says, frames);
     }
     renew_all(alloc, keyset, added, order, sets, touched, frames)?;
     Ok(true)

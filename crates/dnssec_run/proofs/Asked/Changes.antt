@@ -4,13 +4,15 @@ use Rattle.std.proofs.Common.{[], ◌≡◌, ℕ, zero, suc, ◌≤◌, inl, inr
 use Rattle.std.proofs.Common.{arith, Bool, List, length, None, Option, Some, ◌||◌}
 use Rattle.std.proofs.lemmas.Bool.{cases_Bool, or_left, or_right}
 use Rattle.std.proofs.lemmas.Option.{slice_get_within}
-use Rattle.std.specs.{Prelude.slice_get, List.list_any, Option.option_map_or, FinMap.get}
+use Rattle.std.specs.{Prelude.slice_get, List.list_any, Option.option_map, Option.option_map_or}
+use Rattle.std.specs.{FinMap.get}
 use Rattle.std.specs.{Str.bytes_eq, Cmp.Lexicographic.bytes_decides}
-use Rattle.dnssec_key.specs.{declared.roll.Action.Action, Key.KeyParts}
-use Rattle.dnssec_zone.specs.{Lists.listed_by, Start.is_listed}
+use Rattle.dnssec_key.specs.{declared.roll.Action.Action, Key.KeyParts, Setters.Setting}
+use Rattle.dnssec_key.specs.{Setters.set_by}
+use Rattle.dnssec_zone.specs.{Lists.listed_by, Refusals.setting_refusal, Start.is_listed}
 use Rattle.dnssec_keyset.{specs.KeySet.KeySetParts, proofs.Accepted.gone_key, proofs.Laws.no_cause}
-use Rattle.dnssec_run.specs.Asked.{asked_by, asks_to_publish, kind_shown, updates, sets_shown}
-use Rattle.dnssec_run.specs.Asked.{SamePublished, ChangesAsAsked}
+use Rattle.dnssec_run.specs.Asked.{asked_by, asks_to_publish, flag_shown, kind_shown, updates}
+use Rattle.dnssec_run.specs.Asked.{sets_shown, SamePublished, ChangesAsAsked}
 use Rattle.dnssec_run.specs.Published.{Id, IsPublished, World, keys_where}
 use Rattle.dnssec_run.specs.Record.{IsRun, added_by, call_of, reply_of, is_accepted, world_at}
 use Rattle.dnssec_run.specs.Safe.{Position, SetKind, Ds, Dnskey, ZoneSigners, position_at}
@@ -22,7 +24,8 @@ use Rattle.dnssec_run.proofs.Effects.{moved_key, passing-moved, put_at, refused_
 use Rattle.dnssec_run.proofs.Positions.{passing, same-shown, shown-none}
 use Rattle.dnssec_run.specs.declared.{call.Call.Call, record.Entry.Entry, record.Reply.Reply}
 use Rattle.dnssec_run.specs.declared.lists.{ByList.ByList, Shown.Shown}
-use Rattle.dnssec_run.specs.Recorder.{Leaves, at_list, reference_set, shows}
+use Rattle.dnssec_run.specs.Recorder.{Leaves, SaysShown, at_list, reference_set, shown_after}
+use Rattle.dnssec_run.specs.Recorder.{shown_by, shows}
 use Rattle.dnssec_run.proofs.Chain.Trust.{adds_blank}
 use Rattle.dnssec_run.proofs.{Chain.Trust.plainly, Laws.made-at, WholeRolls.Replies.added-next}
 use Rattle.dnssec_zone.specs.Wait as waits
@@ -130,6 +133,32 @@ module _ (n : ℕ) (w v : World) (c : Call) (r : Reply)
     dnskey_signers = λ no. same-list lists.DnskeySigners (calm lists.DnskeySigners no);
     zone_signers = λ no. same-list lists.ZoneSigners (calm lists.ZoneSigners no);
   }
+
+-- ---- a setter
+
+-- what it says of the lists that show its flag holds of the key that was there
+set-shows : (x : Setting) (list : Shown) (o : Option KeyParts) (b : Bool)
+    → setting_refusal x o ≡ None → flag_shown x list ≡ true → shown_after x ≡ Some b
+    → passing (shows list) (option_map (set_by x) o) ≡ b
+set-shows x list o b free shown says = grind arith
+
+only-shown : (b : Bool) (p : Action → Bool) (asked : List Action) → asked ≡ []
+    → (b || list_any p asked) ≡ true → b ≡ true
+only-shown b p asked none e = grind arith
+
+-- it says so of the key afterwards
+pub says-shown : (old new : KeySetParts) (c : keyset.Call) (r : Reply) (touched : ByList)
+    → is_accepted r ≡ true → keyset.Step old c (reply_of r) new → ((list : Shown)
+    → at_list touched list
+    ≡ (sets_shown list c || list_any (updates (kind_shown list)) (asked_by r)))
+    → SaysShown (shown_by c) touched (reference_set c) new
+says-shown old new (keyset.Set q x) r touched ok step at = λ b says list t.
+    let then = accepted_step old new (keyset.Set q x) r ok step in
+    let idle : asked_by r ≡ [] = due_by r ∙ ap due then.2 in
+    ap (passing (shows list)) (then.1.keys q ∙ rw ((bytes_decides q q).1 refl) refl)
+    ∙ set-shows x list (get old.keys q) b (no_cause _ then.0)
+    (only-shown _ (updates (kind_shown list)) _ idle (sym (at list) ∙ t)) says
+says-shown old new _ r touched ok step at = tt
 
 -- ---- the lists of a position
 

@@ -1,12 +1,14 @@
 -- A call that is made adds one call and its entry to the record.
 use Rattle.std.proofs.Common.{◌≡◌, ◌∙◌, List, Bor, length, ap, refl, rules, subst, sym, true}
-use Rattle.std.proofs.Common.{arith, false, ℕ}
+use Rattle.std.proofs.Common.{arith, false, ℕ, Bool}
+use Rattle.std.specs.{Prelude.Option, Prelude.◌||◌, List.list_any}
 use Rattle.std.{proofs.lemmas.Bool.or_parts, specs.Prelude.is_some}
 use Rattle.dnssec_keyset.{proofs.After.step-after, specs.KeySet.KeySetParts}
 use Rattle.dnssec_run.specs.{Published.World, Record.call_of, Record.is_accepted, Record.reply_of}
 use Rattle.dnssec_run.specs.Record.{world_after, world_at}
-use Rattle.dnssec_run.specs.Recorder.{ChangesOnly, positions_after}
-use Rattle.dnssec_run.proofs.Asked.Changes.{leaves, touches-asked}
+use Rattle.dnssec_run.specs.Recorder.{ChangesOnly, SaysShown, positions_after}
+use Rattle.dnssec_run.specs.Asked.{asked_by, kind_shown, updates}
+use Rattle.dnssec_run.proofs.Asked.Changes.{leaves, says-shown, touches-asked}
 use Rattle.dnssec_run.proofs.Next.{agrees-accepted, agrees-refused, changes-only, map-none}
 use Rattle.dnssec_run.proofs.Next.{map-some, mark-accepted, mark-refused, published-refused}
 use Rattle.dnssec_run.proofs.Next.{records-more}
@@ -47,9 +49,16 @@ returns c = record {
       c.make-reply.ensures) refl c.touched-touched.result
       (λ list no t. let p = or_parts _ _ (sym (c.touched-touched.ensures list) ∙ no) in
       (sym (c.in_ok-meaning.ensures.shown list) ∙ p.0, p.1)) in
+      let says-so = subst (λ (k : Option Bool × Option (List ℕ)).
+      SaysShown k.0 c.touched-touched.result k.1 c.make-reply.new.set)
+      (λ i. (sym c.in_ok-meaning.ensures.says i, sym c.in_ok-meaning.ensures.only i))
+      (says-shown c.args.self.now.keyset c.make-reply.new.set (call_of x) r
+      c.touched-touched.result ok c.make-reply.ensures (λ list. c.touched-touched.ensures list
+      ∙ ap (λ b. b || list_any (updates (kind_shown list)) (asked_by r))
+      (c.in_ok-meaning.ensures.shown list))) in
       let shown = c.in_ok-may_publish.ensures.read before after so.published left
       (subst (λ o. ChangesOnly o before after) (sym c.in_ok-meaning.ensures.only)
-      (changes-only n before x r)) agrees in
+      (changes-only n before x r)) says-so agrees in
       records-more name calls entries _ _ x _ e so says same (omega (arith, c.in-Some.ensures))
       c.make-reply.ensures (c.in_ok-meaning.ensures.mark ∙ mark-accepted x r ok)
       c.in_ok-meaning.ensures.moment agrees shown;
