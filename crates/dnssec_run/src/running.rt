@@ -136,8 +136,14 @@ impl Recorder {
         }
         self.order.is_stale |= note(&mut self.added, meaning.change, at)?;
         let touched = reply.touched(meaning.sets_shown);
-        let mut frames = Frames::NONE;
-        let may_publish = renew(
+        let mut outcome = Outcome {
+            reply,
+            moment: meaning.moment,
+            mark: meaning.mark,
+            may_publish: false,
+            frames: Frames::NONE,
+        };
+        outcome.may_publish = renew(
             alloc,
             &self.keyset,
             &self.added,
@@ -146,15 +152,9 @@ impl Recorder {
             touched,
             meaning.reference_set,
             meaning.is_shown,
-            &mut frames,
+            &mut outcome.frames,
         )?;
-        Ok(Outcome {
-            reply,
-            moment: meaning.moment,
-            mark: meaning.mark,
-            may_publish,
-            frames,
-        })
+        Ok(outcome)
     }
 
     /// Makes the next call, and answers its entry, as a record has it.
