@@ -136,14 +136,8 @@ impl Recorder {
         }
         self.order.is_stale |= note(&mut self.added, meaning.change, at)?;
         let touched = reply.touched(meaning.sets_shown);
-        let mut outcome = Outcome {
-            reply,
-            moment: meaning.moment,
-            mark: meaning.mark,
-            may_publish: false,
-            frames: Frames::NONE,
-        };
-        outcome.may_publish = renew(
+        let mut frames = Frames::NONE;
+        let may_publish = renew(
             alloc,
             &self.keyset,
             &self.added,
@@ -152,9 +146,15 @@ impl Recorder {
             touched,
             meaning.reference_set,
             meaning.is_shown,
-            &mut outcome.frames,
+            &mut frames,
         )?;
-        Ok(outcome)
+        Ok(Outcome {
+            reply,
+            moment: meaning.moment,
+            mark: meaning.mark,
+            may_publish,
+            frames,
+        })
     }
 
     /// Makes the next call, and answers its entry, as a record has it.

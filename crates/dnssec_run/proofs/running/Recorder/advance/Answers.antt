@@ -56,20 +56,20 @@ returns c = record {
       c.touched-touched.result ok c.make-reply.ensures (λ list. c.touched-touched.ensures list
       ∙ ap (λ b. b || list_any (updates (kind_shown list)) (asked_by r))
       (c.in_ok-meaning.ensures.shown list))) in
-      let shown = c.in_ok-outcome.ensures.read before after so.published left
+      let shown = c.in_ok-may_publish.ensures.read before after so.published left
       (subst (λ o. ChangesOnly o before after) (sym c.in_ok-meaning.ensures.only)
       (changes-only n before x r)) says-so agrees in
       records-more name calls entries _ _ x _ e so says same (omega (arith, c.in-Some.ensures))
       c.make-reply.ensures (c.in_ok-meaning.ensures.mark ∙ mark-accepted x r ok)
       c.in_ok-meaning.ensures.moment agrees shown;
-  kept = c.in_ok-outcome.ensures.kept;
-  asked = λ none. c.in_ok-outcome.ensures.walked
+  kept = c.in_ok-may_publish.ensures.kept;
+  asked = λ none. c.in_ok-may_publish.ensures.walked
       (map-none _ _ (c.in_ok-meaning.ensures.only ∙ none))
       ∙ touches-asked (call_of c.args.call) c.make-reply.result c.in_ok-meaning.meaning.sets_shown
       c.touched-touched.result none c.in_ok-meaning.ensures.shown c.touched-touched.ensures;
-  by_hand = λ some changed. c.in_ok-outcome.ensures.by_hand
+  by_hand = λ some changed. c.in_ok-may_publish.ensures.by_hand
       (sym (map-some (λ (r : Bor (List ℕ)). r.now) _)
       ∙ ap is_some c.in_ok-meaning.ensures.only ∙ some) changed;
-  frames = c.in_ok-outcome.ensures.frames;
+  frames = c.in_ok-may_publish.ensures.frames;
   err = tt;
 }
