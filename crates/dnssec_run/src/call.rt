@@ -257,12 +257,13 @@ impl<'a> Call<'a> {
     }
 
     /// Makes the call.
-    // Inline, so that no call is copied for it.
+    // Inline, so that no call is copied for it. Adds, setters and the deletion share one answer,
+    // so that only one is cleared.
     #[inline(always)]
     pub(crate) fn make(self, set: &mut KeySet) -> Reply
         ensures { Step set.old (call_of self.entry) (reply_of result) set.new }
     {
-        match self {
+        let answer = match self {
             Call::AddKeyKsk {
                 pubref,
                 privref,
@@ -270,14 +271,14 @@ impl<'a> Call<'a> {
                 key_tag,
                 creation_ts,
                 available,
-            } => reply_done(set.add_key_ksk(
+            } => set.add_key_ksk(
                 pubref,
                 privref,
                 algorithm,
                 key_tag,
                 creation_ts,
                 available,
-            )),
+            ),
             Call::AddKeyZsk {
                 pubref,
                 privref,
@@ -285,14 +286,14 @@ impl<'a> Call<'a> {
                 key_tag,
                 creation_ts,
                 available,
-            } => reply_done(set.add_key_zsk(
+            } => set.add_key_zsk(
                 pubref,
                 privref,
                 algorithm,
                 key_tag,
                 creation_ts,
                 available,
-            )),
+            ),
             Call::AddKeyCsk {
                 pubref,
                 privref,
@@ -300,51 +301,52 @@ impl<'a> Call<'a> {
                 key_tag,
                 creation_ts,
                 available,
-            } => reply_done(set.add_key_csk(
+            } => set.add_key_csk(
                 pubref,
                 privref,
                 algorithm,
                 key_tag,
                 creation_ts,
                 available,
-            )),
+            ),
             Call::AddPublicKey {
                 pubref,
                 algorithm,
                 key_tag,
                 creation_ts,
                 available,
-            } => reply_done(set.add_public_key(pubref, algorithm, key_tag, creation_ts, available)),
-            Call::SetDecoupled { pubref, value } => reply_done(set.set_decoupled(pubref, value)),
-            Call::SetPresent { pubref, value, now } => reply_done(set.set_present(
-                pubref, value, &now,
-            )),
-            Call::SetSigner { pubref, value } => reply_done(set.set_signer(pubref, value)),
-            Call::SetAtParent { pubref, value } => reply_done(set.set_at_parent(pubref, value)),
-            Call::SetStale { pubref } => reply_done(set.set_stale(pubref)),
-            Call::SetVisible { pubref, time } => reply_done(set.set_visible(pubref, time)),
-            Call::SetDsVisible { pubref, time } => reply_done(set.set_ds_visible(pubref, time)),
-            Call::SetRrsigVisible { pubref, time } => reply_done(set.set_rrsig_visible(
-                pubref, time,
-            )),
-            Call::DeleteKey { pubref } => reply_done(set.delete_key(pubref)),
+            } => set.add_public_key(pubref, algorithm, key_tag, creation_ts, available),
+            Call::SetDecoupled { pubref, value } => set.set_decoupled(pubref, value),
+            Call::SetPresent { pubref, value, now } => set.set_present(pubref, value, &now),
+            Call::SetSigner { pubref, value } => set.set_signer(pubref, value),
+            Call::SetAtParent { pubref, value } => set.set_at_parent(pubref, value),
+            Call::SetStale { pubref } => set.set_stale(pubref),
+            Call::SetVisible { pubref, time } => set.set_visible(pubref, time),
+            Call::SetDsVisible { pubref, time } => set.set_ds_visible(pubref, time),
+            Call::SetRrsigVisible { pubref, time } => set.set_rrsig_visible(pubref, time),
+            Call::DeleteKey { pubref } => set.delete_key(pubref),
             Call::StartRoll {
                 rolltype,
                 old,
                 new,
                 now,
-            } => reply_list(set.start_roll(rolltype, old, new, &now)),
+            } => return reply_list(set.start_roll(rolltype, old, new, &now)),
             Call::Propagation1Complete { rolltype, ttl, now } => {
-                reply_list(set.propagation1_complete(rolltype, ttl, &now))
+                return reply_list(set.propagation1_complete(rolltype, ttl, &now));
             }
-            Call::CacheExpired1 { rolltype, now } => reply_list(set.cache_expired1(rolltype, &now)),
+            Call::CacheExpired1 { rolltype, now } => {
+                return reply_list(set.cache_expired1(rolltype, &now));
+            }
             Call::Propagation2Complete { rolltype, ttl, now } => {
-                reply_list(set.propagation2_complete(rolltype, ttl, &now))
+                return reply_list(set.propagation2_complete(rolltype, ttl, &now));
             }
-            Call::CacheExpired2 { rolltype, now } => reply_list(set.cache_expired2(rolltype, &now)),
-            Call::RollDone { rolltype } => reply_list(set.roll_done(rolltype)),
-            Call::AbortRoll { rolltype } => reply_list(set.abort_roll(rolltype)),
-        }
+            Call::CacheExpired2 { rolltype, now } => {
+                return reply_list(set.cache_expired2(rolltype, &now));
+            }
+            Call::RollDone { rolltype } => return reply_list(set.roll_done(rolltype)),
+            Call::AbortRoll { rolltype } => return reply_list(set.abort_roll(rolltype)),
+        };
+        reply_done(answer)
     }
 }
 
