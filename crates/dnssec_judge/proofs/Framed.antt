@@ -1,27 +1,21 @@
 -- A list that keeps a frame, or a set of two, and the numbers of what was there before.
 use Rattle.std.proofs.Common.{◌≡◌, ◌∙◌, ◌++◌, ◌∷◌, [], ap, arith, map, refl, sym, subst, suc, ℕ}
 use Rattle.std.proofs.Common.{Bool, false, true, List, Option, Some, append-nil, drop, length, take}
+use Rattle.std.proofs.Common.{get_or, ◌+◌}
 use Rattle.std.specs.Prelude.{◌&&◌, ◌||◌, not}
-use Rattle.std.proofs.lemmas.List.{append_cancel_left, append_cancel_right, length-append}
-use Rattle.std.proofs.lemmas.List.{length-map, take-map, drop-map, take_at, drop_at, map-append}
+use Rattle.std.proofs.lemmas.List.{length-append, take-map, drop-map, map-append, get_or_at}
+use Rattle.std.proofs.lemmas.List.{nil_from_length}
 use Rattle.std.proofs.Math.Seq.{drop-append_seam, take-append_seam}
-use Rattle.std.proofs.{lemmas.Bool.false_from_ne_true, Common.take-append-drop}
-use Rattle.std.specs.List.{insert, remove}
-use Rattle.dnssec_run.specs.declared.{record.PublishedKey.PublishedKey, record.Frame.Frame}
+use Rattle.std.{proofs.lemmas.Bool.false_from_ne_true, specs.List.insert, specs.List.remove}
+use Rattle.dnssec_run.specs.declared.record.Frame.{Frame}
 use Rattle.dnssec_run.specs.Origins.{CachedSet}
-use Rattle.dnssec_run.specs.{Published.Id, Published.id_of, Frames.KeepsFrame, Origins.same_ids}
+use Rattle.dnssec_run.specs.{Published.Id, Frames.KeepsFrame, Origins.same_ids}
 use Rattle.dnssec_run.proofs.Since.{same-ids}
-use Rattle.dnssec_judge.proofs.Table.{stand-both, stand-on, stand-once}
+use Rattle.dnssec_judge.proofs.Table.{stand-len, stand-on}
 use Rattle.dnssec_judge.specs.declared.sets.numbers.Numbers.{Numbers}
 use Rattle.dnssec_judge.specs.declared.window.last.Last.{Last}
 use Rattle.dnssec_judge.specs.{Inner.Window.IsNext, Numbers.IsRead}
 use Rattle.dnssec_judge.specs.Numbers.{Grows, StandFor, key_at}
-
--- lists that stand in one frame differ only within
-within : (front one other back : List Id) → front ++ (one ++ back) ≡ front ++ (other ++ back)
-    → one ≡ other
-within front one other back e =
-    append_cancel_right one other back (append_cancel_left front (one ++ back) (other ++ back) e)
 
 -- a list whose front is as long as the list is its front
 only-front : (front rest all : List Id) → all ≡ front ++ rest → length all ≡ length front
@@ -39,121 +33,114 @@ all-front frame old new keeps whole len =
     ∙ sym (only-front keeps.front (keeps.is ++ keeps.back) new keeps.splits_new
     (sym whole ∙ sym keeps.front_len))
 
--- ---- lists in three parts
+-- ---- a key more or less
 
--- these are the parts of a list whose first and last have these lengths
-abbrev IsCut : {A : Type 0} → List A → ℕ → ℕ → List A → List A → List A → Type 0
-IsCut {A} xs m k one two three = (a b d : List A) → xs ≡ a ++ (b ++ d) → length a ≡ m → length d ≡ k
-    → (one ≡ a) × (two ≡ b) × (three ≡ d)
+-- the only one of a list
+first-of : {A : Type 0} (xs : List A) → length xs ≡ 1 → (x : A) × (xs ≡ x ∷ [])
+first-of [] len = absurd (omega (arith, len))
+first-of (x ∷ []) len = (x, refl)
+first-of (x ∷ y ∷ xs) len = absurd (omega (arith, len))
 
--- so if the list's image falls into parts of these lengths, they are the images of its parts
-cut-image : {A B : Type 0} (f : A → B) (xs : List A) (m k : ℕ) (one two three : List A)
-    → IsCut xs m k one two three → (ys zs us : List B) → map f xs ≡ ys ++ (zs ++ us)
-    → length ys ≡ m → length us ≡ k → (map f one ≡ ys) × (map f two ≡ zs) × (map f three ≡ us)
-cut-image {A} {B} f xs m k one two three cut ys zs us e em ek =
-    let s = cut (take (length ys) xs) (take (length zs) rest) (drop (length zs) rest)
-    (sym (take-append-drop (length ys) xs)
-    ∙ ap (λ more. take (length ys) xs ++ more) (sym (take-append-drop (length zs) rest)))
-    (sym (length-map (take (length ys) xs) f) ∙ ap length first ∙ em)
-    (sym (length-map (drop (length zs) rest) f) ∙ ap length last ∙ ek) in
-    (ap (map f) s.0 ∙ first, ap (map f) s.1 ∙ middle, ap (map f) s.2 ∙ last)
-  where
-    rest : List A
-    rest = drop (length ys) xs
+past-one : (front back : List Id) (k : Id) → drop (suc (length front)) (front ++ k ∷ back) ≡ back
+past-one [] back k = refl
+past-one (l ∷ front) back k = past-one front back k
 
-    first : map f (take (length ys) xs) ≡ ys
-    first = sym (take-map f (length ys) xs) ∙ ap (take (length ys)) e
-        ∙ take_at ys (zs ++ us) (length ys) refl
+-- of two lists that stand in one frame, one has a key more; the other is what stands around it
+module _ (frame : Frame) (more less front was is back : List Id)
+    (splits_more : more ≡ front ++ (was ++ back)) (splits_less : less ≡ front ++ (is ++ back))
+    (front_len : length front ≡ frame.front) (back_len : length back ≡ frame.back)
+    (around : frame.front + frame.back ≡ length less) (len : length more ≡ length less + 1) where
+  none : is ≡ []
+  none = nil_from_length is (omega (
+      arith,
+      around,
+      front_len,
+      back_len,
+      ap length splits_less,
+      length-append front (is ++ back),
+      length-append is back,
+    ))
 
-    rest-is : map f rest ≡ zs ++ us
-    rest-is = sym (drop-map f (length ys) xs) ∙ ap (drop (length ys)) e
-        ∙ drop_at ys (zs ++ us) (length ys) refl
+  one : (k : Id) × (was ≡ k ∷ [])
+  one = first-of was (omega (
+      arith,
+      around,
+      len,
+      front_len,
+      back_len,
+      ap length splits_more,
+      length-append front (was ++ back),
+      length-append was back,
+    ))
 
-    middle : map f (take (length zs) rest) ≡ zs
-    middle = sym (take-map f (length zs) rest) ∙ ap (take (length zs)) rest-is
-        ∙ take_at zs us (length zs) refl
+  whole : more ≡ front ++ one.0 ∷ back
+  whole = splits_more ∙ ap (λ ks. front ++ (ks ++ back)) one.1
 
-    last : map f (drop (length zs) rest) ≡ us
-    last = sym (drop-map f (length zs) rest) ∙ ap (drop (length zs)) rest-is
-        ∙ drop_at zs us (length zs) refl
+  bare : less ≡ front ++ back
+  bare = splits_less ∙ ap (λ ks. front ++ (ks ++ back)) none
 
--- the numbers of before and the keys of a list, cut where the frame says
-module _ (t : Numbers) (before : List ℕ) (list : List PublishedKey) (was : List Id) (frame : Frame)
-    (h : StandFor t before was) (keeps : KeepsFrame frame was (map id_of list))
-    (front middle back : List ℕ) (ahead changed behind : List PublishedKey)
-    (cut : IsCut before frame.front frame.back front middle back)
-    (cut-list : IsCut list frame.front frame.back ahead changed behind) where
-  numbers : StandFor t front keeps.front × StandFor t middle keeps.was × StandFor t back keeps.back
-  numbers = cut-image (key_at t) before frame.front frame.back front middle back cut
-      (map Some keeps.front) (map Some keeps.was) (map Some keeps.back)
-      (h ∙ ap (map {B = Option Id} Some) keeps.splits_old
-      ∙ map-append {B = Option Id} Some keeps.front (keeps.was ++ keeps.back)
-      ∙ ap (λ more. map {B = Option Id} Some keeps.front ++ more)
-      (map-append {B = Option Id} Some keeps.was keeps.back))
-      (length-map {B = Option Id} keeps.front Some ∙ keeps.front_len)
-      (length-map {B = Option Id} keeps.back Some ∙ keeps.back_len)
+  removed : remove more frame.front ≡ less
+  removed =
+      (λ i. take (sym front_len i) (whole i) ++ drop (suc (sym front_len i)) (whole i))
+      ∙ (λ i. take-append_seam front (one.0 ∷ back) i ++ past-one front back one.0 i) ∙ sym bare
 
-  keys : map id_of changed ≡ keeps.is
-  keys = (cut-image id_of list frame.front frame.back ahead changed behind cut-list keeps.front
-      keeps.is keeps.back keeps.splits_new keeps.front_len keeps.back_len).1
+  inserted : (k : Id) → k ≡ get_or more frame.front k → insert less frame.front k ≡ more
+  inserted k there =
+      (λ i. take (sym front_len i) (bare i) ++ k ∷ drop (sym front_len i) (bare i))
+      ∙ (λ i. take-append_seam front back i ++ k ∷ drop-append_seam front back i)
+      ∙ ap (λ (l : Id). front ++ l ∷ back) (there
+      ∙ ap (λ (ks : List Id). get_or ks frame.front k) whole
+      ∙ get_or_at front one.0 back k frame.front front_len) ∙ sym whole
 
-  -- if the numbers in the middle stand for the keys there, nothing has changed
-  pub is-same : StandFor t middle (map id_of changed) → was ≡ map id_of list
-  is-same stands =
-      keeps.splits_old ∙ ap (λ (ks : List Id). keeps.front ++ (ks ++ keeps.back))
-      (stand-once t middle keeps.was (map id_of changed) numbers.1 stands ∙ keys)
-      ∙ sym keeps.splits_new
+-- the numbers of the keys of such lists
+removed-image : {A B : Type 0} (f : A → B) (xs : List A) (i : ℕ)
+    → map f (remove xs i) ≡ remove (map f xs) i
+removed-image f xs i =
+    map-append f (take i xs) (drop (suc i) xs)
+    ∙ (λ j. sym (take-map f i xs) j ++ sym (drop-map f (suc i) xs) j)
 
-  -- or else the list is another
-  is-other : (StandFor t middle (map id_of changed) → ⊥) → same_ids was (map id_of list) ≡ false
-  is-other lacks = false_from_ne_true (same_ids was (map id_of list)) (λ e.
-      (let inner : keeps.was ≡ keeps.is = within keeps.front keeps.was keeps.is keeps.back
-      (sym keeps.splits_old ∙ (same-ids was (map id_of list)).0 e ∙ keeps.splits_new) in
-      lacks (subst (StandFor t middle) (inner ∙ sym keys) numbers.1)))
+inserted-image : {A B : Type 0} (f : A → B) (xs : List A) (i : ℕ) (x : A)
+    → map f (insert xs i x) ≡ insert (map f xs) i (f x)
+inserted-image f xs i x =
+    map-append f (take i xs) (x ∷ drop i xs)
+    ∙ (λ j. sym (take-map f i xs) j ++ f x ∷ sym (drop-map f i xs) j)
 
-  -- it is read, if other numbers stand between those of before
-  pub read-between : (u : Numbers) (ns after : List ℕ) → after ≡ front ++ (ns ++ back)
-      → Grows t u → StandFor u ns (map id_of changed) → (StandFor t middle (map id_of changed) → ⊥)
-      → StandFor u after (map id_of list) × (same_ids was (map id_of list) ≡ false)
-  read-between u ns after is grows stands lacks = (
-    rw (is, keeps.splits_new)
-        (stand-both u front (ns ++ back) keeps.front (keeps.is ++ keeps.back)
-        (stand-on t u front keeps.front grows numbers.0)
-        (stand-both u ns back keeps.is keeps.back (subst (StandFor u ns) keys stands)
-        (stand-on t u back keeps.back grows numbers.2))),
-    is-other lacks,
-  )
+-- lists of other lengths are others
+other-len : (was list : List Id) → (length was ≡ length list → ⊥) → same_ids was list ≡ false
+other-len was list ne =
+    false_from_ne_true (same_ids was list) (λ e. ne (ap length ((same-ids was list).0 e)))
 
-  -- or if those of before stay around those that are read
-  pub read-anew : (u : Numbers) (ns after : List ℕ) → after ≡ ns
-      → ((before after : List Id) → StandFor t front before → StandFor t back after
-      → StandFor u ns (before ++ (map id_of changed ++ after)))
-      → (StandFor t middle (map id_of changed) → ⊥)
-      → StandFor u after (map id_of list) × (same_ids was (map id_of list) ≡ false)
-  read-anew u ns after is stands lacks = (
-    rw (is, keeps.splits_new)
-        (subst (λ (ks : List Id). StandFor u ns (keeps.front ++ (ks ++ keeps.back))) keys
-        (stands keeps.front keeps.back numbers.0 numbers.2)),
-    is-other lacks,
-  )
+module _ (t : Numbers) (before : List ℕ) (was list : List Id) (frame : Frame)
+    (h : StandFor t before was) (keeps : KeepsFrame frame was list) where
+  pub read-less : frame.front + frame.back ≡ length list → length before ≡ length list + 1
+      → StandFor t (remove before frame.front) list × (same_ids was list ≡ false)
+  read-less around len =
+      let longer : length was ≡ length list + 1 = sym (stand-len t before was h) ∙ len in (
+        subst (StandFor t (remove before frame.front))
+            (removed frame was list keeps.front keeps.was keeps.is keeps.back keeps.splits_old
+            keeps.splits_new keeps.front_len keeps.back_len around longer)
+            (removed-image (key_at t) before frame.front
+            ∙ ap (λ (ks : List (Option Id)). remove ks frame.front) h
+            ∙ sym (removed-image {B = Option Id} Some was frame.front)),
+        other-len was list (λ e. omega (arith, e, longer)),
+      )
 
--- ---- a number more or less
-
-pub inserted : (all front back : List ℕ) (place n : ℕ) → all ≡ front ++ back
-    → place ≡ length front → insert all place n ≡ front ++ n ∷ back
-inserted all front back place n is at =
-    (λ i. take (at i) (is i) ++ n ∷ drop (at i) (is i))
-    ∙ (λ i. take-append_seam front back i ++ n ∷ drop-append_seam front back i)
-
-past-one : (front back : List ℕ) (n : ℕ) → drop (suc (length front)) (front ++ n ∷ back) ≡ back
-past-one [] back n = refl
-past-one (m ∷ front) back n = past-one front back n
-
-pub removed : (all front back : List ℕ) (place n : ℕ) → all ≡ front ++ n ∷ back
-    → place ≡ length front → remove all place ≡ front ++ back
-removed all front back place n is at =
-    (λ i. take (at i) (is i) ++ drop (suc (at i)) (is i))
-    ∙ (λ i. take-append_seam front (n ∷ back) i ++ past-one front back n i)
+  pub read-more : (u : Numbers) → Grows t u → frame.front + frame.back ≡ length before
+      → length list ≡ length before + 1 → (n : ℕ) (k : Id) → k ≡ get_or list frame.front k
+      → key_at u n ≡ Some k
+      → StandFor u (insert before frame.front n) list × (same_ids was list ≡ false)
+  read-more u grows around len n k there is =
+      let same = stand-len t before was h in
+      let longer : length list ≡ length was + 1 = len ∙ ap (λ m. m + 1) same in
+      let on = stand-on t u before was grows h in (
+        subst (StandFor u (insert before frame.front n))
+            (inserted frame list was keeps.front keeps.is keeps.was keeps.back keeps.splits_new
+            keeps.splits_old keeps.front_len keeps.back_len (around ∙ same) longer k there)
+            (inserted-image (key_at u) before frame.front n
+            ∙ (λ i. insert (on i) frame.front (is i))
+            ∙ sym (inserted-image {B = Option Id} Some was frame.front k)),
+        other-len was list (λ e. omega (arith, e, longer)),
+      )
 
 -- ---- a set, by its keys and its signers
 

@@ -1,8 +1,8 @@
 //! The keys of a record as small numbers.
-ghost use Rattle.std.specs.Prelude.{◌↔◌, ◌≡◌, ◌≤◌, ◌++◌, ℕ, false, true, None, Some, map};
-ghost use Rattle.std.specs.Prelude.{IfOk, IfErr, IfSome, List, OnOk, length, vec_len};
+ghost use Rattle.std.specs.Prelude.{◌↔◌, ◌≡◌, ◌≤◌, ◌+◌, ℕ, false, true, None, Some, map};
+ghost use Rattle.std.specs.Prelude.{IfOk, IfErr, IfSome, OnOk, vec_len};
 ghost use Rattle.dnssec_base.specs.declared.error.Error.TheVariants.{OutOfMemory};
-ghost use Rattle.dnssec_run.specs.Published.{Id, id_of};
+ghost use Rattle.dnssec_run.specs.Published.{id_of};
 ghost use Rattle.dnssec_judge.specs.Numbers.{Extends, IsRead, IsTable, StandFor, key_at};
 
 use super::number_list::NumberList;
@@ -102,48 +102,37 @@ impl Numbers {
             known.new.numbers.items frame (map id_of list.now)) }
         ensures err { IfErr result (λ e. e ≡ OutOfMemory) }
     {
-        let (front, middle, back) = parts(known.as_slice(), frame);
-        let (_, changed, _) = parts(list, frame);
-        if self.are(middle, changed) {
+        let old_len = known.as_slice().len();
+        let len = list.len();
+        if old_len.saturating_sub(len) == 1 && is_around(frame, len) {
+            known.remove(frame.front);
+            return Ok(true);
+        }
+        if len.saturating_sub(old_len) == 1 && is_around(frame, old_len) {
+            let number = self.number_of(&list[frame.front])?;
+            known.insert(frame.front, number)?;
+            return Ok(true);
+        }
+        if self.are(known.as_slice(), list) {
             return Ok(false);
         }
-        let place = front.len();
-        let left = middle.len();
-        let came = changed.len();
-        if left == 1 && came == 0 {
-            known.remove(place);
-            return Ok(true);
-        }
-        if left == 0 && came == 1 {
-            let number = self.number_of(&changed[0])?;
-            known.insert(place, number)?;
-            return Ok(true);
-        }
-        let numbers = self.read_anew(alloc, front, changed, back)?;
+        let numbers = self.read_anew(alloc, list)?;
         *known = NumberList::of(alloc, numbers)?;
         Ok(true)
     }
 
-    /// The numbers of a list that has changed between a front and a back, which stay.
-    fn read_anew(
-        &mut self,
-        alloc: Global,
-        front: &[usize],
-        changed: &[PublishedKey],
-        back: &[usize],
-    ) -> Result<Vec<usize>, Error>
-        ensures ok { IfOk result (λ numbers. (ahead after : List Id) → IsTable self.old →
-            StandFor self.old front.now ahead → StandFor self.old back.now after →
-            StandFor self.new numbers.items (ahead ++ (map id_of changed.now ++ after))) }
+    /// The numbers of the keys of a list.
+    fn read_anew(&mut self, alloc: Global, list: &[PublishedKey]) -> Result<Vec<usize>, Error>
+        ensures ok { IfOk result (λ numbers. IsTable self.old →
+            StandFor self.new numbers.items (map id_of list.now)) }
         ensures extends { OnOk result (Extends self.old self.new) }
         ensures err { IfErr result (λ e. e ≡ OutOfMemory) }
     {
-        let mut numbers = Vec::from_slice(alloc, front)?;
-        for key in changed {
+        let mut numbers = Vec::with_capacity(alloc, list.len())?;
+        for key in list {
             let number = self.number_of(key)?;
             numbers.push(number)?;
         }
-        numbers.extend_from_slice(back)?;
         Ok(numbers)
     }
 
@@ -318,17 +307,14 @@ pub(crate) fn is_left(list: &[PublishedKey], frame: Frame, known: &NumberList) -
     frame.front == list.len() && known.as_slice().len() == list.len()
 }
 
-/// A list in three parts: what stands in front of a change, what may have changed, and what stands
-/// after it.
-fn parts<T>(list: &[T], frame: Frame) -> (&[T], &[T], &[T])
-    ensures whole { list.now ≡ result.0.now ++ (result.1.now ++ result.2.now) }
-    ensures framed { (front middle back : List T) → list.now ≡ front ++ (middle ++ back) →
-        length front ≡ frame.front → length back ≡ frame.back →
-        (result.0.now ≡ front) × (result.1.now ≡ middle) × (result.2.now ≡ back) }
+/// Whether this many keys are all that stand around a change.
+fn is_around(frame: Frame, len: usize) -> bool
+    ensures { result ≡ true → frame.front + frame.back ≡ len }
 {
-    let (front, rest) = list.split_at(frame.front.min(list.len()));
-    let (middle, back) = rest.split_at(rest.len().saturating_sub(frame.back));
-    (front, middle, back)
+    match len.checked_sub(frame.front) {
+        Some(rest) => rest == frame.back,
+        None => false,
+    }
 }
 
 /// A copy of a key.
