@@ -34,14 +34,6 @@ means-on t u words keys on h = record {
       (let l = some-key (key_at t n) (h.keyed n b) in subst IsSome (sym (on n l.0 b l.1)) refl);
 }
 
--- and if all numbers stay
-pub means-grow : (t u : Numbers) (p : Numbered) (set : CachedSet) → Grows t u → MeansSet t p set
-    → MeansSet u p set
-means-grow t u p set grows h = (
-  means-on t u p.0 set.0 (λ n k b. grows n k) h.0,
-  means-on t u p.1 set.1 (λ n k b. grows n k) h.1,
-)
-
 -- ---- bits of the numbers of a list
 
 -- the key of the number at a place

@@ -1,16 +1,16 @@
--- Numbers are given back that no set of a window has, for the judge.
-use Rattle.std.proofs.Common.{◌≡◌, ℕ, ◌≤◌, inl, inr, true, sym, ◌∙◌, ap, arith, List, subst, []}
+-- A window over a table with more keys, or with fewer that no set has, for the judge.
+use Rattle.std.proofs.Common.{◌≡◌, ℕ, ◌≤◌, inl, inr, true, sym, ◌∙◌, ap, arith, List, subst, Some}
 use Rattle.std.proofs.lemmas.Bool.{or_left, or_right, cases_lt}
 use Rattle.std.proofs.lemmas.List.{Elements.All-tail, Folds.list_any-from_Any}
 use Rattle.std.{specs.Prelude.◌||◌, specs.List.All, specs.List.Contains, proofs.Common.◌∷◌}
-use Rattle.dnssec_run.specs.{declared.record.Entry.Entry, Origins.set_at}
-use Rattle.dnssec_run.specs.{Safe.SetKind, Safe.position_at, Published.Id}
-use Rattle.dnssec_judge.specs.Numbers.{IsTable, Means, MeansSet, StandFor, key_at}
-use Rattle.dnssec_judge.specs.Inner.Window.{StandForSet, AreByAge, IsKept, Tiles, Watches, begin_of}
+use Rattle.std.proofs.Common.{[]}
+use Rattle.dnssec_run.specs.{declared.record.Entry.Entry, Safe.SetKind, Published.Id}
+use Rattle.dnssec_judge.specs.Numbers.{Grows, IsTable, Means, StandFor, key_at}
+use Rattle.dnssec_judge.specs.Inner.Window.{AreByAge, IsKept, Tiles, Watches, begin_of}
 use Rattle.dnssec_judge.specs.Inner.Window.{in_window, stretch, stretches, stretches_of}
 use Rattle.dnssec_judge.specs.declared.window.{Span.Span, Window.Window}
 use Rattle.dnssec_judge.specs.declared.sets.{numbers.Numbers.Numbers, held.OpenSet.OpenSet}
-use Rattle.dnssec_judge.proofs.OneByOne.{More.more, Ages.set-held, Spans.starts}
+use Rattle.dnssec_judge.proofs.OneByOne.{Ages.set-held, Spans.starts}
 use Rattle.dnssec_judge.proofs.{Means.means-on, Table.stand-by}
 use Rattle.dnssec_judge.specs.{Sets.Numbered, Sets.set_of, Bits.has, Bits.has_bit}
 
@@ -37,69 +37,52 @@ set-there at n sets (s ∷ t ∷ ss) order k h q ge le = elim (cases_lt q t.from
       set-there at n sets (t ∷ ss) order (All-tail (IsKept sets) s (t ∷ ss) k) h.2 q more le
 ]
 
--- a list of numbers stands for its keys still, if each is in use
-stand-back : (t u : Numbers) → IsTable t → (words : List ℕ) (keys : List Id) → Means t words keys
-    → ((n : ℕ) → has_bit words n ≡ true → key_at u n ≡ key_at t n) → (ns : List ℕ)
-    → StandFor t ns keys → StandFor u ns keys
-stand-back t u table words keys m used ns = stand-by t u ns keys (λ n k c e.
-    (let i = m.all k c in
-    used n (subst (λ x. has_bit words x ≡ true) (table.apart i.0 n k i.2 e) i.1) ∙ e))
-
--- a window watches the same over another table, if its numbers stand for the same keys there
-pub watches-over : (es : List Entry) (kind : SetKind) (n : ℕ) (t u : Numbers) (w : Window)
-    (h : Watches es kind n t w)
-    → ((q : ℕ) → begin_of w.spans.items ≤ q → q ≤ n
-    → MeansSet u (h.numbered q) (set_at kind (position_at es q)))
-    → StandForSet u w.last (set_at kind (position_at es n)) → Watches es kind n u w
-watches-over es kind n t u w h means last = record {
-  floor = h.floor;
-  dues = h.dues;
-  in_order = h.in_order;
-  means = means;
-  numbered = h.numbered;
-  spans = h.spans;
-  begins = h.begins;
-  last = last;
-  goes_on = h.goes_on;
-  keeps = h.keeps;
-  came_at = h.came_at;
-}
-
--- numbers that are in no set of the window may be given to other keys
+-- a window watches the same over another table, if the keys of its sets keep their numbers
 module _ (es : List Entry) (kind : SetKind) (n : ℕ) (t u : Numbers) (w : Window)
     (table : IsTable t)
-    (used : (m : ℕ) → in_window w m ≡ true → key_at u m ≡ key_at t m)
+    (kept : (m : ℕ) (k : Id) → in_window w m ≡ true → key_at t m ≡ Some k → key_at u m ≡ Some k)
     (h : Watches es kind n t w) where
-  in-use : (q : ℕ) → begin_of w.spans.items ≤ q → q ≤ n → (m : ℕ)
+  in-use : (q : ℕ) → begin_of w.spans.items ≤ q → q ≤ n → (m : ℕ) (k : Id)
       → (has_bit (h.numbered q).0 m || has_bit (h.numbered q).1 m) ≡ true
-      → key_at u m ≡ key_at t m
-  in-use q ge le m b =
+      → key_at t m ≡ Some k → key_at u m ≡ Some k
+  in-use q ge le m k b =
       let g = set-there h.numbered n w.sets.items w.spans.items h.keeps.by_age h.keeps.spans.0
       h.spans q ge le in
-      used m (list_any-from_Any (λ x. has x.keys m || has x.signers m) w.sets.items
+      kept m k (list_any-from_Any (λ x. has x.keys m || has x.signers m) w.sets.items
       (g.1.0, g.0, g.1.1, g.1.2, ap (λ (p : Numbered). has_bit p.0 m || has_bit p.1 m) g.2 ∙ b))
 
-  same-keys : (q : ℕ) → begin_of w.spans.items ≤ q → q ≤ n → (m : ℕ)
-      → has_bit (h.numbered q).0 m ≡ true → key_at u m ≡ key_at t m
-  same-keys q ge le m b = in-use q ge le m (or_left _ _ b)
+  -- a list of numbers stands for its keys still, if each has its bit
+  listed : (words : List ℕ) (keys : List Id) (ns : List ℕ) → Means t words keys
+      → ((m : ℕ) (k : Id) → has_bit words m ≡ true → key_at t m ≡ Some k → key_at u m ≡ Some k)
+      → StandFor t ns keys → StandFor u ns keys
+  listed words keys ns means on = stand-by t u ns keys (λ m k c e. (let i = means.all k c in
+      on m k (subst (λ x. has_bit words x ≡ true) (table.apart i.0 m k i.2 e) i.1) e))
 
-  same-signers : (q : ℕ) → begin_of w.spans.items ≤ q → q ≤ n → (m : ℕ)
-      → has_bit (h.numbered q).1 m ≡ true → key_at u m ≡ key_at t m
-  same-signers q ge le m b = in-use q ge le m (or_right _ _ b)
-
-  pub watches-back : Watches es kind n u w
-  watches-back =
+  pub watches-on : Watches es kind n u w
+  watches-on =
       let first = begins-so-far n h.numbered w h.spans in
-      let newest = h.means n first (omega arith) in
-      let set = λ (q : ℕ). set_at kind (position_at es q) in
-      watches-over es kind n t u w h (λ q ge le. (
-        means-on t u (h.numbered q).0 (set q).0 (λ m k b e. same-keys q ge le m b ∙ e)
-            (h.means q ge le).0,
-        means-on t u (h.numbered q).1 (set q).1 (λ m k b e. same-signers q ge le m b ∙ e)
-            (h.means q ge le).1,
-      )) (
-        stand-back t u table (h.numbered n).0 (set n).0 newest.0
-            (same-keys n first (omega arith)) w.last.keys.numbers.items h.last.0,
-        stand-back t u table (h.numbered n).1 (set n).1 newest.1
-            (same-signers n first (omega arith)) w.last.signers.numbers.items h.last.1,
-      )
+      let means = h.means n first (omega arith) in let last = in-use n first (omega arith) in
+      record {
+        floor = h.floor;
+        dues = h.dues;
+        in_order = h.in_order;
+        means = λ q ge le. (
+            means-on t u _ _ (λ m k b. in-use q ge le m k (or_left _ _ b)) (h.means q ge le).0,
+            means-on t u _ _ (λ m k b. in-use q ge le m k (or_right _ _ b)) (h.means q ge le).1,
+          );
+        numbered = h.numbered;
+        spans = h.spans;
+        begins = h.begins;
+        last = (
+          listed _ _ _ means.0 (λ m k b. last m k (or_left _ _ b)) h.last.0,
+          listed _ _ _ means.1 (λ m k b. last m k (or_right _ _ b)) h.last.1,
+        );
+        goes_on = h.goes_on;
+        keeps = h.keeps;
+        came_at = h.came_at;
+      }
+
+-- so if all keys keep theirs
+pub watches-grow : (es : List Entry) (kind : SetKind) (n : ℕ) (t u : Numbers) (w : Window)
+    → IsTable t → Grows t u → Watches es kind n t w → Watches es kind n u w
+watches-grow es kind n t u w table grows = watches-on es kind n t u w table (λ m k b. grows m k)

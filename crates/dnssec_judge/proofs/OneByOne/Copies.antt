@@ -6,7 +6,7 @@ use Rattle.dnssec_judge.specs.Inner.Window.{AreByAge, floor_with, StillRests, ca
 use Rattle.dnssec_judge.specs.Inner.Window.{IsSame, Keeps, Watches, begin_of, stretches}
 use Rattle.dnssec_judge.proofs.OneByOne.Ages.{image-there, same-image, spans-on}
 use Rattle.dnssec_judge.proofs.OneByOne.Sets.{carried, from-before, helped-same}
-use Rattle.dnssec_judge.proofs.OneByOne.{Followed.watches-grow, Pairs.tested-on}
+use Rattle.dnssec_judge.proofs.OneByOne.{Back.watches-grow, Pairs.tested-on}
 use Rattle.dnssec_judge.specs.declared.{sets.numbers.Numbers.Numbers, window.Window.Window}
 use Rattle.dnssec_judge.specs.{Judge.Knows, declared.judging.Judge.Judge}
 use Rattle.dnssec_judge.specs.{Numbers.Grows, Numbers.IsTable, Numbers.key_at, Sets.parts_of}
@@ -80,11 +80,11 @@ copy-knows es j t ds dnskey zone table same p q z h = record {
     time = f.time;
     table = table f.table;
     ds = watches-same j.ds ds p es Ds (length es) t
-        (watches-grow es Ds (length es) j.numbers t j.ds grows f.ds);
+        (watches-grow es Ds (length es) j.numbers t j.ds f.table grows f.ds);
     dnskey = watches-same j.dnskey dnskey q es Dnskey (length es) t
-        (watches-grow es Dnskey (length es) j.numbers t j.dnskey grows f.dnskey);
+        (watches-grow es Dnskey (length es) j.numbers t j.dnskey f.table grows f.dnskey);
     zone = watches-same j.zone zone z es ZoneSigners (length es) t
-        (watches-grow es ZoneSigners (length es) j.numbers t j.zone grows f.zone);
+        (watches-grow es ZoneSigners (length es) j.numbers t j.zone f.table grows f.zone);
     within = f.within;
     tested = tested-on (length es) j.tested j.ds j.dnskey j.zone ds dnskey zone f.within
         (keeps-same j.ds ds p (length es) f.ds.keeps).1
