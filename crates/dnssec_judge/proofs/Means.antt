@@ -10,7 +10,7 @@ use Rattle.std.{proofs.lemmas.Option.same_Some, specs.List.Contains, specs.List.
 use Rattle.dnssec_run.{specs.Origins.CachedSet, specs.Published.Id, proofs.Since.same-id}
 use Rattle.dnssec_judge.specs.Bits.{Share, ShareAll, has_bit, has_none, meet, meet_three}
 use Rattle.dnssec_judge.specs.Chained.{is_in, is_none, trusts_keys, trusts_zone}
-use Rattle.dnssec_judge.specs.Numbers.{Grows, IsTable, Means, MeansSet, StandFor, key_at}
+use Rattle.dnssec_judge.specs.Numbers.{IsTable, Means, MeansSet, StandFor, key_at}
 use Rattle.dnssec_judge.{specs.Sets.Numbered, specs.Sets.sets_have_chain, proofs.Lists.any-key}
 use Rattle.dnssec_judge.{specs.declared.sets.numbers.Numbers.Numbers, proofs.Lists.in-list}
 use Rattle.dnssec_judge.proofs.Table.{stand-len}

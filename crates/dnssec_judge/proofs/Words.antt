@@ -185,12 +185,17 @@ first-written first word rest index is zero = is-first index word first is
 first-written first word rest index is (suc i) =
     not-first index i word (word_at rest i) is
 
--- a word is written among others, which are filled up with 0
-pub written-words : (first : ℕ) (rest filled : List ℕ) (index before word : ℕ)
-    → before + 1 ≡ index → before < length filled
-    → ((i : ℕ) → get_or filled i 0 ≡ get_or rest i 0)
-    → (i : ℕ) → word_at (first ∷ set filled before word) i
+-- a word is written among the others
+pub written-words : (first : ℕ) (rest : List ℕ) (index before word : ℕ)
+    → before + 1 ≡ index → before < length rest
+    → (i : ℕ) → word_at (first ∷ set rest before word) i
     ≡ (if nat_eq index i then word else word_at (first ∷ rest) i)
-written-words first rest filled index before word is lt same zero = grind (arith, nat_tests)
-written-words first rest filled index before word is lt same (suc i) =
-    grind (arith, nat_tests, same i, get_or-set_same, get_or-set_other)
+written-words first rest index before word is lt zero = grind (arith, nat_tests)
+written-words first rest index before word is lt (suc i) =
+    grind (arith, nat_tests, get_or-set_same, get_or-set_other)
+
+-- or other words that are the same follow the first
+pub same-words : (first : ℕ) (rest other : List ℕ) → ((i : ℕ) → get_or other i 0 ≡ get_or rest i 0)
+    → (i : ℕ) → word_at (first ∷ other) i ≡ word_at (first ∷ rest) i
+same-words first rest other same zero = refl
+same-words first rest other same (suc i) = same i

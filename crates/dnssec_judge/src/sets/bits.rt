@@ -1,7 +1,6 @@
 //! Sets of small numbers.
-ghost use Rattle.std.specs.Prelude.{◌≡◌, ◌≤◌, ◌-◌, ◌||◌, ◌&&◌, ℕ, true, false, nat_eq};
-ghost use Rattle.std.specs.Prelude.{if◌then◌else◌, IfOk, IfErr, OnOk, Some, get_or};
-ghost use Rattle.std.specs.Prelude.{vec_len};
+ghost use Rattle.std.specs.Prelude.{◌≡◌, ◌≤◌, ◌&&◌, ℕ, true, false, nat_eq, vec_len};
+ghost use Rattle.std.specs.Prelude.{if◌then◌else◌, IfOk, IfErr, OnOk};
 ghost use Rattle.std.specs.List.{list_any};
 ghost use Rattle.dnssec_base.specs.declared.error.Error.TheVariants.{OutOfMemory};
 ghost use Rattle.dnssec_judge.specs.Bits.{HasSome, ShareAll, all_at, has, word_at, words_of};
@@ -68,12 +67,24 @@ impl Bits {
         }
     }
 
+    /// Writes one of its words.
+    fn set_word(&mut self, index: usize, word: u64)
+        requires { index ≤ vec_len self.old.rest }
+        ensures { (i : ℕ) → word_at (words_of self.new) i
+            ≡ (if nat_eq index i then word else word_at (words_of self.old) i) }
+    {
+        let Some(before) = index.checked_sub(1) else {
+            self.first = word;
+            return;
+        };
+        self.rest[before] = word;
+    }
+
     /// Fills its words up with 0, to so many after the first.
     fn fill_up(&mut self, len: usize) -> Result<(), Error>
         ensures len { OnOk result (len ≤ vec_len self.new.rest) }
-        ensures first { OnOk result (self.new.first ≡ self.old.first) }
-        ensures rest { OnOk result ((i : ℕ) → get_or self.new.rest.items i 0
-            ≡ get_or self.old.rest.items i 0) }
+        ensures same { OnOk result ((i : ℕ) → word_at (words_of self.new) i
+            ≡ word_at (words_of self.old) i) }
         ensures err { IfErr result (λ e. e ≡ OutOfMemory) }
     {
         if len <= self.rest.len() {
@@ -92,12 +103,8 @@ impl Bits {
     {
         let index = number / WORD;
         let word = self.word(index) | 1u64 << (number % WORD);
-        let Some(before) = index.checked_sub(1) else {
-            self.first = word;
-            return Ok(());
-        };
         self.fill_up(index)?;
-        self.rest[before] = word;
+        self.set_word(index, word);
         Ok(())
     }
 
@@ -107,22 +114,16 @@ impl Bits {
             ≡ (if nat_eq number n then false else has self.old n) }
     {
         let index = number / WORD;
-        let word = self.word(index) & !(1u64 << (number % WORD));
-        let Some(before) = index.checked_sub(1) else {
-            self.first = word;
-            return;
-        };
-        if before < self.rest.len() {
-            self.rest[before] = word;
+        if index <= self.rest.len() {
+            let word = self.word(index) & !(1u64 << (number % WORD));
+            self.set_word(index, word);
             self.trim();
         }
     }
 
     /// Drops the last words, if they are 0.
     fn trim(&mut self)
-        ensures first { self.new.first ≡ self.old.first }
-        ensures rest { (i : ℕ) → get_or self.new.rest.items i 0
-            ≡ get_or self.old.rest.items i 0 }
+        ensures { (i : ℕ) → word_at (words_of self.new) i ≡ word_at (words_of self.old) i }
     {
         while let Some(0) = self.rest.last() {
             self.rest.pop();
