@@ -4,24 +4,39 @@ use Rattle.std.proofs.lemmas.Bool.{or_left, or_right, cases_lt}
 use Rattle.std.proofs.lemmas.List.{Elements.All-tail, Folds.list_any-from_Any}
 use Rattle.std.{specs.Prelude.◌||◌, specs.List.All, specs.List.Contains, proofs.Common.◌∷◌}
 use Rattle.std.proofs.Common.{[]}
+use Rattle.dnssec_run.specs.Safe.{time_at}
+use Rattle.dnssec_run.proofs.Chain.History.{never-gone-now}
+use Rattle.dnssec_judge.proofs.Verdicts.Floors.{retired-below}
+use Rattle.dnssec_judge.specs.Inner.{Floor.floor_up_to, Window.Begins}
 use Rattle.dnssec_run.specs.{declared.record.Entry.Entry, Safe.SetKind, Published.Id}
 use Rattle.dnssec_judge.specs.Numbers.{Grows, IsTable, Means, StandFor, key_at}
 use Rattle.dnssec_judge.specs.Inner.Window.{AreByAge, IsKept, Tiles, Watches, begin_of}
-use Rattle.dnssec_judge.specs.Inner.Window.{in_window, stretch, stretches, stretches_of}
+use Rattle.dnssec_judge.specs.Inner.Window.{in_window, stretches, stretches_of}
 use Rattle.dnssec_judge.specs.declared.window.{Span.Span, Window.Window}
 use Rattle.dnssec_judge.specs.declared.sets.{numbers.Numbers.Numbers, held.OpenSet.OpenSet}
-use Rattle.dnssec_judge.proofs.OneByOne.{Ages.set-held, Spans.starts}
+use Rattle.dnssec_judge.proofs.OneByOne.{Ages.set-held}
 use Rattle.dnssec_judge.proofs.{Means.means-on, Table.stand-by}
 use Rattle.dnssec_judge.specs.{Sets.Numbered, Sets.set_of, Bits.has, Bits.has_bit}
 
--- the first span begins at a position so far
-pub begins-so-far : (n : ℕ) (at : ℕ → Numbered) (w : Window) → Tiles at n (stretches_of w)
-    → begin_of w.spans.items ≤ n
-begins-so-far n at w tiles = by w.spans.items tiles
+-- the first span of a window begins at its floor or below it
+begins-below : (w : Window) → Begins w.floor (stretches_of w) → begin_of w.spans.items ≤ w.floor
+begins-below w h = by w.spans.items h
   where
-    by : (ss : List Span) → Tiles at n (stretches w.sets.items ss) → begin_of ss ≤ n
-    by [] h = absurd h
-    by (s ∷ ss) h = starts at n (stretch w.sets.items s) (stretches w.sets.items ss) h
+    by : (ss : List Span) → Begins w.floor (stretches w.sets.items ss) → begin_of ss ≤ w.floor
+    by [] b = absurd b
+    by (s ∷ ss) b = b
+
+-- a floor is a position so far
+floor-within : (entries : List Entry) (kind : SetKind) (n : ℕ)
+    → floor_up_to entries kind (time_at entries n) n ≤ n
+floor-within entries kind n = elim (cases_lt n (floor_up_to entries kind (time_at entries n) n)) [
+  | inl lt ↦ absurd (never-gone-now entries kind n ((retired-below entries kind n n).1 lt))
+  | inr ge ↦ omega arith
+]
+
+pub low : (es : List Entry) (kind : SetKind) (n : ℕ) (t : Numbers) (w : Window)
+    → Watches es kind n t w → w.floor ≤ n
+low es kind n t w h = omega (arith, h.floor, floor-within es kind n)
 
 -- the set of a position is one of the window
 set-there : (at : ℕ → Numbered) (n : ℕ) (sets : List OpenSet) (ss : List Span) → AreByAge sets
@@ -42,12 +57,12 @@ module _ (es : List Entry) (kind : SetKind) (n : ℕ) (t u : Numbers) (w : Windo
     (table : IsTable t)
     (kept : (m : ℕ) (k : Id) → in_window w m ≡ true → key_at t m ≡ Some k → key_at u m ≡ Some k)
     (h : Watches es kind n t w) where
-  in-use : (q : ℕ) → begin_of w.spans.items ≤ q → q ≤ n → (m : ℕ) (k : Id)
+  in-use : (q : ℕ) → w.floor ≤ q → q ≤ n → (m : ℕ) (k : Id)
       → (has_bit (h.numbered q).0 m || has_bit (h.numbered q).1 m) ≡ true
       → key_at t m ≡ Some k → key_at u m ≡ Some k
   in-use q ge le m k b =
       let g = set-there h.numbered n w.sets.items w.spans.items h.keeps.by_age h.keeps.spans.0
-      h.spans q ge le in
+      h.spans q (omega (arith, ge, begins-below w h.begins)) le in
       kept m k (list_any-from_Any (λ x. has x.keys m || has x.signers m) w.sets.items
       (g.1.0, g.0, g.1.1, g.1.2, ap (λ (p : Numbered). has_bit p.0 m || has_bit p.1 m) g.2 ∙ b))
 
@@ -60,7 +75,7 @@ module _ (es : List Entry) (kind : SetKind) (n : ℕ) (t u : Numbers) (w : Windo
 
   pub watches-on : Watches es kind n u w
   watches-on =
-      let first = begins-so-far n h.numbered w h.spans in
+      let first = low es kind n t w h in
       let means = h.means n first (omega arith) in let last = in-use n first (omega arith) in
       record {
         floor = h.floor;

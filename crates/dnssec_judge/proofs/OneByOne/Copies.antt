@@ -3,7 +3,7 @@ use Rattle.std.proofs.Common.{◌≡◌, ℕ, sym, ◌∙◌, ap, arith, List, l
 use Rattle.dnssec_run.specs.Safe.{SetKind, Ds, Dnskey, ZoneSigners}
 use Rattle.dnssec_run.specs.declared.record.Entry.{Entry}
 use Rattle.dnssec_judge.specs.Inner.Window.{AreByAge, floor_with, StillRests, came, stretches_of}
-use Rattle.dnssec_judge.specs.Inner.Window.{IsSame, Keeps, Watches, begin_of, stretches}
+use Rattle.dnssec_judge.specs.Inner.Window.{IsSame, Keeps, Watches, stretches}
 use Rattle.dnssec_judge.proofs.OneByOne.Ages.{image-there, same-image, spans-on}
 use Rattle.dnssec_judge.proofs.OneByOne.Sets.{carried, from-before, helped-same}
 use Rattle.dnssec_judge.proofs.OneByOne.{Back.watches-grow, Pairs.tested-on}
@@ -62,7 +62,7 @@ module _ (a b : Window) (s : IsSame a b) where
     begins = rw (k.2, s.floor) w.begins;
     goes_on = rw (k.2, s.floor) w.goes_on;
     keeps = k.0;
-    means = λ q ge le. w.means q (omega (arith, ge, ap begin_of s.spans)) le;
+    means = λ q ge le. w.means q (omega (arith, ge, s.floor)) le;
     came_at = ap came s.spans ∙ w.came_at;
     last = (rw s.last.0 w.last.0, rw s.last.1 w.last.1);
   }

@@ -2,7 +2,7 @@
 use Rattle.std.proofs.Common.{◌≡◌, ℕ, suc, ◌≤◌, ◌∙◌, ap, sym, arith, List, subst}
 use Rattle.std.specs.Prelude.{max}
 use Rattle.dnssec_judge.specs.Inner.Window.{AreInOrder, IsNoted, Takes, came, came_after, news_of}
-use Rattle.dnssec_judge.specs.Inner.Window.{begin_of, floor_with, over_any, stretches, stretches_of}
+use Rattle.dnssec_judge.specs.Inner.Window.{floor_with, over_any, stretches, stretches_of}
 use Rattle.dnssec_judge.proofs.OneByOne.Sets.{rests-on}
 use Rattle.dnssec_judge.proofs.OneByOne.{More.begins-noted, More.tiles-noted, Sets.moved-as}
 use Rattle.dnssec_judge.specs.declared.window.{Span.Span, Window.Window}
@@ -71,11 +71,6 @@ returns-clause-ok c =
             rests-on n w three four (rests-on n w mid three a.1 b.1)
                 (λ tested h le r. d.1 tested h (omega arith) r),
           ));
-      starts = λ n at k.
-          (let a = moved-as n n w k (omega arith) mid moved in
-          let b = g.keeps n at a.0 in
-          let d = c.in_ok-trim.ensures.trims.starts (suc n) b.0 in
-          omega (arith, ap begin_of spans, g.starts, d));
       origin = c.in_ok-trim.ensures.trims.origin ∙ g.origin
           ∙ ap (λ (ss : List Span). came_after news c.args.at (came ss)) spans;
     } in record {
