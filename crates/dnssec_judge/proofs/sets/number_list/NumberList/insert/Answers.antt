@@ -1,28 +1,21 @@
 -- The set has one number more.
-use Rattle.std.proofs.Common.{◌≡◌, ◌∙◌, ◌∷◌, [], Bool, List, ap, false, refl, rules, suc, sym, true}
+use Rattle.std.proofs.Common.{◌≡◌, ◌∙◌, ◌∷◌, Bool, List, ap, false, refl, rules, sym, true}
 use Rattle.std.specs.Prelude.{◌||◌, if◌then◌else◌, nat_eq}
-use Rattle.std.{specs.List.insert, specs.List.list_any, proofs.Common.zero, proofs.Common.ℕ}
+use Rattle.std.{specs.List.insert, specs.List.list_any, proofs.Common.ℕ}
+use Rattle.std.proofs.lemmas.List.Sorted.{IsPermutation-insert, list_any-IsPermutation}
 use Rattle.dnssec_judge.specs.Bits.{has_bit}
 use Rattle.dnssec_judge.proofs.sets.number_list.NumberList.insert.Goals as goal
-
-any-first : (b c : Bool) → (b || c) ≡ (if b then true else c)
-any-first true c = refl
-any-first false c = refl
-
-swap : (a b c : Bool) → (a || (if b then true else c)) ≡ (if b then true else (a || c))
-swap true true c = refl
-swap true false c = refl
-swap false b c = refl
 
 -- a number of a list with one more is that one, or was there
 any-inserted : (xs : List ℕ) (i m n : ℕ) → list_any (λ k. nat_eq k n) (insert xs i m)
     ≡ (if nat_eq m n then true else list_any (λ k. nat_eq k n) xs)
-any-inserted [] zero m n = any-first (nat_eq m n) false
-any-inserted [] (suc i) m n = any-first (nat_eq m n) false
-any-inserted (x ∷ xs) zero m n = any-first (nat_eq m n) (list_any (λ k. nat_eq k n) (x ∷ xs))
-any-inserted (x ∷ xs) (suc i) m n =
-    ap (λ b. nat_eq x n || b) (any-inserted xs i m n)
-    ∙ swap (nat_eq x n) (nat_eq m n) (list_any (λ k. nat_eq k n) xs)
+any-inserted xs i m n =
+    sym (list_any-IsPermutation (λ k. nat_eq k n) (m ∷ xs) (insert xs i m)
+    (IsPermutation-insert xs i m)) ∙ first (nat_eq m n) (list_any (λ k. nat_eq k n) xs)
+  where
+    first : (b c : Bool) → (b || c) ≡ (if b then true else c)
+    first true c = refl
+    first false c = refl
 
 pub invariant_of-self-2 : goal.invariant_of-self-2
 invariant_of-self-2 c = record {

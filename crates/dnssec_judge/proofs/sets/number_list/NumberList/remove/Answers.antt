@@ -1,14 +1,12 @@
 -- The set has one number less, unless it stands elsewhere too.
-use Rattle.std.proofs.Common.{◌≡◌, ◌∙◌, ◌∷◌, [], ◌<◌, Bool, List, ap, arith, false, length, refl}
+use Rattle.std.proofs.Common.{◌≡◌, ◌∙◌, ◌∷◌, ◌<◌, Bool, List, ap, arith, false, length, refl}
 use Rattle.std.specs.Prelude.{◌||◌, get_or, if◌then◌else◌, nat_eq}
-use Rattle.std.proofs.Common.{suc, sym, true, zero, ℕ}
+use Rattle.std.proofs.Common.{sym, true, ℕ}
 use Rattle.std.{specs.List.list_any, specs.List.remove, proofs.lemmas.Bool.eqb-true}
+use Rattle.std.proofs.Common.{subst}
+use Rattle.std.specs.List.Sorted.{IsPermutation}
+use Rattle.std.proofs.lemmas.List.Sorted.{IsPermutation-remove, list_any-IsPermutation}
 use Rattle.dnssec_judge.proofs.sets.number_list.NumberList.remove.Goals as goal
-
-swap : (a b c : Bool) → (a || (b || c)) ≡ (b || (a || c))
-swap true true c = refl
-swap true false c = refl
-swap false b c = refl
 
 -- a number that is still there, and one that isn't
 still : (b c : Bool) → (b ≡ true → c ≡ true) → (b || c) ≡ c
@@ -19,22 +17,12 @@ gone : (b c : Bool) → (b ≡ true → c ≡ false) → (if b then false else (
 gone true c is = sym (is refl)
 gone false c is = refl
 
--- a number of a list is the one at a place, or one of the others
-any-removed : (xs : List ℕ) (i m n : ℕ) → i < length xs → m ≡ get_or xs i m
-    → list_any (λ k. nat_eq k n) xs
-    ≡ (nat_eq m n || list_any (λ k. nat_eq k n) (remove xs i))
-any-removed [] i m n lt is = absurd (omega (arith, lt))
-any-removed (x ∷ xs) zero m n lt is = ap (λ k. nat_eq k n || list_any (λ k. nat_eq k n) xs) (sym is)
-any-removed (x ∷ xs) (suc i) m n lt is =
-    ap (λ b. nat_eq x n || b) (any-removed xs i m n (omega arith) is)
-    ∙ swap (nat_eq x n) (nat_eq m n) (list_any (λ k. nat_eq k n) (remove xs i))
-
 -- what is left of a list without the number of a place
 module _ (xs rest : List ℕ) (i m : ℕ) (lt : i < length xs) (is : m ≡ get_or xs i m)
     (left : rest ≡ remove xs i) where
   any : (n : ℕ) → list_any (λ k. nat_eq k n) xs ≡ (nat_eq m n || list_any (λ k. nat_eq k n) rest)
-  any n = any-removed xs i m n lt is
-      ∙ ap (λ (ns : List ℕ). nat_eq m n || list_any (λ k. nat_eq k n) ns) (sym left)
+  any n = list_any-IsPermutation (λ k. nat_eq k n) xs (m ∷ rest)
+      (subst (λ ns. IsPermutation xs (m ∷ ns)) (sym left) (IsPermutation-remove xs i m lt is))
 
   same-number : (b : Bool) → list_any (λ k. nat_eq k m) rest ≡ b → (n : ℕ) → nat_eq m n ≡ true
       → list_any (λ k. nat_eq k n) rest ≡ b
