@@ -3,7 +3,7 @@ use Rattle.std.proofs.Common.{◌≡◌, ℕ, ◌<◌, ◌≤◌, true, false, r
 use Rattle.std.proofs.Common.{Some, [], ◌∷◌, inl, inr, map, length, get_or, ltb}
 use Rattle.std.proofs.lemmas.Bool.{ltb-true, ltb-false, cases_lt, eq-eqb, ne_eqb}
 use Rattle.std.proofs.lemmas.List.Elements.{All-tail, All-nil, All-cons, Contains-get_or}
-use Rattle.std.proofs.lemmas.List.Recursion.{found_at, found_nowhere}
+use Rattle.std.proofs.lemmas.List.Recursion.{found_at}
 use Rattle.std.specs.List.{All, Contains, Sorted.IsNonDecreasingBy, Sorted.IsPartitionPoint}
 use Rattle.std.{specs.Prelude.nat_eq, proofs.lemmas.List.length-map, proofs.lemmas.List.get_or-map}
 use Rattle.dnssec_judge.specs.Inner.Window.{AreByAge, IsKept, came_since, set_of_any, set_since}
@@ -30,7 +30,7 @@ image-there f xs ys e h c =
     (get_or xs c.0 h, Contains-get_or xs c.0 h s.0, sym s.1 ∙ ap f c.2)
 
 -- each set is found by its age
-pub found-since : (hs : List OpenSet) (h : OpenSet) → AreByAge hs → Contains hs h
+found-since : (hs : List OpenSet) (h : OpenSet) → AreByAge hs → Contains hs h
     → came_since hs h.since ≡ Some h
 found-since hs h order c =
     let same = ap (λ (x : OpenSet). x.since) c.2 in
@@ -83,19 +83,18 @@ non-decreasing hs order i j d le lt = elim (cases_lt i j) [
       let e = ap (λ (k : ℕ). (get_or hs k d).since) same in omega (arith, e)
 ]
 
--- no set came at a position, if the first that came so late didn't come then
-pub none-since : (items : List OpenSet) (place since : ℕ) → AreByAge items
+-- a set stands first among those that came when it came or later
+pub place-is : (items : List OpenSet) (place since : ℕ) → AreByAge items
     → IsPartitionPoint (λ g. ltb g.since since ≡ true) (λ g. ltb g.since since ≡ false) items place
-    → ((d : OpenSet) → place < length items → (get_or items place d).since ≡ since → ⊥)
-    → came_since items since ≡ None
-none-since [] place since order point none = refl
-none-since (g ∷ items) place since order point none =
-    found_nowhere (λ gs. came_since gs since) (λ h. nat_eq h.since since) (λ h. Some h) None refl
-    (λ _ _. refl) (g ∷ items) g (λ k lt. ne_eqb _ _ (elim (cases_lt k place) [
-      | inl less ↦ (λ e. let l = ltb-true _ _ (point.0 k g (omega arith) less) in
-          omega (arith, l, e))
-      | inr ge ↦ (λ e. let within : place < length (g ∷ items) = omega (arith, ge, lt) in
-          let l = ltb-false _ _ (point.1 place g (omega arith) within) in
-          let n = non-decreasing (g ∷ items) order place k g ge lt in
-          none g within (omega (arith, l, n, e)))
-    ]))
+    → (h : OpenSet) (c : Contains items h) → h.since ≡ since → c.0 ≡ place
+place-is items place since order point h c is =
+    let same = ap (λ (x : OpenSet). x.since) c.2 in elim (cases_lt c.0 place) [
+      | inl lt ↦ absurd (let l = ltb-true _ _ (point.0 c.0 h (omega arith) lt) in
+          omega (arith, l, same, is))
+      | inr ge ↦ elim (cases_lt place c.0) [
+        | inl lt ↦ absurd (let l = ltb-false _ _ (point.1 place h (omega arith)
+            (omega (arith, lt, c.1))) in
+            omega (arith, l, order place c.0 h lt c.1, same, is))
+        | inr le ↦ omega (arith, ge, le)
+      ]
+    ]

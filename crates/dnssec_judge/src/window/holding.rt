@@ -5,8 +5,7 @@ ghost use Rattle.std.specs.Prelude.{Option, None, Some, slice_get, IfOk, IfErr, 
 ghost use Rattle.dnssec_base.specs.declared.error.Error.TheVariants.{OutOfMemory};
 ghost use Rattle.dnssec_judge.specs.{Sets.set_of, declared.sets.held.OpenSet.OpenSet};
 ghost use Rattle.dnssec_judge.specs.Inner.Window.{AreByAge, HasCommon, IsHelped, IsIn, IsOpen};
-ghost use Rattle.dnssec_judge.specs.Inner.Window.{IsPut, Keeps, StillRests, came_since, last_of};
-ghost use Rattle.dnssec_judge.specs.Inner.Window.{stretches_of};
+ghost use Rattle.dnssec_judge.specs.Inner.Window.{IsPut, Keeps, StillRests, last_of, stretches_of};
 
 use super::Window;
 use crate::sets::OpenSet;
@@ -146,24 +145,9 @@ impl Window {
         let Some(many) = &self.many else {
             return self.sets.iter().position(|set| last.is(set));
         };
-        let place = self.place_since(*many.by_digest.get(&last.digest())?)?;
+        let place = self.place_from(*many.by_digest.get(&last.digest())?);
         match self.sets.get(place) {
             Some(set) if last.is(set) => Some(place),
-            _ => None,
-        }
-    }
-
-    /// The place of the set that came at a position.
-    pub(super) fn place_since(&self, since: usize) -> Option<usize>
-        ensures some { IfSome result (λ place. AreByAge self.now.sets.items → (h : OpenSet) ×
-            (slice_get self.now.sets.items place ≡ Some h)
-            × (came_since self.now.sets.items since ≡ Some h)) }
-        ensures none { result ≡ None → AreByAge self.now.sets.items →
-            came_since self.now.sets.items since ≡ None }
-    {
-        let place = self.place_from(since);
-        match self.sets.get(place) {
-            Some(set) if set.since == since => Some(place),
             _ => None,
         }
     }

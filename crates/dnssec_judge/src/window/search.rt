@@ -98,7 +98,7 @@ impl Window {
             option_map first_of_set result ≡ span_of self.now place }
     {
         let span = self.spans.get(place)?;
-        let held = self.place_since(span.set)?;
+        let held = self.place_from(span.set);
         let set = self.sets.get(held)?;
         let at = self.floor.max(span.from);
         Some(First { at, set })
