@@ -1,10 +1,10 @@
 //! Which sets a window holds, each once, and what helps with many.
 ghost use Rattle.std.specs.Prelude.{◌≡◌, ◌≤◌, ℕ, false, true, length, nat_lt};
-ghost use Rattle.std.specs.List.Sorted.{IsPartitionPoint};
+ghost use Rattle.std.specs.List.{All, Sorted.IsPartitionPoint};
 ghost use Rattle.std.specs.Prelude.{Option, None, Some, slice_get, IfOk, IfErr, IfSome, OnOk};
 ghost use Rattle.dnssec_base.specs.declared.error.Error.TheVariants.{OutOfMemory};
 ghost use Rattle.dnssec_judge.specs.{Sets.set_of, declared.sets.held.OpenSet.OpenSet};
-ghost use Rattle.dnssec_judge.specs.Inner.Window.{AreByAge, HasCommon, IsHelped, IsIn, IsOpen};
+ghost use Rattle.dnssec_judge.specs.Inner.Window.{AreByAge, HasCommon, IsHelped, IsIn};
 ghost use Rattle.dnssec_judge.specs.Inner.Window.{IsPut, Keeps, StillRests, last_of, stretches_of};
 
 use super::Window;
@@ -29,8 +29,7 @@ pub(crate) struct Many {
 impl Many {
     /// What helps with these sets.
     fn of(alloc: Global, sets: &[OpenSet]) -> Result<Self, Error>
-        ensures ok { IfOk result (λ many. (place : ℕ) (h : OpenSet) →
-            slice_get sets.now place ≡ Some h → IsIn many.common h) }
+        ensures ok { IfOk result (λ many. All (IsIn many.common) sets.now) }
         ensures err { IfErr result (λ e. e ≡ OutOfMemory) }
     {
         let common = match sets.first() {
@@ -188,8 +187,8 @@ impl Window {
 
     /// What is common to all sets, if there are many.
     pub(super) fn common(&self) -> Option<&OpenSet>
-        ensures { IfSome result (λ common. (n : ℕ) → Keeps n self.now → (h : OpenSet) →
-            IsOpen self.now h → IsIn common.now h) }
+        ensures { IfSome result (λ common. HasCommon self.now →
+            All (IsIn common.now) self.now.sets.items) }
     {
         match &self.many {
             Some(many) => Some(&many.common),

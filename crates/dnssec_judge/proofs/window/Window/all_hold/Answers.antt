@@ -9,7 +9,7 @@ use Rattle.dnssec_judge.proofs.window.Window.all_hold.Goals as goal
 pub returns-then-has_key : goal.returns-then-has_key
 returns-then-has_key c n k =
     all-linked c.args.link c.args.is_above (set_of c.args.set.now) c.in-Some.common.now
-    c.args.self.now (c.in-Some.ensures n k) (sym c.has_key.ensures ∙ c.if-has_key.true)
+    c.args.self.now (c.in-Some.ensures k.common) (sym c.has_key.ensures ∙ c.if-has_key.true)
 
 pub returns : goal.returns
 returns c n k =

@@ -1,7 +1,9 @@
 -- One set more.
-use Rattle.std.proofs.lemmas.Option.{get_or_from_slice_get, slice_get_within}
 use Rattle.std.proofs.{Common.take, lemmas.List.Elements.All-weaker}
-use Rattle.dnssec_judge.{specs.Inner.Window.IsIn, proofs.Lists.all-passed, proofs.Lists.passed-more}
+use Rattle.dnssec_judge.{specs.Inner.Window.IsIn, proofs.Lists.passed-more}
+use Rattle.std.proofs.Common.{List, subst}
+use Rattle.std.{proofs.lemmas.List.take_all, specs.List.All}
+use Rattle.dnssec_judge.specs.declared.sets.held.OpenSet.{OpenSet}
 use Rattle.dnssec_judge.proofs.window.holding.Many.of.Goals as goal
 
 pub loop-set-preserved : goal.loop-set-preserved
@@ -13,10 +15,6 @@ loop-set-preserved c =
     c.loop-set.invariant) c.in_ok-add.ensures.new
 
 pub returns-clause-ok : goal.returns-clause-ok
-returns-clause-ok c place h e =
-    all-passed (IsIn c.loop-set.many.common) c.args.sets.now c.loop-set.set-index
-    c.loop-set-test.false c.loop-set.invariant h (
-      place,
-      slice_get_within c.args.sets.now place h e,
-      get_or_from_slice_get c.args.sets.now place h h e,
-    )
+returns-clause-ok c =
+    subst (λ (hs : List OpenSet). All (IsIn c.loop-set.many.common) hs)
+    (take_all c.loop-set.set-index c.args.sets.now c.loop-set-test.false) c.loop-set.invariant
