@@ -20,7 +20,7 @@ is-set : (words : List ℕ) (n : ℕ) → Decides (has_bit words n) (has_bit wor
 is-set words n = (λ e. e, λ e. e)
 
 -- past the last word no bit is set
-bit-within : (words : List ℕ) (n : ℕ) → has_bit words n ≡ true → n < end_of words
+pub bit-within : (words : List ℕ) (n : ℕ) → has_bit words n ≡ true → n < end_of words
 bit-within words n e = grind (arith, nat_tests, bit_at-zero, get_or_past)
 
 some-below : (words : List ℕ) (test : ℕ → Bool) (P : ℕ → Type 0)
@@ -171,19 +171,11 @@ none-of-all first one with words ones others none more zero = none
 none-of-all first one with words ones others none more (suc i) = more i
 
 -- the first word is written
-is-first : (index word first : ℕ) → index ≡ 0 → word ≡ (if nat_eq index 0 then word else first)
-is-first index word first is = grind (arith, nat_tests)
-
-not-first : (index i word other : ℕ) → index ≡ 0
-    → other ≡ (if nat_eq index (suc i) then word else other)
-not-first index i word other is = grind (arith, nat_tests)
-
 pub first-written : (first word : ℕ) (rest : List ℕ) (index : ℕ) → index ≡ 0
     → (i : ℕ) → word_at (word ∷ rest) i
     ≡ (if nat_eq index i then word else word_at (first ∷ rest) i)
-first-written first word rest index is zero = is-first index word first is
-first-written first word rest index is (suc i) =
-    not-first index i word (word_at rest i) is
+first-written first word rest index is zero = grind (arith, nat_tests)
+first-written first word rest index is (suc i) = grind (arith, nat_tests)
 
 -- a word is written among the others
 pub written-words : (first : ℕ) (rest : List ℕ) (index before word : ℕ)

@@ -165,10 +165,9 @@ impl Window {
     pub(super) fn drop_sets(&mut self, alloc: Global) -> Result<(), Error>
         ensures kept { OnOk result (self.new
             ≡ record (self.old) { sets = self.new.sets; many = self.new.many }) }
-        ensures spans { OnOk result ((n : ℕ) → Keeps n self.old →
-            stretches_of self.new ≡ stretches_of self.old) }
         ensures keeps { OnOk result ((n : ℕ) → Keeps n self.old →
-            Keeps n self.new × StillRests n self.old self.new) }
+            (stretches_of self.new ≡ stretches_of self.old)
+            × (Keeps n self.new × StillRests n self.old self.new)) }
         ensures err { IfErr result (λ e. e ≡ OutOfMemory) }
     {
         let begin = self.begin();

@@ -7,7 +7,7 @@ use Rattle.dnssec_judge.specs.{declared.window.Window.Window, Inner.Window.begin
 use Rattle.dnssec_judge.proofs.window.Window.drop_sets.Goals as goal
 
 pub returns-then-all-clause-keeps : goal.returns-then-all-clause-keeps
-returns-then-all-clause-keeps c n k = (k, λ tested h le r. (h, r, refl))
+returns-then-all-clause-keeps c n k = (refl, (k, λ tested h le r. (h, r, refl)))
 
 pub returns-then-len-le-FEW : goal.returns-then-len-le-FEW
 returns-then-len-le-FEW c =
@@ -19,8 +19,7 @@ returns-then-len-le-FEW c =
     ∙ ap (λ b. filter (isnt-older b) w.sets.items) c.begin-begin.ensures in
     record {
       kept = search rules;
-      spans = λ n k. (dropped n w new refl sets (λ i d lt. tt) k).0;
-      keeps = λ n k. (dropped n w new refl sets (λ i d lt. tt) k).1;
+      keeps = λ n k. dropped n w new refl sets (λ i d lt. tt) k;
       err = search rules;
     }
 
@@ -33,10 +32,9 @@ returns c =
     ∙ filtered _ (λ h. leb c.begin-begin.result h.last) _
     (λ x b q k. search (rules, tests)) _ _ c.retain.ensures.filtered
     ∙ ap (λ b. filter (isnt-older b) w.sets.items) c.begin-begin.ensures in
-    let spans = ap (λ (x : Window). x.spans.items) kept in
     record {
       kept = search rules;
-      spans = λ n k. (dropped n w new spans sets c.in_ok-help.ensures.common k).0;
-      keeps = λ n k. (dropped n w new spans sets c.in_ok-help.ensures.common k).1;
+      keeps = λ n k. dropped n w new (ap (λ (x : Window). x.spans.items) kept) sets
+          c.in_ok-help.ensures.common k;
       err = search rules;
     }

@@ -49,7 +49,7 @@ returns-clause-ok c =
           let same : stretches_of mid ≡ stretches_of w = (λ i. stretches (sets i) (spans i)) in
           let a = moved-as n n w keeps (omega arith) mid moved in
           let noted : IsNoted news (suc n) (stretches_of w) new =
-          rw (same, at) at (g.spans n at a.0) in
+          rw (same, at) at (g.keeps n at a.0).0 in
           let up : w.floor ≤ three.floor =
           omega (
             arith,
@@ -57,7 +57,7 @@ returns-clause-ok c =
             ap (λ (x : Window). x.floor) added,
             ap (λ (x : Window). x.floor) gone,
           ) in
-          let k = (g.keeps n at a.0).0 in
+          let k = (g.keeps n at a.0).1.0 in
           let t = c.in_ok-trim.ensures.trims.spans after (suc n)
           (tiles-noted before after n news (stretches_of w) new tiles kept is noted)
           (begins-noted news (suc n) w.floor three.floor (stretches_of w) new begins up noted) k
@@ -65,7 +65,7 @@ returns-clause-ok c =
           (t.0, t.1, c.in_ok-trim.ensures.goes_on (suc n) k));
       keeps = λ n at k.
           (let a = moved-as n n w k (omega arith) mid moved in
-          let b = g.keeps n at a.0 in
+          let b = (g.keeps n at a.0).1 in
           let d = c.in_ok-trim.ensures.trims.keeps (suc n) b.0 in (
             d.0,
             rests-on n w three four (rests-on n w mid three a.1 b.1)

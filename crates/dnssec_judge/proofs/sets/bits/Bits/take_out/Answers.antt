@@ -1,10 +1,11 @@
 -- One bit of one word is cleared.
-use Rattle.std.proofs.Common.{◌≡◌, ◌∙◌, ◌<◌, Bool, ap, arith, false, length, refl}
+use Rattle.std.proofs.Common.{◌≡◌, ◌∙◌, ◌<◌, ◌≤◌, ap, arith, false, length}
 use Rattle.std.proofs.lemmas.Nat.Bits.{bit_at_clear_other, bit_at_clear_same}
-use Rattle.std.proofs.Common.{sym, true, List, ℕ, ◌%◌, ◌/◌}
+use Rattle.std.proofs.Common.{List, ℕ, ◌%◌, ◌/◌}
 use Rattle.std.specs.Prelude.{◌^◌, ◌*◌, if◌then◌else◌, nat_eq}
-use Rattle.std.proofs.lemmas.{Bool.Decides.nat_tests, List.get_or_past, Bool.eqb-true, Nat.and_le_l}
+use Rattle.std.proofs.lemmas.Bool.Decides.{nat_tests}
 use Rattle.std.specs.Int.{bit_not, w64, Bits.bit_and}
+use Rattle.dnssec_judge.proofs.Words.{bit-within}
 use Rattle.dnssec_judge.specs.Bits.{has_bit, word_at, words_of}
 use Rattle.dnssec_judge.proofs.sets.bits.Bits.take_out.Goals as goal
 
@@ -25,21 +26,11 @@ clear-bit old new number is n =
     let here = is (n / 64) in
     grind (arith, nat_tests, same, others, here)
 
-nought : (m : ℕ) → bit_and 0 m ≡ 0
-nought m = let le = and_le_l 0 m in omega (arith, le)
-
--- a word past the last is 0, and stays so
-past-written : (words : List ℕ) (index mask : ℕ) → word_at words index ≡ 0
-    → (i : ℕ) → word_at words i
-    ≡ (if nat_eq index i then bit_and (word_at words index) mask else word_at words i)
-past-written words index mask none i = by (nat_eq index i) refl
-  where
-    by : (b : Bool) → nat_eq index i ≡ b → word_at words i
-        ≡ (if b then bit_and (word_at words index) mask else word_at words i)
-    by true e =
-        ap (word_at words) (sym (eqb-true index i e)) ∙ none
-        ∙ sym (ap (λ w. bit_and w mask) none ∙ nought mask)
-    by false e = refl
+-- a number past the last word isn't in it
+absent : (words : List ℕ) (number n : ℕ) → length words ≤ number / 64
+    → has_bit words n ≡ (if nat_eq number n then false else has_bit words n)
+absent words number n past =
+    let within = bit-within words n in grind (arith, nat_tests, within)
 
 pub returns-then-index-len : goal.returns-then-index-len
 returns-then-index-len c =
@@ -50,11 +41,7 @@ returns-then-index-len c =
     ∙ ap (λ w. if nat_eq index i then bit_and w mask else word_at (words_of old) i) c.word.ensures)
 
 pub returns-else-index-len : goal.returns-else-index-len
-returns-else-index-len c =
-    let old = c.args.self.now in let index = c.args.number / 64 in
-    let mask = bit_not w64 (1 * 2 ^ (c.args.number % 64) % 2 ^ 64) in
-    let past : length old.rest.items < index =
-    omega (arith, c.if-index-len.false, c.len.ensures, old.rest.ok.0) in
-    clear-bit (words_of old) (words_of old) c.args.number
-    (past-written (words_of old) index mask
-    (get_or_past (words_of old) index 0 (omega (arith, past))))
+returns-else-index-len c n =
+    let old = c.args.self.now in
+    absent (words_of old) c.args.number n
+    (omega (arith, c.if-index-len.false, c.len.ensures, old.rest.ok.0))
