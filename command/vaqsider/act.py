@@ -15,7 +15,7 @@ from argparse import Namespace
 from pathlib import Path
 from typing import Callable
 
-from keyset import Damaged, Lines, Notes
+from keyset import Action, Damaged, Lines, Notes
 from keyset.file import Writer
 from keyset.notes import Seen
 
@@ -37,13 +37,12 @@ class Act:
     def __init__(self, args: Namespace, now: float, cds_lines: list[str]) -> None:
         self.args, self.now = args, now
         self.lines, self.zone_status = status.read(args.SCRIPT, now)
-        zone_status = self.zone_status
-        taken = ceremony.signatures(args.SCRIPT)
-        self.keys = KeySets(zone_status, args.keys or [Path(args.SCRIPT).parent], taken)
+        asks, taken = self.zone_status.asks, ceremony.signatures(args.SCRIPT)
+        self.keys = KeySets(self.zone_status, args.keys or [Path(args.SCRIPT).parent], taken)
         self.digests = args.digest or [2]
-        self.changes_ds = status.is_asked(zone_status, "UpdateDsRrset")
+        self.changes_ds = asks(Action.UPDATE_DS_RRSET)
         # The call that asks for CDS, if it is due.
-        self.step = step_of(self.lines) if status.is_asked(zone_status, "CreateCdsRrset") else None
+        self.step = step_of(self.lines) if asks(Action.CREATE_CDS_RRSET) else None
         self.has_cds = self.step is not None and not self._is_out(self.step, cds_lines)
 
     def _is_out(self, step: Call, cds_lines: list[str]) -> bool:
@@ -68,7 +67,7 @@ class Act:
         """What is published has a key that is due, or one that this script took out. Else the
         script doesn't know that the zone is signed."""
         has_begun = any(it.startswith(("start ", "set-")) for it in self.lines)
-        is_due = keys & self.keys.by(self.keys.published["dnskey"])
+        is_due = keys & self.keys.by(self.keys.published.dnskey)
         if not keys or is_due or has_begun and keys & self.keys.known or self.args.although:
             return
         tags = ",".join(str(by.tag) for by in sorted(keys))
@@ -89,7 +88,7 @@ class Act:
 def step_of(lines: list[str]) -> Call:
     """The last call that asks for CDS."""
     calls = History(lines).calls
-    return next(call for call in reversed(calls) if "CreateCdsRrset" in call.actions)
+    return next(call for call in reversed(calls) if Action.CREATE_CDS_RRSET in call.actions)
 
 
 def has_spread(step: Call, notes: list[str], now: float) -> bool:

@@ -19,7 +19,7 @@ def done(args: Namespace, act: Act, version: Version) -> tuple[list[str], dict[s
     """What was done, and what is left to do at the parent."""
     text = [version.done(), *_notices(act, version)]
     if act.changes_ds:
-        text.append(f"the parent's DS set has to be {words.listed(act.keys.published['ds'])}")
+        text.append(f"the parent's DS set has to be {words.listed(act.keys.published.ds)}")
     return [*text, *act.ds()], _value(args, act, version)
 
 

@@ -5,11 +5,12 @@ from __future__ import annotations
 
 import math
 import time
+from dataclasses import asdict, dataclass, field
 from pathlib import Path
 from typing import TYPE_CHECKING, Iterator, Sequence, cast
 
 import keyset
-from keyset import Damaged, Locked, Malformed, Notes, lines as forms, locked
+from keyset import Action, Damaged, Locked, Malformed, Notes, lines as forms, locked
 from keyset.errors import OUT_OF_MEMORY
 
 from . import check, keyfiles, shortnames, status, words
@@ -17,21 +18,33 @@ from .errors import BROKEN, DUE, OK, USAGE, WARNING, Failure
 from .history import REFUSED, History
 
 if TYPE_CHECKING:
+    from keyset import Published
+
     from .ending import Clock
     from .keyfiles import KeyFile
 
 
+@dataclass
 class CallResult:
     """The outcome of a call: its answer, what can't be true of it, and whether it was kept."""
 
-    doubts: list[str]
+    line: str
+    reply: str
+    published: Published
+    refused: str | None
+    actions: list[Action]
+    doubts: list[str] = field(default_factory=list)
+    kept: bool = False
 
-    def __init__(self, line: str, reply: str, published: dict[str, list[str]]) -> None:
-        is_refused = reply.startswith(REFUSED)
-        self.line, self.reply, self.published = line, reply, published
-        self.refused = reply[len(REFUSED) :] if is_refused else None
-        self.actions = [] if is_refused else reply.split(" ")[1:]
-        self.doubts, self.kept = [], False
+    @classmethod
+    def of(cls, line: str, reply: str, published: Published) -> CallResult:
+        """Reads the reply to a line."""
+        if reply.startswith(REFUSED):
+            return cls(line, reply, published, reply[len(REFUSED) :], [])
+        return cls(line, reply, published, None, [*map(Action, reply.split(" ")[1:])])
+
+    def as_json(self) -> dict[str, object]:
+        return {**asdict(self), "actions": [action.value for action in self.actions]}
 
     @property
     def status(self) -> int:
@@ -60,7 +73,7 @@ def call(path: str | Path, text: str, clock: Clock, although: bool = False,
         line = shortnames.full(completed(text, clock), status.whole(path, file))
         lines = [*file.lines, line]
         history = _history(path, lines)
-        result = CallResult(line, history.replies[-1], history.published)
+        result = CallResult.of(line, history.replies[-1], history.published)
         if result.refused == OUT_OF_MEMORY:
             raise MemoryError
         if not result.refused:

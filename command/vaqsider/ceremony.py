@@ -12,7 +12,7 @@ import struct
 from argparse import Namespace
 from dataclasses import asdict, dataclass
 from pathlib import Path
-from typing import TYPE_CHECKING, Any, Iterable, Iterator, Mapping, TypedDict, cast
+from typing import Any, Iterable, Iterator, Mapping, TypedDict, cast
 
 import dns.dnssec
 import dns.exception
@@ -26,10 +26,8 @@ from keyset import Notes
 
 from . import keyfiles, place, plan, status, zonefile
 from .errors import USAGE, WARNING, Failure
+from .zone_status import ZoneStatus
 from .zonefile import KeyId, ZoneRecord, parsed
-
-if TYPE_CHECKING:
-    from keyset import Status
 
 IN, DNSKEY = dns.rdataclass.IN, dns.rdatatype.DNSKEY
 # From how long before their first moment signatures are valid, in seconds, and their file's suffix.
@@ -87,7 +85,7 @@ class Period:
     end: int
 
 
-def periods(lines: list[str], zone_status: Status, args: Namespace, now: int) -> list[Period]:
+def periods(lines: list[str], zone_status: ZoneStatus, args: Namespace, now: int) -> list[Period]:
     """The sets of the time that is asked for: the one that is due, and those of planned rolls."""
     course = plan.Plan(lines, now, *plan.assumed(args.SCRIPT, args.ttls, args.delays, now))
     for line in args.first or ():
@@ -96,12 +94,11 @@ def periods(lines: list[str], zone_status: Status, args: Namespace, now: int) ->
         roll, old, new = _roll(words)
         course.roll(roll, old, new)
     last = max(now + int(args.span), course.moment)
-    steps = [(now, status.sets_of(zone_status)),
-             *((it["moment"], it["published"]) for it in course.steps)]
+    steps = [(now, zone_status.published), *((it.moment, it.published) for it in course.steps)]
     ends = [*(moment for moment, _ in steps[1:]), last]
     by_sets: dict[tuple[frozenset[str], frozenset[str]], Period] = {}
     for (begin, published), end in zip(steps, ends):
-        sets = frozenset(published["dnskey"]), frozenset(published["signers"])
+        sets = frozenset(published.dnskey), frozenset(published.signers)
         by_sets[sets] = Period(*sets, by_sets[sets].begin if sets in by_sets else begin, end)
     return list(by_sets.values())
 
@@ -128,7 +125,7 @@ def asked(args: Namespace, now: int) -> list[SignatureRequest]:
     if args.lifetime < 2 * BEFORE:
         raise Failure(f"--lifetime: signatures have to be valid for {2 * BEFORE} seconds at least",
                       USAGE)
-    files, origin = KeyFiles(args), zone_status["zone"].rstrip(".") + "."
+    files, origin = KeyFiles(args), zone_status.origin
     return [request for one in of for request in _of(one, files, origin, args)]
 
 
@@ -178,7 +175,7 @@ def take(args: Namespace, now: int) -> list[ZoneRecord]:
     """Keeps the signatures of a file, if all of them are right. Gives those that are new."""
     Notes(args.SCRIPT)
     _, zone_status = status.read(args.SCRIPT, now)
-    origin = zone_status["zone"].rstrip(".") + "."
+    origin = zone_status.origin
     try:
         rows = [_taken(it, number, origin, KeyFiles(args))
                 for number, it in enumerate(_requests_in(args.take), start=1) if it["signature"]]

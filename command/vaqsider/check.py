@@ -9,19 +9,16 @@ import math
 import re
 from dataclasses import dataclass
 from pathlib import Path
-from typing import TYPE_CHECKING, Iterable, Iterator, cast
+from typing import Iterable, Iterator, cast
 
-from keyset import Lines, Notes
+from keyset import Lines, Notes, Role
 from keyset.lines import OF_CLOCK
-from keyset.members import roles_of
 from keyset.rolls import ALGORITHM_ROLL, rolls_of
 
 from . import looks, resting, status, words
 from .errors import BROKEN, DUE, OK, WARNING, failure_of
 from .history import SAFE, Call, History
-
-if TYPE_CHECKING:
-    from keyset.members import RoleMembers, Status
+from .zone_status import CACHES, ZoneStatus
 
 KSK_ROLLS = (*rolls_of("ksk"), *rolls_of("csk"))
 # After this time a look is of the past: with it nobody says that all is well.
@@ -72,9 +69,9 @@ def _findings(file: Lines, path: str | Path, now: float) -> Iterator[Finding]:
         yield from false_claims(history, path, now)
         yield from _of_clock(Notes(path), now)
     status.whole(path, file)
-    zone_status = status.at(history.status, now, status.goes_on(resting.of_ticks(path)))
+    zone_status = history.status.at(now, status.goes_on(resting.of_ticks(path)))
     yield from _due(zone_status)
-    if any(zone_status["published"].values()):
+    if zone_status.has_sets:
         yield from _of_look(path, len(file.lines), now)
 
 
@@ -104,18 +101,19 @@ def is_asked(path: str | Path, now: float) -> bool:
     """Whether the servers were asked within a day, or there is nothing to ask for."""
     kept = looks.read(path)
     if kept is None:
-        return not any(status.read(path, now)[1]["published"].values())
+        return not status.read(path, now)[1].has_sets
     return 0 <= kept.age(now) < DAY
 
 
-def _due(zone_status: Status) -> Iterator[Finding]:
+def _due(zone_status: ZoneStatus) -> Iterator[Finding]:
     """What waits for somebody, and what was ended early."""
-    for roll in zone_status["rolls"]:
-        if roll["waits_for"] != status.CACHES:
-            text = f"{roll['roll']} waits for {roll['waits_for']}: {status.comes_next(roll)}"
+    for roll in zone_status.rolls:
+        waits_for = zone_status.waits_for[roll.roll]
+        if waits_for != CACHES:
+            text = f"{roll.roll.value} waits for {waits_for}: {status.comes_next(roll)}"
             yield Finding(DUE, text)
-    for ended in zone_status["ended"]:
-        yield Finding(DUE, f"{ended['roll']} was ended early, and its actions may not be done")
+    for ended in zone_status.ended:
+        yield Finding(DUE, f"{ended.roll.value} was ended early, and its actions may not be done")
 
 
 def false_claims(
@@ -186,16 +184,16 @@ def _of_clock(notes: Notes, now: float) -> Iterator[Finding]:
 def _mixed(history: History) -> dict[int, int]:
     """The algorithms that have only KSKs or only ZSKs in use, each with the line since when."""
     since: dict[int, int] = {}
-    if _alone(roles_of(history.status)):
+    if _alone((key.algorithm, role) for key in history.status.keys for role in key.roles):
         for call, state in history.states():
-            alone = _alone(state.roles)
+            alone = _alone((algorithm, Role(**role)) for algorithm, role in state.roles)
             since = {algorithm: since.get(algorithm, call.number) for algorithm in alone}
     return since
 
 
-def _alone(roles: Iterable[tuple[int, RoleMembers]]) -> set[int]:
-    used: dict[str, set[int]] = {"ksk": set(), "zsk": set(), "public": set()}
-    for algorithm, role in roles:
-        if not role["old"] and (role["signer"] or role["present"] or role["at_parent"]):
-            used[role["role"]].add(algorithm)
-    return used["ksk"] ^ used["zsk"] if used["ksk"] and used["zsk"] else set()
+def _alone(roles: Iterable[tuple[int, Role]]) -> set[int]:
+    """The algorithms of which only a KSK or only a ZSK is in use, if there are both."""
+    used = [(role.role, algorithm) for algorithm, role in roles
+            if not role.old and (role.signer or role.present or role.at_parent)]
+    ksks, zsks = ({algorithm for of, algorithm in used if of == kind} for kind in ("ksk", "zsk"))
+    return ksks ^ zsks if ksks and zsks else set()

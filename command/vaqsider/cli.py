@@ -16,10 +16,9 @@ from .errors import BROKEN, FAULTY, OK, UNPRINTED, Failure, failure_of
 from .parsing import parsed
 
 if TYPE_CHECKING:
-    from keyset import Status
-
     from .keyfiles import KeyFile
     from .state import State
+    from .zone_status import ZoneStatus
 
 # An exit status, lines for people, and the value that --json prints.
 Outcome = Tuple[int, Iterable[str], object]
@@ -93,7 +92,7 @@ def on_call(args: Namespace) -> Outcome:
     from . import calling
 
     result = calling.call(args.SCRIPT, args.LINE, clock, args.although, args.dry_run)
-    return result.status, result.text(), vars(result)
+    return result.status, result.text(), result.as_json()
 
 
 def on_status(args: Namespace) -> Outcome:
@@ -108,9 +107,9 @@ def on_status(args: Namespace) -> Outcome:
             screens.append("\n".join(status.screen(zone, shortnames.names(lines), last)))
         except Exception as error:
             ends_with.append(_said(error).status)
-    ends_with += [BROKEN for zone in zones if not zone["chain"]["safe"]]
+    ends_with += map(_verdict, zones)
     text = ["\n\n".join(screens)] if zones else []
-    return max(ends_with), text, zones
+    return max(ends_with), text, [zone.as_json() for zone in zones]
 
 
 def on_check(args: Namespace) -> Outcome:
@@ -132,18 +131,18 @@ def on_plan(args: Namespace) -> Outcome:
     lines, zone_status = status.read(args.SCRIPT, clock())
     begin = int(clock() if args.start is None else args.start)
     ttls, delays = plan.assumed(args.SCRIPT, args.ttls, args.delays, begin)
-    roll_plan = plan.Plan(lines, begin, ttls, delays, signers.planned(args, zone_status["zone"]))
+    roll_plan = plan.Plan(lines, begin, ttls, delays, signers.planned(args, zone_status.zone))
     for line in args.first or ():
         roll_plan.call(line)
     roll_plan.roll(args.ROLL, args.OLD, args.NEW)
-    planned = [step["line"] for step in roll_plan.steps]
+    planned = [step.line for step in roll_plan.steps]
     text = planned if args.script else plan.as_text(roll_plan.steps)
     if args.calendar:
-        text = plan.as_calendar(zone_status["zone"], roll_plan.steps)
+        text = plan.as_calendar(zone_status.zone, roll_plan.steps)
     elif args.picture:
         course = timeline.timeline([*lines, *planned], Notes(args.SCRIPT).lines)
-        text = draw.picture(zone_status["zone"], course, clock())
-    return _verdict(zone_status), text, roll_plan.steps
+        text = draw.picture(zone_status.zone, course, clock())
+    return _verdict(zone_status), text, plan.as_json(roll_plan.steps)
 
 
 def on_draw(args: Namespace) -> Outcome:
@@ -155,7 +154,7 @@ def on_draw(args: Namespace) -> Outcome:
 
     lines, zone_status = status.read(args.SCRIPT, clock())
     course = timeline.timeline(lines, Notes(args.SCRIPT).lines)
-    text = list(draw.picture(zone_status["zone"], course, clock(), args.since))
+    text = list(draw.picture(zone_status.zone, course, clock(), args.since))
     if args.out:
         arguments.expect_other(args.out, args.SCRIPT)
         Path(args.out).write_text("\n".join([*text, ""]), encoding="utf-8")
@@ -214,7 +213,7 @@ def on_zones(args: Namespace) -> Outcome:
         args.FOLDER, clock(), lambda done, of: progress(f"{done} of {of}"), counts
     ))
     progress("")
-    is_safe = all(zone["chain_safe"] for zone in rows)
+    is_safe = all(zone.chain_safe for zone in rows)
     text: Iterable[str]
     text = zones.prometheus(rows) if args.prometheus else zones.table(rows)
     if args.html:
@@ -226,7 +225,7 @@ def on_zones(args: Namespace) -> Outcome:
 
         place.write(Path(args.out), "".join(f"{line}\n" for line in text))
         text = ()
-    return OK if is_safe else BROKEN, text, rows
+    return OK if is_safe else BROKEN, text, list(map(vars, rows))
 
 
 def on_policy(args: Namespace) -> Outcome:
@@ -274,8 +273,8 @@ def on_next(args: Namespace) -> Outcome:
     return rollwords.next_(args, clock)
 
 
-def _verdict(zone_status: Status) -> int:
-    return OK if zone_status["chain"]["safe"] else BROKEN
+def _verdict(zone_status: ZoneStatus) -> int:
+    return BROKEN if zone_status.broken else OK
 
 
 def _said(error: BaseException) -> Failure:

@@ -7,14 +7,16 @@ from dataclasses import dataclass
 from pathlib import Path
 from typing import TYPE_CHECKING, Callable, Iterable, Iterator, Sequence, cast
 
-from . import keyfiles, status, words
+from . import keyfiles, words
 from .asking import Answer, Record, dns
 from .errors import Failure
 
 if TYPE_CHECKING:
     from dns.dnssectypes import DSDigest
 
-    from keyset import Status
+    from keyset import Published
+
+    from .zone_status import ZoneStatus
 
 # The type that has the signatures of each kind, and what else is asked for: CDS has to be out.
 TYPES = {
@@ -67,35 +69,33 @@ class DueSets:
     """What has to be published: the keys of each set. `faults` are key files that are missing."""
 
     zone: str
-    published: dict[str, list[str]]
+    published: Published
     keys: dict[str, DueKey]
     known: frozenset[tuple[int, int]]
     is_shared: bool
     faults: tuple[str, ...]
 
     @classmethod
-    def of(cls, zone_status: Status, folders: Sequence[str | Path]) -> DueSets:
+    def of(cls, zone_status: ZoneStatus, folders: Sequence[str | Path]) -> DueSets:
         """What a status says, with the key files in these folders."""
-        published = status.sets_of(zone_status)
-        names = {name for of in published.values() for name in of}
         keys: dict[str, DueKey]
         faults: list[str]
         keys, faults = {}, []
-        for key in (key for key in zone_status["keys"] if key["reference"] in names):
+        for key in zone_status.keys_in_sets():
             record = None
             try:
                 record = dnskey_of(keyfiles.find(key, folders))
             except Failure as failure:
-                if key["kind"] != "public":
+                if key.kind != "public":
                     faults.append(str(failure))
-            tag, algorithm, reference = key["tag"], key["algorithm"], key["reference"]
-            keys[reference] = DueKey(reference, tag, algorithm, record)
-        known = frozenset((key["tag"], key["algorithm"]) for key in zone_status["keys"])
-        is_shared = any(key["kind"] == "public" for key in zone_status["keys"])
-        return cls(zone_status["zone"], published, keys, known, is_shared, tuple(faults))
+            keys[key.reference] = DueKey(key.reference, key.tag, key.algorithm, record)
+        known = frozenset((key.tag, key.algorithm) for key in zone_status.keys)
+        is_shared = any(key.kind == "public" for key in zone_status.keys)
+        return cls(zone_status.zone, zone_status.published, keys, known, is_shared, tuple(faults))
 
-    def of_set(self, kind: str) -> list[DueKey]:
-        return [self.keys[name] for name in self.published[kind]]
+    def named(self, references: Iterable[str]) -> list[DueKey]:
+        """The keys of these references."""
+        return [self.keys[name] for name in references]
 
 
 def folders_of(args: Namespace) -> list[str | Path]:
@@ -118,7 +118,7 @@ def _of_cds(due: DueSets, type_: str, answer: Answer, now: float) -> Iterator[st
 def cds_lacks(due: DueSets, type_: str, answer: Answer, now: float) -> list[str]:
     """What is wrong with CDS or CDNSKEY records while they may be in. Those of another signer
     aren't known."""
-    keys = [key.record for key in due.of_set("ds") if key.record]
+    keys = [key.record for key in due.named(due.published.ds) if key.record]
     right = [it.to_text() for it in keys]
     if type_ == "CDS":
         made = (ds_of(it, digest, due.zone) for it in keys for digest in DIGESTS)
@@ -129,18 +129,18 @@ def cds_lacks(due: DueSets, type_: str, answer: Answer, now: float) -> list[str]
 
 
 def _of_dnskey(due: DueSets, type_: str, answer: Answer, now: float) -> Iterator[str]:
-    wanted, given = due.of_set("dnskey"), answer.records
+    wanted, given = due.named(due.published.dnskey), answer.records
     yield from _of_tags("DNSKEY", map(dns.dnssec.key_id, given), (key.tag for key in wanted))
     if sorted(map(dns.dnssec.key_id, given)) == sorted(key.tag for key in wanted):
         for key in wanted:
             if not any(map(key.is_of, given)):
                 yield f"DNSKEY {key.tag} isn't that of {key.reference}"
-    for key in due.of_set("signers"):
+    for key in due.named(due.published.signers):
         yield from signed(due.zone, answer, key, now).faults
 
 
 def _of_zone(due: DueSets, type_: str, answer: Answer, now: float) -> Iterator[str]:
-    wanted = due.of_set("zone")
+    wanted = due.named(due.published.zone)
     by = {(it.key_tag, it.algorithm) for it in answer.signatures}
     if by != {(key.tag, key.algorithm) for key in wanted}:
         tags = {tag for tag, _ in by}
@@ -153,7 +153,7 @@ def _of_zone(due: DueSets, type_: str, answer: Answer, now: float) -> Iterator[s
 
 
 def _of_ds(due: DueSets, type_: str, answer: Answer, now: float) -> Iterator[str]:
-    wanted, given = due.of_set("ds"), list(answer.records)
+    wanted, given = due.named(due.published.ds), list(answer.records)
     if due.is_shared:
         # The other signer's keys with a DS aren't in the script.
         given = [it for it in given if (it.key_tag, it.algorithm) in due.known

@@ -16,11 +16,11 @@ from .errors import BROKEN, DUE, WARNING
 from .policies import Policy
 
 if TYPE_CHECKING:
-    from keyset import Status
+    from .zone_status import ZoneStatus
 
 
-def expect_chain(zone_status: Status) -> None:
-    if not zone_status["chain"]["safe"]:
+def expect_chain(zone_status: ZoneStatus) -> None:
+    if zone_status.broken:
         raise EndOfTick(BROKEN, "the chain of trust is broken: nothing is done until it is mended")
 
 

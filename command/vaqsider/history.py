@@ -7,13 +7,15 @@ from itertools import accumulate
 from typing import TYPE_CHECKING, Iterable, Iterator, Sequence, cast
 
 import keyset
+from keyset import Action, Published
 from keyset.bounds import Reported
 from keyset.lines import OF_CLOCK, Line
 
 from . import words
+from .zone_status import ZoneStatus
 
 if TYPE_CHECKING:
-    from keyset.members import After, Status
+    from keyset.members import After
 
 REPORTED_FROM = {"report1": "start", "report2": "wait1"}
 REFUSED, SAFE = "refused: ", "chain safe"
@@ -23,7 +25,8 @@ class Call:
     """An accepted line with its number in the file, its actions, and the last moment so far."""
 
     def __init__(self, number: int, text: str, reply: str, clock: int) -> None:
-        self.number, self.line, self.actions = number, Line(text), reply.split(" ")[1:]
+        self.number, self.line = number, Line(text)
+        self.actions = [*map(Action, reply.split(" ")[1:])]
         # (These lines have a moment.)
         self.moment = cast(int, self.line.moment) if self.line.word in OF_CLOCK else clock
 
@@ -43,13 +46,13 @@ class History:
 
     refused: list[tuple[int, str]]
     calls: list[Call]
-    published: dict[str, list[str]]
+    published: Published
     _steps: dict[int, Call]
 
     def __init__(self, lines: Sequence[str]) -> None:
         self.lines, self.refused, self.calls, self._steps = lines, [], [], {}
         *self.replies, sets, self.verdict = keyset.run(lines)
-        self.published = vars(keyset.Published.of(sets))
+        self.published = Published.of(sets)
         last: dict[tuple[str | None, str], Call]
         clock, last = 0, {}
         for number, (text, reply) in enumerate(zip(lines[1:], self.replies), start=2):
@@ -63,9 +66,9 @@ class History:
                 self._steps[number] = last[call.line.roll, REPORTED_FROM[call.line.word]]
 
     @cached_property
-    def status(self) -> Status:
+    def status(self) -> ZoneStatus:
         """The status after the last line."""
-        return keyset.status(self.lines)
+        return ZoneStatus.of(keyset.status(self.lines))
 
     def step_of(self, report: Call) -> tuple[Call, list[str]]:
         """The step that an accepted report counts from: the start of its roll, or its first wait.

@@ -11,9 +11,12 @@ import re
 import struct
 import time
 from pathlib import Path
-from typing import Sequence, TypedDict
+from typing import TYPE_CHECKING, Sequence
 
 from .errors import BROKEN, UNAVAILABLE, Failure
+
+if TYPE_CHECKING:
+    from keyset import Key
 
 SEP, ZONE_KEY, REVOKED = 0x0001, 0x0100, 0x0080
 RECORD = re.compile(
@@ -22,15 +25,6 @@ RECORD = re.compile(
     re.IGNORECASE,
 )
 CREATED = re.compile(r"^;\s*Created:\s*(\d{14})", re.MULTILINE)
-
-
-class KeyReference(TypedDict):
-    """A key as a script has it: its reference names its file."""
-
-    reference: str
-    tag: int
-    algorithm: int
-    private: str | None
 
 
 class KeyFile:
@@ -93,15 +87,15 @@ def read(path: str | Path) -> KeyFile:
         raise Failure(f"{path or repr(path)}: no key file of BIND or ldns") from None
 
 
-def find(key: KeyReference, folders: Sequence[str | Path]) -> KeyFile:
+def find(key: Key, folders: Sequence[str | Path]) -> KeyFile:
     """The file of a key, which its reference names, with or without `.key`."""
-    name = key["reference"].rpartition("/")[2].removesuffix(".key")
+    name = key.reference.rpartition("/")[2].removesuffix(".key")
     for path in (Path(folder) / f"{name}.key" for folder in folders):
         if path.is_file():
             file = read(path)
-            if (file.tag, file.algorithm) != (key["tag"], key["algorithm"]):
+            if (file.tag, file.algorithm) != (key.tag, key.algorithm):
                 raise Failure(f"{path}: its tag or algorithm isn't that of the script", BROKEN)
-            file.reference = key["private"]
+            file.reference = key.private
             return file
     places = ", ".join(map(str, folders))
-    raise Failure(f"no key file for {key['reference']} in {places}", UNAVAILABLE)
+    raise Failure(f"no key file for {key.reference} in {places}", UNAVAILABLE)

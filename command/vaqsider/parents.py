@@ -9,19 +9,16 @@ from collections.abc import Iterator
 from dataclasses import dataclass
 from typing import TYPE_CHECKING
 
-from keyset import Notes
+from keyset import Action, Notes
 
-from . import comparing, looking, status
+from . import comparing, looking
 from .errors import NoAnswer
 from .history import History
 from .looking import Look, Places
 
 if TYPE_CHECKING:
-    from keyset import Status
-
     from .ending import Clock
-
-ASKED = "UpdateDsRrset"
+    from .zone_status import ZoneStatus
 
 
 @dataclass(frozen=True)
@@ -74,9 +71,9 @@ def rises(
         yield DsVersion(published[-1].call, max(published[-1].ttl, new))
 
 
-def note(notes: Notes, lines: list[str], zone_status: Status, look: Look) -> None:
+def note(notes: Notes, lines: list[str], zone_status: ZoneStatus, look: Look) -> None:
     """Notes the TTLs of the DS sets in a look that are above the noted ones."""
-    step = _step(lines) if status.is_asked(zone_status, ASKED) else None
+    step = _step(lines) if zone_status.asks(Action.UPDATE_DS_RRSET) else None
     old = new = 0
     for (kind, type_, _), answer in look.answers.items():
         if kind == "ds" and not answer.fault:
@@ -89,11 +86,11 @@ def note(notes: Notes, lines: list[str], zone_status: Status, look: Look) -> Non
 
 def _step(lines: list[str]) -> int:
     """The number of the last call that asked for another DS set."""
-    asked = [call.number - 1 for call in History(lines).calls if ASKED in call.actions]
-    return asked[-1]
+    return [call.number - 1 for call in History(lines).calls
+            if Action.UPDATE_DS_RRSET in call.actions][-1]
 
 
-def before_step(args: Namespace, lines: list[str], zone_status: Status, clock: Clock) -> None:
+def before_step(args: Namespace, lines: list[str], zone_status: ZoneStatus, clock: Clock) -> None:
     """Before a change of the DS set is published for the first time: notes the TTL of the set that
     is there. After that caches may keep it for so long, and nobody could see it any more."""
     notes = Notes(args.SCRIPT)

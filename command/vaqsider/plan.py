@@ -5,8 +5,9 @@ The key set answers the calls. How long servers and the parent take is assumed h
 from __future__ import annotations
 
 import base64
+from dataclasses import asdict, dataclass, replace
 from pathlib import Path
-from typing import TYPE_CHECKING, Collection, Iterable, Iterator, Mapping, Sequence, TypedDict
+from typing import TYPE_CHECKING, Collection, Iterable, Iterator, Mapping, Sequence
 
 from keyset import Action, KeySet, Malformed, Notes, Published, Refused, RollType
 from keyset.lines import Line
@@ -15,7 +16,7 @@ from keyset.notes import KINDS, Seen, lasts, to_report
 from . import calling, keyfiles, words
 from .errors import DUE, USAGE, Failure
 from .keyfiles import SEP, ZONE_KEY
-from .signers import DELETION, Key, Sets
+from .signers import Key, Sets
 
 if TYPE_CHECKING:
     import keyset
@@ -34,15 +35,19 @@ class SignerLimit(Failure):
         super().__init__(f"{line}: {self.lacks}", DUE)
 
 
-class Step(TypedDict):
+@dataclass(frozen=True)
+class Step:
     """A call of a plan, with its moment, what it asks, and what is so after it."""
 
     moment: int
     line: str
-    actions: list[str]
+    actions: list[Action]
     asks: list[str]
-    published: dict[str, list[str]]
+    published: Published
     verdict: str
+
+    def as_json(self) -> dict[str, object]:
+        return {**asdict(self), "actions": [action.value for action in self.actions]}
 
 
 class Plan:
@@ -65,33 +70,26 @@ class Plan:
         """Makes a call, and gives the kinds of sets that it asks to watch."""
         line = calling.completed(text, lambda: self.moment)
         try:
-            accepted = self.keys.call(line)
-            actions = [action.value for action in accepted]
+            actions = list(self.keys.call(line))
         except Refused as error:
             reason = f"refused: {error}; {words.refusal(str(error))}"
             raise Failure(f"{line}: {reason}", DUE) from None
         except Malformed as error:
             raise Failure(f"{line}: {error.reason}", USAGE) from None
-        published = vars(self.keys.published)
+        published = self.keys.published
         if self.signer is not None:
-            self._expect(self.signer, line, accepted, published)
+            self._expect(self.signer, line, actions, published)
         asks, verdict = list(words.asks(actions, published)), f"chain {self.keys.chain}"
-        self.steps.append({
-            "moment": self.moment, "line": line, "actions": actions, "asks": asks,
-            "published": published, "verdict": verdict,
-        })
+        self.steps.append(Step(self.moment, line, actions, asks, published, verdict))
         return words.kinds_of(actions)
 
     def _expect(self, signer: PlanSigner, line: str, actions: Collection[Action],
-                published: Mapping[str, Iterable[str]]) -> None:
+                published: Published) -> None:
         """The signer can do what a call asks for."""
-        keys = {key.reference: _key(key, signer.folders) for key in self.keys.keys().values()}
-        of = {kind: frozenset(keys[name] for name in names) for kind, names in published.items()}
-        cds = of["ds"] or frozenset([Key(DELETION)])
-        cds = cds if Action.CREATE_CDS_RRSET in actions else frozenset()
-        wanted = Sets(of["dnskey"], of["signers"], of["zone"], cds)
+        keys = {name: _key(key, signer.folders) for name, key in self.keys.keys().items()}
+        wanted = Sets.of(published, keys, Action.CREATE_CDS_RRSET in actions)
         lacks = list(signer.lacks(wanted))
-        if set(published["dnskey"]) != self.present:
+        if set(published.dnskey) != self.present:
             lacks += signer.away(wanted, self.moment)
         if lacks:
             raise SignerLimit(line, lacks)
@@ -120,8 +118,7 @@ class Plan:
 def _key(known: keyset.Key, folders: Sequence[str | Path]) -> Key:
     """A key for a signer: by its file, or else by what the script says of it."""
     try:
-        file = keyfiles.find({"reference": known.reference, "tag": known.tag,
-                              "algorithm": known.algorithm, "private": None}, folders)
+        file = keyfiles.find(replace(known, private=None), folders)
         return Key.of(file.data, known.reference, file)
     except Failure:
         flags = ZONE_KEY | (SEP if known.kind in ("ksk", "csk") else 0)
@@ -142,24 +139,29 @@ def _by_kind(given: Sequence[int] | None, usual: Sequence[int],
     return dict(zip(KINDS, given)) if given else {**dict(zip(KINDS, usual)), **of_notes}
 
 
+def as_json(steps: Iterable[Step]) -> list[dict[str, object]]:
+    """The same for --json."""
+    return [step.as_json() for step in steps]
+
+
 def as_text(steps: Iterable[Step]) -> Iterator[str]:
     """A line for each call, with what it asks, what is published after it, and the verdict."""
     for step in steps:
-        yield f"{words.moment(step['moment'])}  {step['line']}"
-        yield from (f"    {text}" for text in step["asks"])
-        yield f"    {Published(**step['published'])}, {step['verdict']}"
+        yield f"{words.moment(step.moment)}  {step.line}"
+        yield from (f"    {text}" for text in step.asks)
+        yield f"    {step.published}, {step.verdict}"
 
 
 def as_calendar(zone: str, steps: Iterable[Step]) -> Iterator[str]:
     """The lines of an iCalendar file (RFC 5545): an event for each call."""
     yield from ("BEGIN:VCALENDAR\r", "VERSION:2.0\r", "PRODID:-//vaqsider//plan//EN\r")
     for number, step in enumerate(steps):
-        moment = words.utc(step["moment"], "%Y%m%dT%H%M%SZ")
-        says = "\n".join([step["line"], *step["asks"], step["verdict"]])
+        moment = words.utc(step.moment, "%Y%m%dT%H%M%SZ")
+        says = "\n".join([step.line, *step.asks, step.verdict])
         yield "BEGIN:VEVENT\r"
-        yield f"UID:{number}-{step['moment']}@{zone.rstrip('.') or 'root'}\r"
+        yield f"UID:{number}-{step.moment}@{zone.rstrip('.') or 'root'}\r"
         yield from (f"DTSTAMP:{moment}\r", f"DTSTART:{moment}\r")
-        yield from _folded("SUMMARY", f"{zone}: {Line(step['line']).word}")
+        yield from _folded("SUMMARY", f"{zone}: {Line(step.line).word}")
         yield from _folded("DESCRIPTION", says)
         yield "END:VEVENT\r"
     yield "END:VCALENDAR\r"

@@ -6,6 +6,7 @@ from __future__ import annotations
 from dataclasses import dataclass, field
 from typing import Iterable, Iterator
 
+from keyset import RollType
 from keyset.notes import KINDS, Seen, to_report
 
 from . import advice, plan, words
@@ -58,7 +59,7 @@ class Play:
             deeds, last = (deeds + 1, last) if self.moment == last else (0, self.moment)
             if deeds > MOST_AT_ONCE:
                 raise Failure(f"it stands still: {said.line}", UNAVAILABLE)
-        return [step for step in self.steps if step["moment"] < end]
+        return [step for step in self.steps if step.moment < end]
 
     def _do(self, next_deed: Advice) -> None:
         if next_deed.word == advice.CALL:
@@ -75,15 +76,15 @@ class Play:
     def _call(self, line: str) -> None:
         self.course.moment = self.moment
         self.course.call(self._reported(line))
-        self.lines.append(self.steps[-1]["line"])
+        self.lines.append(self.steps[-1].line)
 
     def _reported(self, line: str) -> str:
         """A report with its TTL, or that of CDS."""
         word, roll, *rest = line.split(" ")
         if not word.startswith("report"):
             return line
-        asked = {it["roll"]: it["due"] for it in self.course.keys.status()["rolls"]}
-        ttl = to_report(int(rest[0]), words.kinds_of(asked[roll]), roll, self.ttls)
+        kinds = words.kinds_of(self.course.keys.actions(RollType(roll)))
+        ttl = to_report(int(rest[0]), kinds, roll, self.ttls)
         return f"{word} {roll} {ttl + 2 * self.policy.clock} {rest[1]}"
 
     def _key(self, role: str, algorithm: str) -> str:
@@ -118,4 +119,4 @@ def invented(zone: str) -> list[str]:
 def texts(steps: Iterable[Step]) -> Iterator[str]:
     """A line for each call."""
     for step in steps:
-        yield f"{words.moment(step['moment'])}  {step['line']}"
+        yield f"{words.moment(step.moment)}  {step.line}"

@@ -24,7 +24,7 @@ from . import (
 from .ending import Clock, Log
 from .errors import OK, USAGE, Failure
 from .linting import Spans, planned
-from .plan import Step
+from .plan import Step, as_json
 from .playing import Play
 from .policies import Policy
 
@@ -46,9 +46,9 @@ def roll(args: Namespace, clock: Clock) -> Outcome:
     if not steps:
         raise Failure(f"no {of} would begin within {words.duration(SHOWN)}: "
                       f"'vaqsider next {args.SCRIPT} --dry-run' says what comes before it")
-    _expect(args.to, steps[0]["line"])
+    _expect(args.to, steps[0].line)
     if args.dry_run or not (args.yes or _agreed(steps)):
-        return OK, playing.texts(steps if args.dry_run else ()), steps
+        return OK, playing.texts(steps if args.dry_run else ()), as_json(steps)
     for line in add:
         calling.call(args.SCRIPT, line, clock)
     with journal.alone(args.SCRIPT) as lines:
@@ -95,7 +95,7 @@ def _play(
     lines, zone_status = status.read(script, now)
     spans, notes = Spans.of(script, now), Notes(script).lines
     asked = {**journal.once_of(script), **once}
-    signer = planned(policy, script, zone_status["zone"])
+    signer = planned(policy, script, zone_status.zone)
     return Play(policy, [*lines, *add], notes, now, spans.ttls, spans.delays, asked, signer)
 
 
@@ -103,7 +103,7 @@ def _steps(play: Play, of: str) -> Iterator[Step]:
     """The calls from a roll's start to its end, with those beside it."""
     has_begun = False
     for step in play.until(play.moment + SHOWN):
-        line = step["line"]
+        line = step.line
         has_begun |= line.startswith(f"start {of} ")
         if has_begun:
             yield step

@@ -10,12 +10,11 @@ from keyset import Notes
 from . import draw, plan, playing, policies, status, timeline
 from .errors import OK
 from .linting import Spans
-from .plan import Step
 from .playing import Play
 from .subjects import Subject, subjects
 
 Clock = Callable[[], float]
-Outcome = tuple[int, Iterator[str], list[Step]]
+Outcome = tuple[int, Iterator[str], object]
 YEAR = 365 * policies.DAY
 # A policy file without a zone is shown of a zone with this name, which has no key yet.
 EXAMPLE = "example.com"
@@ -35,7 +34,7 @@ def show(args: Namespace, clock: Clock) -> Outcome:
     """Each policy with the calls of the time to come."""
     shown = [(it, play_of(it, clock())) for it in subjects(args.SCRIPT)]
     end = int(clock()) + YEAR if args.until is None else args.until
-    steps = [step for _, play in shown for step in play.until(end)]
+    steps = plan.as_json(step for _, play in shown for step in play.until(end))
     if args.calendar or args.picture:
         return OK, _drawn(args, shown, clock()), steps
     return OK, (line for it, play in shown for line in _text(it, play, end)), steps
@@ -45,7 +44,7 @@ def _text(subject: Subject, play: Play, end: int) -> Iterator[str]:
     yield f"{subject.place}: by {subject.policy.source}"
     yield from (f"  {line}" for line in subject.policy.said())
     yield ""
-    steps = (step for step in play.steps if step["moment"] < end)
+    steps = (step for step in play.steps if step.moment < end)
     yield from (f"  {line}" for line in playing.texts(steps))
 
 

@@ -9,7 +9,6 @@ from dataclasses import dataclass, field
 from pathlib import Path
 from typing import TYPE_CHECKING
 
-from . import status
 from .arguments import file_name
 from .policies import Policy
 from .signers import Sets
@@ -18,7 +17,7 @@ from .zonefile import KeyId, PartialRecord, covered, parsed, rows
 if TYPE_CHECKING:
     from dns.rdtypes.ANY.DNSKEY import DNSKEY
 
-    from keyset import Status
+    from .zone_status import ZoneStatus
 
 
 @dataclass
@@ -73,13 +72,14 @@ class Standing:
         ends = [end for by, end in self.by_key.items() if by not in away]
         return min([*ends, *([] if self.until is None else [self.until])], default=None)
 
-    def is_due(self, zone_status: Status) -> bool:
+    def is_due(self, zone_status: ZoneStatus) -> bool:
         """Whether its sets are those that a status asks for. CDS is another question."""
-        of = {key["reference"]: KeyId(key["algorithm"], key["tag"]) for key in zone_status["keys"]}
-        sets = status.sets_of(zone_status)
-        due = {kind: {of[name] for name in names} for kind, names in sets.items()}
+        of = {key.reference: KeyId(key.algorithm, key.tag) for key in zone_status.keys}
+        sets = zone_status.published
+        due = tuple({of[name] for name in names}
+                    for names in (sets.dnskey, sets.signers, sets.zone))
         signers = self.signed.get("DNSKEY", set()), self.signed.get("SOA", set())
-        return (self.keys, *signers) == (due["dnskey"], due["signers"], due["zone"])
+        return (self.keys, *signers) == due
 
 
 def _tag(key: DNSKEY) -> int:

@@ -7,19 +7,16 @@ from argparse import Namespace
 from collections.abc import Iterable, Iterator, Sequence
 from dataclasses import asdict, dataclass
 from pathlib import Path
-from typing import TYPE_CHECKING
 
 import keyset
-from keyset import Notes
+from keyset import Action, Notes
 
-from . import chains, comparing, looking, looks, parents, status, words
+from . import chains, comparing, looking, looks, parents, words
 from .asking import Server, dns
 from .comparing import DueSets
 from .errors import BROKEN, DUE, OK, WARNING, Failure
 from .looking import Lack, Look, Places
-
-if TYPE_CHECKING:
-    from keyset import Status
+from .zone_status import ZoneStatus
 
 KINDS = ("cds", "dnskey", "ds", "ns", "zone")
 HEAD = ("SERVER", "DNSKEY", "DS", "SIGNED UNTIL", "SERIAL", "CDS")
@@ -46,7 +43,7 @@ class ServerRow:
 class State:
     """A look at all servers, with its rows, what they lack, and where there is no chain."""
 
-    zone_status: Status
+    zone_status: ZoneStatus
     look: Look
     rows: list[ServerRow]
     lacking: list[Lack]
@@ -88,13 +85,13 @@ class State:
         return looks.LastLook(moment, lines, servers, texts, self.broken, until, renew)
 
 
-def of(zone_status: Status, folders: Sequence[str | Path], args: Namespace, now: float,
+def of(zone_status: ZoneStatus, folders: Sequence[str | Path], args: Namespace, now: float,
        may_have_cds: bool = False) -> State:
     """The state of a zone's servers, by its status and the key files in these folders."""
     due = DueSets.of(zone_status, folders)
     kinds = [kind for kind in KINDS if kind != "ds" or due.zone.strip(".")]
     look = looking.look(due, kinds, Places.of(due.zone, args), now)
-    may_have_cds = may_have_cds or status.is_asked(zone_status, "CreateCdsRrset")
+    may_have_cds = may_have_cds or zone_status.asks(Action.CREATE_CDS_RRSET)
     lacking = look.lacking([kind for kind in kinds if kind != "cds"])
     lacking += _of_cds(look, may_have_cds) + list(_late(look))
     rows = [_row(look, server, lacking) for server in _servers(look)]
@@ -107,7 +104,8 @@ def agreed(
     """The state of a zone that is signed already, whose script begins with these lines. If its
     servers don't agree with them, or gave higher TTLs than the notes would begin with, that is a
     failure. Some signers always publish CDS: it may be in, if it is of these keys."""
-    zone_state = of(keyset.status(lines), list(folders), args, now, may_have_cds=True)
+    zone_status = ZoneStatus.of(keyset.status(lines))
+    zone_state = of(zone_status, list(folders), args, now, may_have_cds=True)
     faults = [*zone_state.texts(), *zone_state.broken]
     for kind, ttl in zip(("ds", "dnskey", "zone"), args.before or ()):
         if zone_state.look.ttl(kind) > ttl:
@@ -141,11 +139,12 @@ def _row(look: Look, server: Server, lacking: list[Lack]) -> ServerRow:
 
 def _signed(look: Look, only: Server | None = None) -> Iterator[comparing.SignatureSpan]:
     """How the sets of servers are signed by the keys that have to."""
-    of_set = {"dnskey": "signers", "zone": "zone", "ns": "zone"}
+    sets = look.due.published
+    signers = {"dnskey": sets.signers, "zone": sets.zone, "ns": sets.zone}
     for (kind, _, server), answer in look.answers.items():
-        if kind in of_set and only in (None, server):
+        if kind in signers and only in (None, server):
             found = (comparing.signed(look.due.zone, answer, key, look.now)
-                     for key in look.due.of_set(of_set[kind]))
+                     for key in look.due.named(signers[kind]))
             yield from (it for it in found if not it.faults)
 
 

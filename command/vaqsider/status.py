@@ -3,10 +3,10 @@
 from __future__ import annotations
 
 from pathlib import Path
-from typing import TYPE_CHECKING, Iterable, Iterator, Mapping, cast
+from typing import TYPE_CHECKING, Iterable, Iterator, Mapping
 
 import keyset
-from keyset import Damaged, Lines, Malformed, Torn
+from keyset import Damaged, Lines, Malformed, Roll, Torn
 from keyset.errors import EARLY
 from keyset.lines import FORMS
 
@@ -14,15 +14,11 @@ from . import resting, words
 from .ending import MEANS
 from .errors import WARNING
 from .history import SAFE
+from .zone_status import TICK, YOU, Who, ZoneStatus
 
 if TYPE_CHECKING:
-    from keyset.members import RollMembers, Status, WaitsFor
-
     from .resting import Rest
 
-YOU: WaitsFor
-CACHES: WaitsFor
-WAITING = YOU, TICK, PARENT, CACHES = "you", "tick", "parent", "caches"
 LOST = "a line before it may be lost; if it never was accepted, take it out"
 BEFORE_ANEW = {YOU: "do this before you start anew", TICK: "a tick does this before all else"}
 LABELS = {"ds": "DS", "dnskey": "DNSKEY", "signers": "signers", "zone": "zone"}
@@ -43,100 +39,71 @@ def lost(refused: Iterable[tuple[int, str]]) -> tuple[int, str] | None:
     return next(((line, f"was refused ({why}): {LOST}") for line, why in found), None)
 
 
-def read(path: str | Path, now: float) -> tuple[list[str], Status]:
+def read(path: str | Path, now: float) -> tuple[list[str], ZoneStatus]:
     """The lines of a script and its status at this moment. Nothing is shown of a script that may
     have lost a line."""
     lines = whole(path, Lines(path))
     try:
-        zone_status, found = keyset.status(lines), lost(keyset.refused(lines))
+        members, found = keyset.status(lines), lost(keyset.refused(lines))
     except Malformed as error:
         raise Damaged(path, error.line, f"malformed: {error.reason}") from None
     if found:
         raise Damaged(path, *found)
-    return lines, at(zone_status, now, goes_on(resting.of_ticks(path)))
+    return lines, ZoneStatus.of(members).at(now, goes_on(resting.of_ticks(path)))
 
 
-def goes_on(last: Rest | None) -> str:
+def goes_on(last: Rest | None) -> Who:
     """Who makes the next call, by how the last tick ended: a tick, unless that needs a person."""
     return YOU if last is None or last.status >= WARNING else TICK
 
 
-def at(zone_status: Status, now: float, who: str) -> Status:
-    """The status at this moment: if a wait is over, it waits for who goes on."""
-    for roll in zone_status["rolls"]:
-        is_over = isinstance(roll["not_before"], int) and roll["not_before"] <= now
-        if is_over or roll["waits_for"] == YOU:
-            # (The key set knows of no ticks.)
-            roll["waits_for"] = who  # type: ignore[typeddict-item]
-    return zone_status
-
-
-def comes_next(roll: RollMembers) -> str:
+def comes_next(roll: Roll) -> str:
     """The next call of a roll, in a line's form, with the moment that it waits for."""
-    fields = {"ROLL": roll["roll"], "TTL": "TTL", "TIME": "now"}
-    call = " ".join([roll["next"], *(fields[name] for name in FORMS[roll["next"]].split())])
-    if isinstance(roll["not_before"], int):
-        return f"{call}, from {words.moment(roll['not_before'])} on"
-    if roll["not_before"] is not None:
+    fields = {"ROLL": roll.roll.value, "TTL": "TTL", "TIME": "now"}
+    call = " ".join([roll.next, *(fields[name] for name in FORMS[roll.next].split())])
+    if isinstance(roll.not_before, int):
+        return f"{call}, from {words.moment(roll.not_before)} on"
+    if roll.not_before is not None:
         return f"{call}, at no moment that a call can name"
-    lacks_stamp = roll["next"].startswith("wait")
+    lacks_stamp = roll.next.startswith("wait")
     return f"{call}, once the key that it checks has its stamp" if lacks_stamp else call
 
 
-def sets_of(zone_status: Status) -> dict[str, list[str]]:
-    """The keys of each published set."""
-    # (Of a dictionary with known members a checker of types knows no common type of values.)
-    return cast("dict[str, list[str]]", zone_status["published"])
-
-
-def asked(zone_status: Status) -> dict[str, list[str]]:
-    """The actions that are due, by roll, with those of rolls that were ended early."""
-    ended = {roll["roll"]: roll["asked"] for roll in zone_status["ended"]}
-    return {**ended, **{roll["roll"]: roll["due"] for roll in zone_status["rolls"]}}
-
-
-def is_asked(zone_status: Status, action: str) -> bool:
-    return any(action in actions for actions in asked(zone_status).values())
-
-
 def screen(
-    zone_status: Status, names: Mapping[str, str] | None = None, last: Rest | None = None
+    zone_status: ZoneStatus, names: Mapping[str, str] | None = None, last: Rest | None = None
 ) -> Iterator[str]:
     """The lines of the screen. Keys may have short names too, and the last tick its end."""
-    # (If the chain is broken, each has a number.)
-    places = cast("dict[str, int]", {
-        name: place for name, place in zone_status["chain"].items() if name != "safe"})
-    verdict = SAFE if zone_status["chain"]["safe"] else f"chain {keyset.Broken(**places)}"
-    yield f"{zone_status['zone']}: {verdict}"
-    published = sets_of(zone_status)
-    for kind, label in LABELS.items():
-        yield f"  {label:8} {words.listed(published[kind])}"
-    if zone_status["keys"]:
+    broken, published = zone_status.broken, zone_status.published
+    yield f"{zone_status.zone}: {f'chain {broken}' if broken else SAFE}"
+    for kind, keys in vars(published).items():
+        yield f"  {LABELS[kind]:8} {words.listed(keys)}"
+    if zone_status.keys:
         yield ""
         yield from (f"  {line}" for line in words.table(_keys(zone_status, names or {})))
-    for roll in zone_status["rolls"]:
-        yield f"\n  {roll['roll']}: {roll['phase']}, waits for {roll['waits_for']}"
-        yield from (f"    {text}" for text in words.asks(roll["due"], published))
+    for roll in zone_status.rolls:
+        waits_for = zone_status.waits_for[roll.roll]
+        yield f"\n  {roll.roll.value}: {roll.phase}, waits for {waits_for}"
+        yield from (f"    {text}" for text in words.asks(roll.due, published))
         yield f"    then: {comes_next(roll)}"
-    for ended in zone_status["ended"]:
-        yield f"\n  {ended['roll']} was ended early: {BEFORE_ANEW[goes_on(last)]}"
-        yield from (f"    {text}" for text in words.asks(ended["asked"], published))
+    for ended in zone_status.ended:
+        yield f"\n  {ended.roll.value} was ended early: {BEFORE_ANEW[goes_on(last)]}"
+        yield from (f"    {text}" for text in words.asks(ended.asked, published))
     if last is not None:
         when, how = words.moment(last.moment), MEANS[last.status]
         yield f"\n  the last tick, at {when}, {how}: {last.text}"
 
 
-def _keys(zone_status: Status, names: Mapping[str, str]) -> Iterator[tuple[object, ...]]:
+def _keys(zone_status: ZoneStatus, names: Mapping[str, str]) -> Iterator[tuple[object, ...]]:
     short = ("NAME",) if names else ()
     yield "KEY", "KIND", "TAG", "ALGORITHM", "STATE", "IN", "ROLL", "DELETE", *short
-    for key in zone_status["keys"]:
-        name, kind = key["reference"], key["kind"]
-        sets = [kind for kind, keys in sets_of(zone_status).items() if name in keys]
-        rolls = [f"old in {roll}" for roll in key["old_in"]]
-        rolls += [f"new in {roll}" for roll in key["new_in"]]
-        states = dict.fromkeys(role["state"] for role in key["roles"])
+    for key in zone_status.keys:
+        name, kind = key.reference, key.kind
+        sets = [kind for kind, keys in vars(zone_status.published).items() if name in keys]
+        rolls = [f"old in {roll.value}" for roll in key.old_in]
+        rolls += [f"new in {roll.value}" for roll in key.new_in]
+        states = dict.fromkeys(role.state for role in key.roles)
         yield (
-            name, kind if kind == "public" else kind.upper(), key["tag"], key["algorithm"],
+            name, kind if kind == "public" else kind.upper(), key.tag, key.algorithm,
             "/".join(states), " ".join(sets) or None, ", ".join(rolls) or None,
-            "yes" if key["may_be_deleted"] else None, *([names.get(name)] if names else ()),
+            "yes" if key.may_be_deleted else None, *([names.get(name)] if names else ()),
         )

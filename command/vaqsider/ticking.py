@@ -13,7 +13,7 @@ from dataclasses import dataclass, field
 from pathlib import Path
 from typing import TYPE_CHECKING
 
-from keyset import Notes, WrongArgument
+from keyset import Action, Notes, WrongArgument
 from keyset.notes import Seen
 
 from . import act, advice, calling, expecting, hooks, parents, parsing, policies, resting
@@ -29,7 +29,7 @@ from .standing import Standing, ZonePaths
 from .zonefile import KeyId
 
 if TYPE_CHECKING:
-    from keyset import Status
+    from .zone_status import ZoneStatus
 
 # A tick makes at most so many deeds, and tries so many keys for one whose tag is free.
 DEEDS, TRIES = 50, 8
@@ -52,8 +52,8 @@ class Tick:
     journal: Journal
     most: int = DEEDS
     lines: list[str] = field(default_factory=list)
-    # (It says nothing until it is read.)
-    zone_status: Status = field(default_factory=dict)  # type: ignore[assignment]
+    # (It is there with the lines, once they are read.)
+    zone_status: ZoneStatus = field(init=False)
     acts: set[tuple[int, tuple[str, ...], UnsignedFile]] = field(default_factory=set)
     is_cds_out: bool = False
     deeds: int = 0
@@ -93,14 +93,15 @@ class Tick:
         """What brings the sets to all servers that early ends have asked for. No roll begins before
         that is so."""
         seen = Seen(self.notes.lines, self.clock())
-        for roll in self.zone_status["ended"]:
-            call = max(n for n, line in enumerate(self.lines) if line == f"abort {roll['roll']}")
-            for kind in words.kinds_of(roll["asked"]):
+        for ended in self.zone_status.ended:
+            abort = f"abort {ended.roll.value}"
+            call = max(number for number, line in enumerate(self.lines) if line == abort)
+            for kind in words.kinds_of(ended.asked):
                 if seen.calls.get(kind, 0) < call:
                     return Advice(advice.PUBLISH, f"publish {kind}")
                 if not seen.is_everywhere.get(kind):
                     return Advice(advice.WATCH, f"watch {kind}")
-            if "CreateCdsRrset" in roll["asked"] and not self.is_cds_out:
+            if Action.CREATE_CDS_RRSET in ended.asked and not self.is_cds_out:
                 self.take_cds_out()
         return None
 
@@ -125,7 +126,7 @@ class Tick:
 
     @property
     def zone(self) -> str:
-        return self.zone_status.get("zone", self.script.stem)
+        return self.zone_status.zone if self.lines else self.script.stem
 
     @functools.cached_property
     def maker(self) -> Maker:
@@ -150,7 +151,7 @@ class Tick:
 
     def act_is_due(self) -> str | None:
         """Why something has to be published now, whatever is said next."""
-        if not any(self.zone_status["published"].values()):
+        if not self.zone_status.has_sets:
             return None
         if self.journal.is_begun:
             return "an act was not ended"
@@ -194,7 +195,7 @@ class Tick:
 
     def of_signatures(self, end: End) -> End:
         """The end of a tick, which needs a person if signatures run low."""
-        is_read = end.status < BROKEN and self.zone_status
+        is_read = end.status < BROKEN and self.lines
         stands = self.standing() if is_read and self.is_of_file else None
         low = None if stands is None else self.low_from(stands)
         if low is None or low > self.clock():
@@ -226,7 +227,7 @@ class Tick:
             hooks.run(hooks.filled(self.policy.reload, self.zone))
         self.journal.end(self.clock())
         cds = ", with CDS" if did.has_cds else ""
-        dnskey = words.listed(self.zone_status["published"]["dnskey"])
+        dnskey = words.listed(self.zone_status.published.dnskey)
         self.say("published", [f"{why}: {dnskey}{cds}"])
 
     def call(self, next_deed: Advice) -> None:
@@ -257,7 +258,7 @@ class Tick:
 
     def kinds(self) -> dict[str, list[str]]:
         """The kinds of sets that each roll in progress asks to watch."""
-        asked = status.asked(self.zone_status)
+        asked = self.zone_status.asked()
         return {roll: words.kinds_of(actions) for roll, actions in asked.items()}
 
     def make_key(self, next_deed: Advice) -> None:
@@ -325,7 +326,7 @@ class Tick:
         if self.policy.parent == "hook" and not self.journal.is_handed_over(call):
             hooks.run(self.policy.on_ds, {"zone": self.zone, "ds": records, "call": call})
             self.journal.hand_over(call, self.clock())
-            self.say("DS handed over", [words.listed(self.zone_status["published"]["ds"])])
+            self.say("DS handed over", [words.listed(self.zone_status.published.ds)])
         is_first = self.policy.parent == "cds" and not keys.has_ds
         return f". If it takes no CDS yet, {text}" if is_first else ""
 
@@ -349,7 +350,7 @@ class Tick:
         if next_deed.is_stuck:
             raise EndOfTick(WARNING, next_deed.line.partition(": ")[2])
         until = min(self.moments(next_deed), default=None)
-        rolls = [roll["roll"] for roll in self.zone_status["rolls"]]
+        rolls = [roll.roll.value for roll in self.zone_status.rolls]
         what = f"{words.listed(rolls)} waits for caches" if rolls else "nothing is due"
         when = "" if until is None else f" before {words.moment(until)}"
         raise EndOfTick(OK, f"{what}{when}", until)

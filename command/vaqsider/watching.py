@@ -17,9 +17,8 @@ from .errors import BROKEN, DUE, OK, UNAVAILABLE, Failure
 from .looking import Lack, Look, Places
 
 if TYPE_CHECKING:
-    from keyset import Status
-
     from .ending import Clock
+    from .zone_status import ZoneStatus
 
 # What servers of the zone are asked for in any case.
 OF_ZONE = ("dnskey", "ns", "zone")
@@ -85,8 +84,8 @@ class Watcher:
         """Reads the script again, asks the servers, and notes which sets are everywhere."""
         self.notes = Notes(self.args.SCRIPT)
         self.lines, zone_status = status.read(self.args.SCRIPT, self.clock())
-        asked = status.asked(zone_status)
-        calls = {roll["roll"]: roll["next"] for roll in zone_status["rolls"]}
+        asked = zone_status.asked()
+        calls = {roll.roll.value: roll.next for roll in zone_status.rolls}
         self.rolls = {roll: calls.get(roll) for roll in asked if "wait" not in calls.get(roll, "")}
         self.kinds = {roll: words.kinds_of(asked[roll]) for roll in self.rolls}
         kinds = sorted({kind for of in self.kinds.values() for kind in of})
@@ -96,7 +95,7 @@ class Watcher:
                 parents.note(self.notes, self.lines, zone_status, look)
             self.judge(look, kinds)
 
-    def ask(self, zone_status: Status, kinds: list[str]) -> Look:
+    def ask(self, zone_status: ZoneStatus, kinds: list[str]) -> Look:
         """What all servers give of these kinds and of the others; if the DS set is awaited, also
         whether CDS is out."""
         due = comparing.DueSets.of(zone_status, comparing.folders_of(self.args))
@@ -172,5 +171,5 @@ class Watcher:
             "broken": self.broken,
             "asked": self.asked,
             "next": [self.line(roll) for roll in ready],
-            "made": [vars(result) for result in self.results.values()],
+            "made": [result.as_json() for result in self.results.values()],
         }

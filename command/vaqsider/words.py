@@ -2,7 +2,7 @@
 
 from __future__ import annotations
 
-from typing import TYPE_CHECKING, Iterable, Iterator, Mapping
+from typing import TYPE_CHECKING, Iterable, Iterator
 
 from keyset.rolls import WATCHED
 
@@ -10,6 +10,8 @@ from .errors import Failure
 
 if TYPE_CHECKING:
     from typing_extensions import TypeGuard
+
+    from keyset import Action, Published
 
 # What each action asks, with the sets that have to be published.
 ACTIONS = {
@@ -50,17 +52,18 @@ def listed(names: Iterable[str]) -> str:
     return " ".join(names) or "no key"
 
 
-def asks(actions: Iterable[str], published: Mapping[str, Iterable[str]]) -> Iterator[str]:
+def asks(actions: Iterable[Action], published: Published) -> Iterator[str]:
     """What actions ask, in plain words."""
-    sets = {kind: listed(keys) for kind, keys in published.items()}
-    for name in actions:
+    sets = {kind: listed(keys) for kind, keys in vars(published).items()}
+    for name in (action.value for action in actions):
         yield WATCHES[WATCHED[name]] if name in WATCHED else ACTIONS[name].format(**sets)
 
 
-def kinds_of(actions: Iterable[str], of: str = "") -> list[str]:
+def kinds_of(actions: Iterable[Action], of: str = "") -> list[str]:
     """The kinds of sets that these actions ask to watch: `dnskey`, `zone` or `ds`. The names of the
     actions may have to begin with a word."""
-    return [WATCHED[name] for name in actions if name in WATCHED and name.startswith(of)]
+    names = (action.value for action in actions)
+    return [WATCHED[name] for name in names if name in WATCHED and name.startswith(of)]
 
 
 def refusal(reason: str) -> str:

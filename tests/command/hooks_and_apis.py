@@ -11,6 +11,7 @@ import time
 from pathlib import Path
 from unittest import mock
 
+import keyset
 from tests.command.signer_courses import ZONE, fault_of, make, sets
 from tests.command.terminal import folder
 from vaqsider import keyfiles
@@ -47,8 +48,8 @@ def hook_asks():
     with folder():
         keys, name = make(), "pkcs11:id=%01"
         of = keys["K1"].file
-        reference = {"reference": of.path.name, "tag": of.tag, "algorithm": 13, "private": name}
-        keys["K1"].file.reference = keyfiles.find(reference, ["."]).reference
+        (members,) = keyset.status([f"zone {ZONE}", of.line(False, name)])["keys"]
+        of.reference = keyfiles.find(keyset.Key.of(members), ["."]).reference
         hook = Hook(ZONE, 'cat >"$1"; echo "{\\"lacks\\": [\\"x\\"]}"')
         wanted = sets(keys, "K1,Z1 K1 Z1 K1")
         for step in hook.publish(Sets(), wanted, Path()):

@@ -7,14 +7,17 @@ while they run."""
 from __future__ import annotations
 
 from argparse import Namespace
+from collections.abc import Callable, Iterable, Iterator, Mapping, Sequence
 from dataclasses import dataclass, field
 from pathlib import Path
-from typing import TYPE_CHECKING, Callable, ContextManager, Iterable, Iterator, Protocol, Sequence
+from typing import TYPE_CHECKING, ContextManager, Protocol
 
 from ..errors import UNAVAILABLE, USAGE, Failure
 from ..keyfiles import SEP, KeyFile, key_tag
 
 if TYPE_CHECKING:
+    from keyset import Published
+
     from ..act import Act
     from .daemon import SignerStore
 
@@ -68,6 +71,14 @@ class Sets:
     signers: frozenset[Key] = frozenset()
     zone: frozenset[Key] = frozenset()
     cds: frozenset[Key] = frozenset()
+
+    @classmethod
+    def of(cls, published: Published, keys: Mapping[str, Key], has_cds: bool) -> Sets:
+        """What is published, by the keys of its references. If CDS is in, it is for the DS set."""
+        ds, dnskey, signers, zone = (frozenset(keys[name] for name in names) for names in (
+            published.ds, published.dnskey, published.signers, published.zone))
+        cds = (ds or frozenset([Key(DELETION)])) if has_cds else frozenset()
+        return cls(dnskey, signers, zone, cds)
 
     @property
     def keys(self) -> frozenset[Key]:

@@ -111,7 +111,7 @@ class FileSigner:
 
     def __init__(self, args: Namespace, act: Act) -> None:
         self.args, self.act, self.keys = args, act, act.keys
-        name, beside = file_name(act.zone_status["zone"]), Path(args.SCRIPT).parent
+        name, beside = file_name(act.zone_status.zone), Path(args.SCRIPT).parent
         self.zone_file = Path(args.zone_file or beside / f"{name}.zone")
         self.signed: Path = Path(args.out or f"{self.zone_file}.signed")
         self.name = args.signer or "bind"
@@ -183,9 +183,9 @@ class FileSigner:
 
     def signers(self) -> dict[str, frozenset[KeyId]]:
         """Which keys sign DNSKEY, CDS and CDNSKEY, and the rest."""
-        zone = self.keys.published["zone"]
+        zone = self.keys.published.zone
         cds = self.keys.by([*self.keys.cds_signer(), *zone])
-        signers = self.keys.by(self.keys.published["signers"])
+        signers = self.keys.by(self.keys.published.signers)
         return {"DNSKEY": signers, "CDS": cds, "CDNSKEY": cds, "zone": self.keys.by(zone)}
 
     def task(self, unsigned: ZoneFile, last: ZoneFile | None, wish: Wish) -> Task:
