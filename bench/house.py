@@ -8,10 +8,11 @@ keep each function apart, as the one that `rt try` makes in crates/keyset, and t
 its end: copy it while it reads a long script. `--list` names the places of each row below the
 table, as `FILE:LINE` if it is one.
 
-Twins are the pairs of places that the command `duplicates` finds in code, definitions and proofs. A
-match over rolls has two or more kinds of rolls in its own patterns. Tests are all code of tests,
-live, bench and replay, and the product is that of crates/*/src, command, library and packaging. A
-word of the command (starts.py) is run with what `make build` has made.
+Twins are the pairs of places that the command `duplicates` finds in code, definitions and proofs.
+Modules of a crate go round in a circle if each uses the next by `crate` or `super`. A match over
+rolls has two or more kinds of rolls in its own patterns. Tests are all code of tests, live, bench
+and replay, and the product is that of crates/*/src, command, library and packaging. A word of the
+command (starts.py) is run with what `make build` has made.
 
 It ends with status 1, and says which, if a row is out of its limit.
 """
@@ -53,6 +54,7 @@ ROLLS = re.compile(r"\benum RollType \{(.*?)\n\}", re.DOTALL)
 COUNTED = re.compile(r"\bfunctions=(\d+)")
 CRATE = re.compile(r"^(\w+)[^:#\n]*:", re.MULTILINE)
 IMPORTS = ("use ", "pub use ", "mod ", "pub mod ")
+USED = re.compile(r"\buse (crate|super)((?:::\w+)*)")
 
 
 @dataclass(frozen=True)
@@ -137,6 +139,35 @@ def checked(crate: Path) -> str:
     counts = (COUNTED.findall(log.read_text(errors="replace")) for log in logs)
     found = next((of for of in counts if of), None)
     return f" (checked {found[-1]})" if found else ""
+
+
+def circles(house: House) -> Iterator[Figure]:
+    uses = {path: used(path) for path in sources(house.crates, ".rt", "src")}
+    yield listed("modules that go round in a circle",
+                 (house.place(path) for path in uses if path in reached(path, uses)))
+
+
+def used(path: Path) -> set[Path]:
+    """The files of the modules that a file of the same crate uses, by `crate` or by `super`."""
+    src = next(it for it in path.parents if it.name == "src")
+    found = set()
+    for begin, rest in USED.findall(code(path)):
+        names = [*(path.relative_to(src).parts[:-1] if begin == "super" else ()),
+                 *rest.split("::")[1:]]
+        files = (src.joinpath(*names[:count]).with_suffix(".rt")
+                 for count in range(len(names), 0, -1))
+        found.add(next(filter(Path.is_file, files), path))
+    return found - {path}
+
+
+def reached(path: Path, uses: dict[Path, set[Path]]) -> set[Path]:
+    """All that is used by what a file uses."""
+    found: set[Path] = set()
+    new = uses[path]
+    while new:
+        found |= new
+        new = {it for one in new for it in uses[one]} - found
+    return found
 
 
 def long_bodies(house: House) -> Iterator[Figure]:
@@ -245,7 +276,7 @@ def tests(house: House) -> Iterator[Figure]:
 
 
 MEASURES: list[Callable[[House], Iterator[Figure]]] = [
-    start, long_bodies, crates, twins, proofs, matches_over_rolls, types, lengths, tests,
+    start, long_bodies, crates, circles, twins, proofs, matches_over_rolls, types, lengths, tests,
 ]
 
 
