@@ -10,9 +10,9 @@ import json
 import os
 import struct
 from argparse import Namespace
-from dataclasses import asdict, dataclass
+from dataclasses import asdict, dataclass, fields
 from pathlib import Path
-from typing import Any, Iterable, Iterator, Mapping, TypedDict, cast
+from typing import Iterable, Iterator, cast
 
 import dns.dnssec
 import dns.exception
@@ -68,11 +68,10 @@ class SignatureRequest:
         return self.rrsig().to_digestable() + b"".join(
             head + struct.pack("!H", len(wire)) + wire for wire in wires)
 
-
-class RequestFile(TypedDict):
-    """What a ceremony writes."""
-
-    signatures: list[dict[str, object]]
+    def as_json(self) -> dict[str, object]:
+        """What is written of it, with an empty place for the signature."""
+        signs = base64.b64encode(self.signs()).decode()
+        return {**asdict(self), "signs": signs, "signature": ""}
 
 
 @dataclass(frozen=True)
@@ -157,13 +156,6 @@ def _of(one: Period, files: KeyFiles, origin: str, args: Namespace) -> Iterator[
                                        expiration, records)
 
 
-def written(requests: Iterable[SignatureRequest]) -> RequestFile:
-    """What is written, with an empty place for each signature."""
-    return {"signatures": [
-        {**asdict(it), "signs": base64.b64encode(it.signs()).decode(), "signature": ""}
-        for it in requests]}
-
-
 # Taking back
 
 
@@ -177,8 +169,8 @@ def take(args: Namespace, now: int) -> list[ZoneRecord]:
     _, zone_status = status.read(args.SCRIPT, now)
     origin = zone_status.origin
     try:
-        rows = [_taken(it, number, origin, KeyFiles(args))
-                for number, it in enumerate(_requests_in(args.take), start=1) if it["signature"]]
+        rows = [_taken(number, one, signature, origin, KeyFiles(args))
+                for number, one, signature in _signed_in(args.take)]
     except (KeyError, TypeError, ValueError, AttributeError) as error:
         raise Failure(f"{args.take}: it isn't what a ceremony has written: {error!r}",
                       WARNING) from None
@@ -188,18 +180,20 @@ def take(args: Namespace, now: int) -> list[ZoneRecord]:
     return new
 
 
-def _requests_in(path: str) -> list[dict[str, Any]]:
-    """The requests of a file, each with its signature or an empty place for it."""
-    file: dict[str, list[dict[str, Any]]] = json.loads(Path(path).read_text(encoding="utf-8"))
-    return file["signatures"]
+def _signed_in(path: str) -> Iterator[tuple[int, SignatureRequest, str]]:
+    """The requests of a file that have a signature, each with its number and that."""
+    file = json.loads(Path(path).read_text(encoding="utf-8"))
+    for number, members in enumerate(file["signatures"], start=1):
+        if members["signature"]:
+            known = {field.name: members[field.name] for field in fields(SignatureRequest)}
+            yield number, SignatureRequest(**known), members["signature"]
 
 
-def _taken(request: Mapping[str, Any], number: int, origin: str, files: KeyFiles) -> ZoneRecord:
+def _taken(number: int, one: SignatureRequest, signature: str, origin: str,
+           files: KeyFiles) -> ZoneRecord:
     """The record of a signature, which is right by the key file that its key names."""
-    fields = SignatureRequest.__dataclass_fields__
-    one = SignatureRequest(**{name: request[name] for name in fields})
     file = files[one.key]
-    rrsig = one.rrsig(base64.b64decode(request["signature"], validate=True))
+    rrsig = one.rrsig(base64.b64decode(signature, validate=True))
     name = dns.name.from_text(origin)
     keys = {name: dns.rrset.from_rdata(name, one.ttl, parsed("DNSKEY", file.data))}
     try:

@@ -176,12 +176,13 @@ def on_ceremony(args: Namespace) -> Outcome:
         new = ceremony.take(args, int(clock()))
         text = [f"{ceremony.path_of(args.SCRIPT)}: {len(new)} new signatures"]
         return OK, text, {"signatures": [row.data for row in new]}
-    requests = ceremony.written(ceremony.asked(args, int(clock())))
+    requests = [it.as_json() for it in ceremony.asked(args, int(clock()))]
+    file = {"signatures": requests}
     if args.out:
         arguments.expect_other(args.out, args.SCRIPT)
-        Path(args.out).write_text(f"{_json(requests)}\n", encoding="utf-8")
-        return OK, [f"{args.out}: {len(requests['signatures'])} signatures are asked for"], requests
-    return OK, [_json(requests)], requests
+        Path(args.out).write_text(f"{_json(file)}\n", encoding="utf-8")
+        return OK, [f"{args.out}: {len(requests)} signatures are asked for"], file
+    return OK, [_json(file)], file
 
 
 def on_watch(args: Namespace) -> Outcome:

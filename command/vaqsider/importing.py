@@ -11,7 +11,7 @@ import os
 from argparse import Namespace
 from dataclasses import dataclass
 from pathlib import Path
-from typing import Iterator, Sequence, TypedDict
+from typing import Iterator, Sequence
 
 from keyset import Notes
 from keyset.notes import lasts
@@ -30,7 +30,8 @@ SOURCES = {"bind": bind.inventory, "knot": knot.inventory, "pdns": pdns.inventor
 SUFFIX = ".import"
 
 
-class FirstLook(TypedDict):
+@dataclass(frozen=True)
+class FirstLook:
     """The look that is kept, and since when all was as it shows."""
 
     look: str
@@ -101,10 +102,10 @@ def _looked(args: Namespace, script: Path, zone: str,
     zone_state = state.agreed(lines, {file.path.parent for file, _ in files}, args, clock())
     look, kept = _digest(zone_state.look, lines), script.with_suffix(SUFFIX)
     before = _read(kept)
-    since = before["since"] if before and before["look"] == look else moment
+    since = before.since if before and before.look == look else moment
     again = since + lasts(max(args.before)) + 1
     if not args.unchanged and moment < again:
-        _write(kept, {"look": look, "since": since})
+        _write(kept, FirstLook(look, since))
         return ImportResult(script, [], inventory, again)
     nsec3 = _served(zone, args, "NSEC3PARAM")
     calling.begin(script, lines, args.before)
@@ -136,8 +137,9 @@ def _digest(look: Look, lines: list[str]) -> str:
 def _read(path: Path) -> FirstLook | None:
     """The look that was kept. A file that isn't one counts as none."""
     try:
-        look = json.loads(path.read_text(encoding="utf-8"))
-        return look if type(look["since"]) is int and isinstance(look["look"], str) else None
+        members = json.loads(path.read_text(encoding="utf-8"))
+        look = FirstLook(members["look"], members["since"])
+        return look if type(look.since) is int and isinstance(look.look, str) else None
     except (FileNotFoundError, ValueError, TypeError, KeyError):
         return None
 
@@ -145,7 +147,7 @@ def _read(path: Path) -> FirstLook | None:
 def _write(path: Path, look: FirstLook) -> None:
     draft = path.with_name(f".{path.name}.{os.getpid()}.draft")
     with open(draft, "x", encoding="ascii") as file:
-        file.write(json.dumps(look) + "\n")
+        file.write(json.dumps(vars(look)) + "\n")
         file.flush()
         os.fsync(file.fileno())
     place.put(draft, path)

@@ -4,7 +4,7 @@ from __future__ import annotations
 
 import json
 from pathlib import Path
-from typing import Any, Mapping
+from typing import Any, Mapping, NamedTuple
 from urllib.parse import unquote, urlparse
 
 from ..errors import UNAVAILABLE, Failure
@@ -12,12 +12,28 @@ from ..keyfiles import read
 from ..signers import Key
 from . import Inventory, SourceKey, SourceOptions, expect, read_text
 
-FLAGS = ("old", "signer", "present", "at_parent")
 STOPS = (
     "take 'dnst keyset .. cron' out of the crontab first: it starts and ends rolls by itself",
     "'vaqsider act' signs by the same key files; keep the state file, and change nothing by dnst",
     "what has loaded the signed zone of dnst loads that of 'vaqsider act' from then on",
 )
+
+
+class Flags(NamedTuple):
+    """The flags of a key's role."""
+
+    old: bool
+    signer: bool
+    present: bool
+    at_parent: bool
+
+    @classmethod
+    def of(cls, role: Mapping[str, Any]) -> Flags:
+        return cls(*(bool(role[name]) for name in cls._fields))
+
+    @property
+    def is_used(self) -> bool:
+        return self.signer or self.present or self.at_parent
 
 
 def inventory(zone: str, options: SourceOptions) -> Inventory:
@@ -47,16 +63,15 @@ def _source_key(
 ) -> tuple[SourceKey | None, str]:
     """A key, or None if it is not in use; and what is in progress with it."""
     (kind, roles), = fields["keytype"].items()
-    roles = roles if kind == "Csk" else [roles]
-    flags = [{name: bool(role[name]) for name in FLAGS} for role in roles]
-    used = [it["signer"] or it["present"] or it["at_parent"] for it in flags]
+    flags = [*map(Flags.of, roles if kind == "Csk" else [roles])]
+    is_used = any(it.is_used for it in flags)
     if kind == "Include":
         text = f"{reference} is of another signer: bring it in by 'add-public', by hand"
-        return None, text if any(used) else ""
-    if not any(used):
+        return None, text if is_used else ""
+    if not is_used:
         return None, ""
-    whole = all(it["signer"] and it["present"] and not it["old"] for it in flags)
-    at_parent = kind == "Zsk" or flags[0]["at_parent"]
+    whole = all(it.signer and it.present and not it.old for it in flags)
+    at_parent = kind == "Zsk" or flags[0].at_parent
     text = "" if whole and at_parent else f"{reference} is neither in use wholly nor out"
     file = read(_path(reference, folder))
     if (file.tag, file.algorithm) != (fields["key_tag"], _algorithm(fields["algorithm"])):
