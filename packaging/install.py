@@ -32,7 +32,7 @@ def loader_folders():
     return {line.partition(":")[0] for line in shown.stdout.splitlines() if line.startswith("/")}
 
 
-def tell_loader(folder):
+def let_loader_see(folder):
     """Lets the loader see a new library in this folder, or says what is left to do."""
     if str(folder) not in loader_folders():
         return f"the loader doesn't look in {folder}: set LD_LIBRARY_PATH, or name it by -rpath"
@@ -42,7 +42,7 @@ def tell_loader(folder):
     return None
 
 
-def tell_user(users):
+def user_to_make(users):
     """Says what is left to do for the units of systemd: they run as a user of their own."""
     name = users.stem
     with suppress(KeyError):
@@ -80,10 +80,10 @@ def do(given):
     names = install(root, Layout(parts, given.libdir, given.library))
     yield f"installed {len(names)} files below {root}"
     if "library" in parts and not given.destdir:
-        if left := tell_loader(root / given.libdir):
+        if left := let_loader_see(root / given.libdir):
             yield left
     if "command" in parts and not given.destdir:
-        if left := tell_user(root / USERS / "vaqsider.conf"):
+        if left := user_to_make(root / USERS / "vaqsider.conf"):
             yield left
 
 

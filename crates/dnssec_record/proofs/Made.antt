@@ -13,7 +13,7 @@ use Rattle.dnssec_script.specs.declared.statement.Statement.{Statement}
 use Rattle.dnssec_record.specs.{Answer.AnswerFault, Fault.fault_of_reading}
 use Rattle.dnssec_record.specs.declared.fault.ScriptFault.{ScriptFault, TheVariants.OutOfMemory}
 use Rattle.dnssec_record.specs.Inner.Zone.{Comes, Known, TakesOn}
-use Rattle.dnssec_record.specs.declared.{zone.Made.Made, zone.ZoneState.ZoneState}
+use Rattle.dnssec_record.specs.declared.{zone.TimedReply.TimedReply, zone.ZoneState.ZoneState}
 use Rattle.dnssec_record.proofs.Answering.{answer_fault}
 
 -- these are left of the lines of a script, and this holds of the calls of the others and of their
@@ -107,7 +107,7 @@ memory_made_on r gives made =
 
 -- if this is the statement's call, what came of it came of the statement
 pub takes_on : {E : Type 0} (After : Known) (old next : ZoneState) (statement : Statement)
-    (call : Call) → call_says call ≡ statement_says statement → (r : Result Made E)
+    (call : Call) → call_says call ≡ statement_says statement → (r : Result TimedReply E)
     → IfOk r (λ made. (name : List ℕ) (calls : List Call) (entries : List Entry)
     → After name calls entries old → Comes After name calls entries call next made)
     → IfOk r (TakesOn After statement old next)

@@ -29,7 +29,7 @@ use Rattle.dnssec_record.specs.Output.{answers, chain_line, published_text, repl
 use Rattle.dnssec_record.specs.Output.{set_text, sets_text}
 use Rattle.dnssec_record.specs.Session.{Closes, Follows}
 use Rattle.dnssec_record.specs.declared.courses.{Courses.Courses, Turn.Turn}
-use Rattle.dnssec_record.specs.declared.{zone.Made.Made, zone.ZoneState.ZoneState}
+use Rattle.dnssec_record.specs.declared.{zone.TimedReply.TimedReply, zone.ZoneState.ZoneState}
 
 -- ---- the text of sets says no more than which keys they have
 
@@ -213,7 +213,7 @@ goes_on name calls entries old next call outcome news so records kept frames han
 
 -- and what its rolls listed, by the turn of the call
 pub lists_on : {name : List ℕ} {calls : List Call} {entries : List Entry} {old zone : ZoneState}
-    (next : ZoneState) {call : Call} {made : Made} → IsZoneAfter name calls entries old
+    (next : ZoneState) {call : Call} {made : TimedReply} → IsZoneAfter name calls entries old
     → Comes Follows name calls entries call zone made → zone.courses ≡ old.courses
     → next.recorder ≡ zone.recorder → next.judge ≡ zone.judge
     → (turn : Turn) → turn ≡ turn_after (turn_of call) made.reply
@@ -257,7 +257,7 @@ Answered text zone name calls entries =
 
 -- one more call, of the next line
 pub one_more : {script : List ℕ} {old new : Lines} {found : Option Statement} {s : Statement}
-    (text after : List ℕ) (zone next : ZoneState) (made : Made)
+    (text after : List ℕ) (zone next : ZoneState) (made : TimedReply)
     → HasMade script old (Answered text zone) → Finds old new found → found ≡ Some s
     → TakesOn Follows s zone next made → after ≡ text ++ reply_text made.reply ++ codes "\n"
     → HasMade script new (Answered after next)

@@ -19,7 +19,7 @@ ghost use Rattle.dnssec_run.specs.declared.record.Reply.TheVariants.{Refused};
 use crate::answers::{is_accepted, push_answer};
 use crate::courses::Listing;
 use crate::fault::{CallFault, ScriptFault};
-use crate::zone::{Made, ZoneState};
+use crate::zone::{TimedReply, ZoneState};
 use dnssec_base::Name;
 use dnssec_judge::Broken;
 use dnssec_keyset::{Error, KeySet, RollType};
@@ -241,7 +241,7 @@ impl Session {
     }
 
     /// Takes the moment of the call that the zone has made, and answers the reply to it.
-    fn note(&mut self, alloc: Global, made: Made) -> Result<Reply, AllocError>
+    fn note(&mut self, alloc: Global, made: TimedReply) -> Result<Reply, AllocError>
         ensures { IfOk result (λ reply.
             (name : List ℕ) (calls : List Call) (entries : List Entry) (call : Call) →
             Comes IsZoneAfter name calls entries call self.old.zone made →

@@ -22,7 +22,7 @@ const FITTED_KEYS: usize = 4;
 
 /// What a call came to.
 #[derive(Drop)]
-pub(crate) struct Made {
+pub(crate) struct TimedReply {
     pub(crate) reply: Reply,
     /// The moment that the call was given, if any.
     pub(crate) moment: Option<UnixTime>,
@@ -79,7 +79,7 @@ impl ZoneState {
         &mut self,
         alloc: Global,
         statement: Statement<'_>,
-    ) -> Result<Made, AllocError>
+    ) -> Result<TimedReply, AllocError>
         ensures { IfOk result (TakesOn IsZoneAfter statement.entry self.old self.new) }
     {
         match statement {
@@ -94,7 +94,7 @@ impl ZoneState {
         &mut self,
         alloc: Global,
         statement: Statement<'_>,
-    ) -> Result<Made, AllocError>
+    ) -> Result<TimedReply, AllocError>
         ensures { IfOk result (TakesOn Follows statement.entry self.old self.new) }
     {
         match statement {
@@ -105,7 +105,7 @@ impl ZoneState {
 
     /// Makes the call of a start. It isn't inlined, so that other lines need no room for its call.
     #[inline(never)]
-    fn start(&mut self, alloc: Global, start: &Start<'_>) -> Result<Made, AllocError>
+    fn start(&mut self, alloc: Global, start: &Start<'_>) -> Result<TimedReply, AllocError>
         ensures { IfOk result (TakesOn Follows (statement.Start start.now) self.old self.new) }
     {
         self.advance(alloc, start.call())
@@ -117,7 +117,7 @@ impl ZoneState {
     /// # Errors
     ///
     /// If there is no memory to note the call. This state is then of no more use.
-    pub(crate) fn make(&mut self, alloc: Global, call: Call<'_>) -> Result<Made, AllocError>
+    pub(crate) fn make(&mut self, alloc: Global, call: Call<'_>) -> Result<TimedReply, AllocError>
         ensures { IfOk result (λ made.
             (name : List ℕ) (calls : List Call) (entries : List Entry) →
             IsZoneAfter name calls entries self.old →
@@ -130,7 +130,7 @@ impl ZoneState {
     }
 
     /// Makes the call, with its record and its verdict.
-    fn advance(&mut self, alloc: Global, call: Call<'_>) -> Result<Made, AllocError>
+    fn advance(&mut self, alloc: Global, call: Call<'_>) -> Result<TimedReply, AllocError>
         ensures known { IfOk result (λ made.
             (name : List ℕ) (calls : List Call) (entries : List Entry) →
             Follows name calls entries self.old →
@@ -147,7 +147,7 @@ impl ZoneState {
         let Ok(()) = noted else {
             return Err(AllocError);
         };
-        Ok(Made {
+        Ok(TimedReply {
             reply: outcome.reply,
             moment: outcome.moment,
         })
@@ -162,7 +162,7 @@ impl ZoneState {
         &mut self,
         alloc: Global,
         statement: Statement<'_>,
-    ) -> Result<(Made, String), AllocError>
+    ) -> Result<(TimedReply, String), AllocError>
         ensures { IfOk result (λ came. TakesOn IsZoneAfter statement.entry self.old self.new came.0
             × (string_bytes came.1 ≡ reply_text came.0.reply ++ codes "\n")) }
     {

@@ -28,7 +28,8 @@ use Rattle.dnssec_run.specs.Frames.{KeepsFrame}
 use Rattle.dnssec_run.specs.declared.renewal.Renewal.{Renewal}
 use Rattle.dnssec_run.specs.declared.running.Recorder.{Recorder}
 use Rattle.dnssec_run.specs.declared.lists.{ByList.ByList, Shown.Shown}
-use Rattle.dnssec_run.specs.declared.lists.Shown.TheVariants.{Ds, Dnskey, DnskeySigners, ZoneSigners}
+use Rattle.dnssec_run.specs.declared.lists.Shown.TheVariants.{Ds, Dnskey, DnskeySigners}
+use Rattle.dnssec_run.specs.declared.lists.Shown.TheVariants.{ZoneSigners}
 use Rattle.dnssec_run.specs.Published.{Id, IsPublished, World, id_of, in_ds, in_dnskey, keys_where}
 use Rattle.dnssec_run.specs.Published.{signs_dnskey, signs_zone}
 use Rattle.dnssec_run.specs.Record.{IsRun, world_at}

@@ -12,13 +12,13 @@ module _ {old : Option OpenSession} {kept : OpenSession} (is : old ≡ Some kept
   pub keeps_if : {S : Type 0} {Is : OpenSession → Type 0} → (S → Is kept) → S → Keeps Is old
   keeps_if so s = keeps (so s)
 
-  pub keeps_at : {S : Type 0} {Is : OpenSession → List ℕ → Type 0} {n : ℕ} → (S → AtLength (Is kept) n)
-      → S → AtLength (λ text. Keeps (λ it. Is it text) old) n
+  pub keeps_at : {S : Type 0} {Is : OpenSession → List ℕ → Type 0} {n : ℕ}
+      → (S → AtLength (Is kept) n) → S → AtLength (λ text. Keeps (λ it. Is it text) old) n
   keeps_at at s = ((at s).0, keeps (at s).1, (at s).2)
 
 -- what comes of a line for what a session keeps comes of it for the session
-module _ {old new : Option OpenSession} {before after : OpenSession} {line : List ℕ} (was : old ≡ Some before)
-    (is : new ≡ Some after) where
+module _ {old new : Option OpenSession} {before after : OpenSession} {line : List ℕ}
+    (was : old ≡ Some before) (is : new ≡ Some after) where
   pub if_open : {S : Type 0} {Comes : OpenSession → List ℕ → OpenSession → Type 0}
       → (S → Comes before line after) → S → IfOpen Comes old line new
   if_open comes s = record {

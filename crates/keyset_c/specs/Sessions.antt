@@ -28,8 +28,8 @@ pub record Opens (new : Option OpenSession) (line : List ℕ) : Type 0 where
 -- ---- a call
 
 -- what comes of a line, of a session that is open
-pub record IfOpen (Comes : OpenSession → List ℕ → OpenSession → Type 0) (old : Option OpenSession) (line : List ℕ)
-    (new : Option OpenSession) : Type 0 where
+pub record IfOpen (Comes : OpenSession → List ℕ → OpenSession → Type 0)
+    (old : Option OpenSession) (line : List ℕ) (new : Option OpenSession) : Type 0 where
   pub before : OpenSession
   pub is_before : old ≡ Some before
   pub after : OpenSession

@@ -12,8 +12,9 @@ use Rattle.std.proofs.lemmas.Slice.Zip.{all_zipped_more}
 use Rattle.dnssec_record.specs.declared.session.Session.{Session}
 use Rattle.dnssec_script.{specs.Script.lines_of, proofs.Texts.blank}
 use Rattle.dnssec_network.specs.Text.Questions.{IsAnswersFault}
-use Rattle.dnssec_network.specs.Text.Scripts.{AnswersEach, AnswersOne, IsUnanswered, ScriptWithNotes}
-use Rattle.dnssec_network.specs.Text.Scripts.{as_noted, no_script, parts_after, scripts_after}
+use Rattle.dnssec_network.specs.Text.Scripts.{AnswersEach, AnswersOne, IsUnanswered}
+use Rattle.dnssec_network.specs.Text.Scripts.{ScriptWithNotes, as_noted, no_script, parts_after}
+use Rattle.dnssec_network.specs.Text.Scripts.{scripts_after}
 use Rattle.dnssec_network.specs.declared.text.fault.NotesFault.{NotesFault}
 use Rattle.dnssec_network.specs.declared.text.fault.NotesFault.TheVariants.{Malformed, Refused}
 use Rattle.dnssec_network.specs.declared.text.fault.NotesFault.TheVariants.{OutOfMemory}
@@ -154,8 +155,8 @@ pub noted_within : (xs : List code.ScriptWithNotes) (i : ℕ) → i < length xs
 noted_within xs i within = rw length-map within
 
 -- the answers to one script more
-pub each_more : (scripts : List ScriptWithNotes) (noted : ScriptWithNotes) (texts more : List (List ℕ))
-    → AnswersEach scripts texts → AnswersOne noted more
+pub each_more : (scripts : List ScriptWithNotes) (noted : ScriptWithNotes)
+    (texts more : List (List ℕ)) → AnswersEach scripts texts → AnswersOne noted more
     → AnswersEach (scripts ++ noted ∷ []) (texts ++ more)
 each_more scripts noted texts more so here = record {
   answers = so.answers ++ more ∷ [];

@@ -100,7 +100,8 @@ impl SessionNotes {
         session: &Session,
         line: &[u8],
     ) -> Result<Option<String>, LineFault>
-        ensures answer { IfOk result (λ text. (script notes : List (List ℕ)) (entries : List Entry) →
+        ensures answer { IfOk result (λ text.
+            (script notes : List (List ℕ)) (entries : List Entry) →
             Stands script entries session.now → HasTaken (moments_of entries) notes self.old →
             ComesOf script entries notes line.now (option_map string_bytes text) self.new) }
         ensures question { IfOk result (λ text. is_some text ≡ is_some (as_question line.now)) }

@@ -7,7 +7,7 @@ use Rattle.dnssec_script.specs.Script.{call_says}
 use Rattle.dnssec_script.specs.Inner.Statement.{statement_says}
 use Rattle.dnssec_script.specs.declared.statement.Statement.{Statement}
 use Rattle.dnssec_record.specs.Session.{StandsAfter}
-use Rattle.dnssec_record.specs.declared.zone.Made.{Made}
+use Rattle.dnssec_record.specs.declared.zone.TimedReply.{TimedReply}
 use Rattle.dnssec_record.specs.declared.zone.ZoneState.{ZoneState}
 
 -- a session of this zone that knows the moments of these entries stands after them
@@ -21,14 +21,14 @@ Known = List ℕ → List Call → List Entry → ZoneState → Type 0
 
 -- one more call of the same run came to this, and as much is known of the zone as before
 pub record Comes (After : Known) (name : List ℕ) (calls : List Call) (entries : List Entry)
-    (call : Call) (next : ZoneState) (made : Made) : Type 0 where
+    (call : Call) (next : ZoneState) (made : TimedReply) : Type 0 where
   pub entry : Entry
   pub stands : After name (calls ++ call ∷ []) (entries ++ entry ∷ []) next
   pub is_reply : entry.reply ≡ made.reply
   pub is_moment : entry.moment ≡ made.moment
 
 -- the call of this statement was made, and came to this
-pub record TakesOn (After : Known) (statement : Statement) (old next : ZoneState) (made : Made)
+pub record TakesOn (After : Known) (statement : Statement) (old next : ZoneState) (made : TimedReply)
     : Type 0 where
   pub call : Call
   pub is_call : call_says call ≡ statement_says statement

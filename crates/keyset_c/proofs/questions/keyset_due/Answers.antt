@@ -10,8 +10,8 @@ notes_of None = None
 notes_of (Some kept) = kept.notes
 
 -- what is kept is one
-same_notes : (old : Option OpenSession) (one other : OpenSession) → old ≡ Some one → old ≡ Some other
-    → other.notes ≡ None → one.notes ≡ None
+same_notes : (old : Option OpenSession) (one other : OpenSession) → old ≡ Some one
+    → old ≡ Some other → other.notes ≡ None → one.notes ≡ None
 same_notes old one other is was none = sym (ap notes_of is) ∙ ap notes_of was ∙ none
 
 pub returns-in-Some-clause-told : goal.returns-in-Some-clause-told

@@ -10,6 +10,7 @@ returns c =
     let olds = texts c.args.old.now in
     let news = texts c.args.new.now in
     let kept = subst (λ ws. AnswersExactly (if list_all (is_met c.self.inside.keys olds news) ws
-    then None else Some NoSuitableKeyPresent) c.check_suitability.result) c.column-column.ensures.wants
+    then None else Some NoSuitableKeyPresent) c.check_suitability.result)
+    c.column-column.ensures.wants
     (c.check_suitability.ensures news c.in_ok-of_new.ensures.kinds) in
     search rules
