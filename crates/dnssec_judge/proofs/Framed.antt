@@ -52,26 +52,26 @@ module _ (frame : Frame) (more less front was is back : List Id)
     (around : frame.front + frame.back ≡ length less) (len : length more ≡ length less + 1) where
   none : is ≡ []
   none = nil_from_length is (omega (
-      arith,
-      around,
-      front_len,
-      back_len,
-      ap length splits_less,
-      length-append front (is ++ back),
-      length-append is back,
-    ))
+    arith,
+    around,
+    front_len,
+    back_len,
+    ap length splits_less,
+    length-append front (is ++ back),
+    length-append is back,
+  ))
 
   one : (k : Id) × (was ≡ k ∷ [])
   one = first-of was (omega (
-      arith,
-      around,
-      len,
-      front_len,
-      back_len,
-      ap length splits_more,
-      length-append front (was ++ back),
-      length-append was back,
-    ))
+    arith,
+    around,
+    len,
+    front_len,
+    back_len,
+    ap length splits_more,
+    length-append front (was ++ back),
+    length-append was back,
+  ))
 
   whole : more ≡ front ++ one.0 ∷ back
   whole = splits_more ∙ ap (λ ks. front ++ (ks ++ back)) one.1

@@ -9,8 +9,8 @@ ghost use Rattle.dnssec_run.specs.Recorder.{shown_by, taken_by};
 ghost use Rattle.dnssec_run.specs.Record.{call_of, mark_of, call_moment, reference_added, reply_of};
 ghost use Rattle.dnssec_run.specs.declared.lists.Shown.{Shown};
 
-use crate::record::{Mark, Reply};
 use crate::lists::ByList;
+use crate::record::{Mark, Reply};
 use dnssec_base::SecurityAlgorithm;
 use dnssec_keyset::{Action, Available, Error, KeySet, RollType, UnixTime};
 
@@ -271,14 +271,7 @@ impl<'a> Call<'a> {
                 key_tag,
                 creation_ts,
                 available,
-            } => set.add_key_ksk(
-                pubref,
-                privref,
-                algorithm,
-                key_tag,
-                creation_ts,
-                available,
-            ),
+            } => set.add_key_ksk(pubref, privref, algorithm, key_tag, creation_ts, available),
             Call::AddKeyZsk {
                 pubref,
                 privref,
@@ -286,14 +279,7 @@ impl<'a> Call<'a> {
                 key_tag,
                 creation_ts,
                 available,
-            } => set.add_key_zsk(
-                pubref,
-                privref,
-                algorithm,
-                key_tag,
-                creation_ts,
-                available,
-            ),
+            } => set.add_key_zsk(pubref, privref, algorithm, key_tag, creation_ts, available),
             Call::AddKeyCsk {
                 pubref,
                 privref,
@@ -301,14 +287,7 @@ impl<'a> Call<'a> {
                 key_tag,
                 creation_ts,
                 available,
-            } => set.add_key_csk(
-                pubref,
-                privref,
-                algorithm,
-                key_tag,
-                creation_ts,
-                available,
-            ),
+            } => set.add_key_csk(pubref, privref, algorithm, key_tag, creation_ts, available),
             Call::AddPublicKey {
                 pubref,
                 algorithm,

@@ -10,8 +10,8 @@ ghost use Rattle.dnssec_run.specs.declared.lists.Shown.{Shown};
 ghost use Rattle.dnssec_run.specs.Recorder.{Agrees, ChangesAt, HasSameKeys, Leaves};
 ghost use Rattle.dnssec_run.specs.Recorder.{PlacesKey, SaysShownAt, at_list, passing, shows};
 
-use crate::record::{Frame, Frames, Published, PublishedKey};
 use crate::lists::{ByList, Shown};
+use crate::record::{Frame, Frames, Published, PublishedKey};
 use dnssec_keyset::{Error, KeySet, KeyType};
 use std::alloc::Global;
 use std::collections::BTreeMap;
@@ -47,11 +47,27 @@ pub(crate) fn renew_key(
     let keys = &mut sets.dnskey_signers;
     let frame = &mut frames.dnskey_signers;
     let may = touched.dnskey_signers;
-    let signers = renew_place(alloc, may, shown.dnskey_signers, added, keys, reference, frame)?;
+    let signers = renew_place(
+        alloc,
+        may,
+        shown.dnskey_signers,
+        added,
+        keys,
+        reference,
+        frame,
+    )?;
     let keys = &mut sets.zone_signers;
     let frame = &mut frames.zone_signers;
     let may = touched.zone_signers;
-    let zone = renew_place(alloc, may, shown.zone_signers, added, keys, reference, frame)?;
+    let zone = renew_place(
+        alloc,
+        may,
+        shown.zone_signers,
+        added,
+        keys,
+        reference,
+        frame,
+    )?;
     Ok(ds | dnskey | signers | zone)
 }
 

@@ -7,9 +7,9 @@ ghost use Rattle.dnssec_run.specs.Published.{id_of};
 ghost use Rattle.dnssec_run.specs.Recorder.{HasKept, ids_read, shown_once, shows};
 ghost use Rattle.dnssec_run.specs.declared.record.PublishedKey.{PublishedKey};
 
+use crate::lists::Shown;
 use crate::places::published_key;
 use crate::record::{Frame, PublishedKey};
-use crate::lists::Shown;
 use dnssec_keyset::{Error, KeyType};
 use std::alloc::Global;
 use std::mem;

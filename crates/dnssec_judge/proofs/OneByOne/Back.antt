@@ -82,9 +82,9 @@ module _ (es : List Entry) (kind : SetKind) (n : ℕ) (t u : Numbers) (w : Windo
         dues = h.dues;
         in_order = h.in_order;
         means = λ q ge le. (
-            means-on t u _ _ (λ m k b. in-use q ge le m k (or_left _ _ b)) (h.means q ge le).0,
-            means-on t u _ _ (λ m k b. in-use q ge le m k (or_right _ _ b)) (h.means q ge le).1,
-          );
+          means-on t u _ _ (λ m k b. in-use q ge le m k (or_left _ _ b)) (h.means q ge le).0,
+          means-on t u _ _ (λ m k b. in-use q ge le m k (or_right _ _ b)) (h.means q ge le).1,
+        );
         numbered = h.numbered;
         spans = h.spans;
         begins = h.begins;

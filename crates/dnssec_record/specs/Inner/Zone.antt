@@ -28,8 +28,8 @@ pub record Comes (After : Known) (name : List ℕ) (calls : List Call) (entries 
   pub is_moment : entry.moment ≡ made.moment
 
 -- the call of this statement was made, and came to this
-pub record TakesOn (After : Known) (statement : Statement) (old next : ZoneState) (made : TimedReply)
-    : Type 0 where
+pub record TakesOn (After : Known) (statement : Statement)
+    (old next : ZoneState) (made : TimedReply) : Type 0 where
   pub call : Call
   pub is_call : call_says call ≡ statement_says statement
   pub comes : (name : List ℕ) (calls : List Call) (entries : List Entry) →

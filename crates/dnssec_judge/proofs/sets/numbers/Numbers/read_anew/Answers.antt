@@ -25,9 +25,9 @@ loop-key-preserved c t =
       extends.0,
       λ n k e. extends.1 n k (so.1 n k e),
       rw (pushed, ids) (stand-push c.number_of.new.self c.loop-key.numbers.items
-      (map id_of (take i list)) c.in_ok-number.number (id_of key)
-      (stand-on c.loop-key.self c.number_of.new.self c.loop-key.numbers.items _ extends.1 so.2)
-      c.in_ok-number.ensures.ok),
+          (map id_of (take i list)) c.in_ok-number.number (id_of key)
+          (stand-on c.loop-key.self c.number_of.new.self c.loop-key.numbers.items _ extends.1 so.2)
+          c.in_ok-number.ensures.ok),
     )
 
 pub returns-clause-ok : goal.returns-clause-ok

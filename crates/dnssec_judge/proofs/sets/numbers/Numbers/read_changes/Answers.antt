@@ -9,21 +9,21 @@ use Rattle.dnssec_judge.proofs.sets.numbers.Numbers.read_changes.Goals as goal
 
 pub remove-requires : goal.remove-requires
 remove-requires c = omega (
-    arith,
-    c.args.known.now.numbers.ok.0,
-    ap length c.as_slice-old_len.ensures,
-    c.is_around.ensures c.if-is_around.true,
-    c.if-saturating_sub-eq1.true,
-    c.saturating_sub.ensures,
-  )
+  arith,
+  c.args.known.now.numbers.ok.0,
+  ap length c.as_slice-old_len.ensures,
+  c.is_around.ensures c.if-is_around.true,
+  c.if-saturating_sub-eq1.true,
+  c.saturating_sub.ensures,
+)
 
 pub insert-requires : goal.insert-requires
 insert-requires c = omega (
-    arith,
-    c.args.known.now.numbers.ok.0,
-    ap length c.as_slice-old_len.ensures,
-    c.is_around-then-saturating_sub-eq1-2.ensures c.if-is_around-2.true,
-  )
+  arith,
+  c.args.known.now.numbers.ok.0,
+  ap length c.as_slice-old_len.ensures,
+  c.is_around-then-saturating_sub-eq1-2.ensures c.if-is_around-2.true,
+)
 
 pub returns-then-is_around-clause-ok : goal.returns-then-is_around-clause-ok
 returns-then-is_around-clause-ok c = record {
