@@ -155,17 +155,26 @@ class ZoneFile:
 
 
 @dataclass(frozen=True)
+class SetSigners:
+    """Which keys sign the DNSKEY set, CDS and CDNSKEY, and the rest of a zone."""
+
+    dnskey: frozenset[KeyId]
+    cds: frozenset[KeyId]
+    zone: frozenset[KeyId]
+
+    def of(self, kind: str) -> frozenset[KeyId]:
+        """Those of the sets of a type."""
+        return {"DNSKEY": self.dnskey, "CDS": self.cds, "CDNSKEY": self.cds}.get(kind, self.zone)
+
+
+@dataclass(frozen=True)
 class DueZone:
     """What the next version has to have: its serial, its sets of keys, and who signs which set."""
 
     origin: str
     serial: int
     sets: dict[str, list[ZoneRecord]]
-    by: dict[str, frozenset[KeyId]]
-
-    def signers(self, kind: str) -> frozenset[KeyId]:
-        """The keys that sign the sets of a type: DNSKEY, CDS and CDNSKEY, or the rest."""
-        return self.by.get(kind, self.by["zone"])
+    by: SetSigners
 
     def whole(self, records: Iterable[ZoneRecord]) -> Iterator[ZoneRecord]:
         """The unsigned zone with its next serial, and with the sets of keys."""
@@ -183,7 +192,7 @@ class DueZone:
         for row in records:
             if row.kind == "RRSIG":
                 kind, by = covered(row.data)
-                if by not in self.signers(kind):
+                if by not in self.by.of(kind):
                     continue
             yield row
 
@@ -197,11 +206,11 @@ class DueZone:
                 yield f"its {kind} set isn't that of the script's keys"
         top = self.origin.lower()
         for kind in ("SOA", *(kind for kind in KEYS if self.sets[kind])):
-            if self.signers(kind) and (top, kind) not in zone.signed:
+            if self.by.of(kind) and (top, kind) not in zone.signed:
                 yield f"{top} {kind} isn't signed"
         for (owner, kind), found in zone.signed.items():
-            if found != self.signers(kind):
-                yield f"{owner} {kind} is signed by {_tags(found)}, not {_tags(self.signers(kind))}"
+            if found != self.by.of(kind):
+                yield f"{owner} {kind} is signed by {_tags(found)}, not {_tags(self.by.of(kind))}"
 
     def refuse(self, zone: ZoneFile) -> None:
         """Says the first faults of a signed file, if it has any."""

@@ -17,7 +17,7 @@ from .. import place, serial, signing, words, zonefile
 from ..arguments import expect_other, file_name
 from ..errors import UNAVAILABLE, Failure
 from ..signing import Nsec3, Task, Tools
-from ..zonefile import DueZone, KeyId, ZoneFile, ZoneRecord, parsed
+from ..zonefile import DueZone, KeyId, SetSigners, ZoneFile, ZoneRecord, parsed
 from . import Key, PlanSigner, Sets, Wish, bind, ldns
 from .daemon import is_here
 
@@ -69,8 +69,8 @@ class FileVersion:
         if made:
             yield f"run: {signing.shown(made[0])}"
             cds = ["CDS"] * bool(self.due.sets["CDS"])
-            of_sets = [f"{kind} by {_tags(by[kind])}" for kind in ("DNSKEY", *cds)]
-            yield f"signatures: {'; '.join(of_sets)}; the rest by {_tags(by['zone'])}"
+            of_sets = [f"{kind} by {_tags(by.of(kind))}" for kind in ("DNSKEY", *cds)]
+            yield f"signatures: {'; '.join(of_sets)}; the rest by {_tags(by.zone)}"
             yield f"run: {signing.shown(made[1])}"
 
     def last(self) -> str:
@@ -181,12 +181,12 @@ class FileSigner:
             sets.update(self.keys.cds(unsigned.soa.ttl, self.act.digests))
         return sets
 
-    def signers(self) -> dict[str, frozenset[KeyId]]:
-        """Which keys sign DNSKEY, CDS and CDNSKEY, and the rest."""
+    def signers(self) -> SetSigners:
+        """Which keys sign which set."""
         zone = self.keys.published.zone
         cds = self.keys.by([*self.keys.cds_signer(), *zone])
         signers = self.keys.by(self.keys.published.signers)
-        return {"DNSKEY": signers, "CDS": cds, "CDNSKEY": cds, "zone": self.keys.by(zone)}
+        return SetSigners(signers, cds, self.keys.by(zone))
 
     def task(self, unsigned: ZoneFile, last: ZoneFile | None, wish: Wish) -> Task:
         """Which keys sign, and how. NSEC3 stays as the last version has it."""
