@@ -11,8 +11,8 @@ use Rattle.dnssec_script.specs.Script.{AreLinesOf, AreScript, Form, IsLineOf, Is
 use Rattle.dnssec_script.specs.Script.{Value, as_reference, fields_of, forms_of_word, is_reference}
 use Rattle.dnssec_script.specs.Script.{as_private, lines_of, said_after_word, says, trait_forms}
 use Rattle.dnssec_script.specs.Script.{values_of, word_at}
-use Rattle.dnssec_script.specs.declared.statement.Word.{Word}
-use Rattle.dnssec_script.specs.declared.statement.Word.TheVariants as word
+use Rattle.dnssec_script.specs.declared.word.Word.{Word}
+use Rattle.dnssec_script.specs.declared.word.Word.TheVariants as word
 
 -- ---- the first field of an add
 

@@ -13,7 +13,7 @@ use Rattle.dnssec_zone.specs.Rolls.{all_rolls}
 use Rattle.dnssec_key.specs.Texts.{roll_name}
 use Rattle.dnssec_script.specs.Script.{is_reference, is_reference_byte, roll_named, word_named}
 use Rattle.dnssec_script.specs.Script.{words}
-use Rattle.dnssec_script.specs.declared.statement.Word.{Word}
+use Rattle.dnssec_script.specs.declared.word.Word.{Word}
 
 -- if each byte passes a test that only ASCII passes
 all_ascii : (p : ℕ → Bool) → ((b : ℕ) → p b ≡ true → b < 128) → (text : List ℕ)

@@ -18,8 +18,8 @@ use Rattle.dnssec_key.specs.Texts.{roll_name}
 use Rattle.dnssec_zone.specs.Rolls.{all_rolls}
 use Rattle.dnssec_run.specs.declared.call.Call.{Call}
 use Rattle.dnssec_run.specs.declared.call.Call.TheVariants as call
-use Rattle.dnssec_script.specs.declared.statement.Word.{Word}
-use Rattle.dnssec_script.specs.declared.statement.Word.TheVariants as word
+use Rattle.dnssec_script.specs.declared.word.Word.{Word}
+use Rattle.dnssec_script.specs.declared.word.Word.TheVariants as word
 
 -- ---- lines and fields
 

@@ -17,7 +17,7 @@ ghost use Rattle.dnssec_script.specs.Inner.Reading.{parts_left};
 ghost use Rattle.dnssec_script.specs.Script.{value_at, values_of, first_field, fields_of};
 ghost use Rattle.dnssec_script.specs.Script.{word_at, word_named};
 
-use crate::statement::Word;
+use crate::word::Word;
 use dnssec_base::SecurityAlgorithm;
 use dnssec_keyset::{RollType, UnixTime};
 use std::alloc::{AllocError, Global};

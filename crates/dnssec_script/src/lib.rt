@@ -5,6 +5,7 @@ mod fields;
 mod forms;
 mod lines;
 mod statement;
+mod word;
 
 pub use fields::Fields;
 pub use lines::{Lines, ReadFault, all_lines, read_zone};

@@ -12,34 +12,10 @@ use crate::fields::{Fields, ReferenceList};
 use crate::forms::{
     KeyTraits, flag, key, public_key, report, roll, signing_key, stamp, timed_flag, wait,
 };
+use crate::word::Word;
 use dnssec_keyset::{Available, Error, RollType, UnixTime};
 use dnssec_run::{Call, Entry, Recorder};
 use std::alloc::{AllocError, Global};
-
-/// The words of a script.
-#[derive(Clone, Copy)]
-pub(crate) enum Word {
-    AddKsk,
-    AddZsk,
-    AddCsk,
-    AddPublic,
-    SetDecoupled,
-    SetPresent,
-    SetSigner,
-    SetAtParent,
-    SetStale,
-    SetVisible,
-    SetDsVisible,
-    SetRrsigVisible,
-    Delete,
-    Start,
-    Report1,
-    Wait1,
-    Report2,
-    Wait2,
-    Done,
-    Abort,
-}
 
 /// What a line says: its call. Only the call of a start is made later, since it borrows its lists.
 #[derive(Drop)]

@@ -7,8 +7,8 @@ use Rattle.dnssec_run.specs.declared.running.Recorder.{Recorder}
 use Rattle.dnssec_run.specs.Recorder.{Records}
 use Rattle.dnssec_script.specs.Script.{Value, References, Roll, Moment, call_says, trait_values}
 use Rattle.dnssec_script.specs.declared.forms.KeyTraits.{KeyTraits}
-use Rattle.dnssec_script.specs.declared.statement.Word.{Word}
-use Rattle.dnssec_script.specs.declared.statement.Word.TheVariants as word
+use Rattle.dnssec_script.specs.declared.word.Word.{Word}
+use Rattle.dnssec_script.specs.declared.word.Word.TheVariants as word
 use Rattle.dnssec_script.specs.declared.statement.Start.{Start}
 use Rattle.dnssec_script.specs.declared.statement.Statement.{Statement}
 use Rattle.dnssec_script.specs.declared.statement.Statement.TheVariants as statement
