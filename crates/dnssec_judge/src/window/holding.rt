@@ -1,21 +1,17 @@
-//! Which sets a window holds, each once, and what helps with many.
+//! What helps a window with many sets, and which of them go.
 ghost use Rattle.std.specs.Prelude.{◌≡◌, ◌≤◌, ℕ, false, true, length, nat_lt};
 ghost use Rattle.std.specs.List.{All, Sorted.IsPartitionPoint};
-ghost use Rattle.std.specs.Prelude.{Option, None, Some, slice_get, IfOk, IfErr, IfSome, OnOk};
+ghost use Rattle.std.specs.Prelude.{IfOk, IfErr, IfSome, OnOk};
 ghost use Rattle.dnssec_base.specs.declared.error.Error.TheVariants.{OutOfMemory};
 ghost use Rattle.dnssec_judge.specs.{Sets.set_of, declared.sets.held.OpenSet.OpenSet};
-ghost use Rattle.dnssec_judge.specs.Inner.Window.{AreByAge, HasCommon, IsHelped, IsIn};
-ghost use Rattle.dnssec_judge.specs.Inner.Window.{IsPut, Keeps, StillRests, last_of, stretches_of};
+ghost use Rattle.dnssec_judge.specs.Inner.Window.{AreByAge, GoesOnAbove, HasCommon, IsHelped, IsIn};
+ghost use Rattle.dnssec_judge.specs.Inner.Window.{Keeps, StillRests, Trims, begin_of, stretches_of};
 
-use super::Window;
+use super::{FEW_SETS, Window};
 use crate::sets::OpenSet;
 use dnssec_keyset::Error;
 use std::alloc::Global;
 use std::collections::HashMap;
-
-/// Up to this many sets a window grows by one, since few rolls need more, and keeps the room; then
-/// twofold. More than these are many.
-const FEW: usize = 4;
 
 /// What helps with many sets, so that a new one isn't compared, nor tested, with each of them.
 #[derive(Debug, Drop)]
@@ -23,7 +19,7 @@ pub(crate) struct Many {
     /// Keys and signers that are in each set, as a set. What holds with it holds with all.
     common: OpenSet,
     /// By its digest, since when a set is there. A set that isn't found is held once more.
-    by_digest: HashMap<u64, usize>,
+    pub(super) by_digest: HashMap<u64, usize>,
 }
 
 impl Many {
@@ -58,7 +54,7 @@ impl Many {
     }
 
     /// Takes one set more among them.
-    fn add(&mut self, set: &OpenSet) -> Result<(), Error>
+    pub(super) fn add(&mut self, set: &OpenSet) -> Result<(), Error>
         ensures new { OnOk result (IsIn self.new.common set.now) }
         ensures others { OnOk result ((h : OpenSet) → IsIn self.old.common h →
             IsIn self.new.common h) }
@@ -71,47 +67,8 @@ impl Many {
 }
 
 impl Window {
-    /// Holds the set that is published last, and answers since when it is there: the same set if it
-    /// is found, else a new one.
-    pub(super) fn put(&mut self, alloc: Global, at: usize) -> Result<usize, Error>
-        ensures kept { OnOk result (self.new
-            ≡ record (self.old) { sets = self.new.sets; many = self.new.many }) }
-        ensures put { IfOk result (λ since.
-            IsPut at (last_of self.old.last) self.old.sets.items since self.new.sets.items) }
-        ensures common { OnOk result (HasCommon self.old → HasCommon self.new) }
-        ensures err { IfErr result (λ e. e ≡ OutOfMemory) }
-    {
-        let Some(place) = self.place_of_last() else {
-            let set = self.last.set(at)?;
-            self.make_room(alloc)?;
-            self.help_with(&set)?;
-            self.sets.push(set)?;
-            return Ok(at);
-        };
-        self.sets[place].last = at;
-        Ok(self.sets[place].since)
-    }
-
-    /// Prepares for one set more.
-    fn make_room(&mut self, alloc: Global) -> Result<(), Error>
-        ensures kept { OnOk result (self.new
-            ≡ record (self.old) { sets = self.new.sets; many = self.new.many }) }
-        ensures sets { OnOk result (self.new.sets.items ≡ self.old.sets.items) }
-        ensures common { OnOk result (HasCommon self.old → HasCommon self.new) }
-        ensures err { IfErr result (λ e. e ≡ OutOfMemory) }
-    {
-        if self.sets.len() < FEW {
-            self.sets.reserve_exact(1)?;
-            return Ok(());
-        }
-        if self.sets.len() == FEW {
-            self.help(alloc)?;
-        }
-        Ok(())
-    }
-
     /// Makes anew what helps with many sets.
-    fn help(&mut self, alloc: Global) -> Result<(), Error>
+    pub(super) fn help(&mut self, alloc: Global) -> Result<(), Error>
         ensures kept { OnOk result (self.new ≡ record (self.old) { many = self.new.many }) }
         ensures common { OnOk result (HasCommon self.new) }
         ensures err { IfErr result (λ e. e ≡ OutOfMemory) }
@@ -119,36 +76,6 @@ impl Window {
         let many = Many::of(alloc, &self.sets)?;
         self.many = Some(Box::new(alloc, many)?);
         Ok(())
-    }
-
-    /// Has a set that comes among the many, if they are.
-    fn help_with(&mut self, set: &OpenSet) -> Result<(), Error>
-        ensures kept { self.new ≡ record (self.old) { many = self.new.many } }
-        ensures new { OnOk result (IsHelped self.new.many set.now) }
-        ensures others { OnOk result ((h : OpenSet) → IsHelped self.old.many h →
-            IsHelped self.new.many h) }
-        ensures err { IfErr result (λ e. e ≡ OutOfMemory) }
-    {
-        match &mut self.many {
-            Some(many) => Many::add(&mut **many, set),
-            None => Ok(()),
-        }
-    }
-
-    /// The place of the set that is published last, if it is found.
-    fn place_of_last(&self) -> Option<usize>
-        ensures { IfSome result (λ place. (h : OpenSet) ×
-            (slice_get self.now.sets.items place ≡ Some h) × (set_of h ≡ last_of self.now.last)) }
-    {
-        let last = &self.last;
-        let Some(many) = &self.many else {
-            return self.sets.iter().position(|set| last.is(set));
-        };
-        let place = self.place_from(*many.by_digest.get(&last.digest())?);
-        match self.sets.get(place) {
-            Some(set) if last.is(set) => Some(place),
-            _ => None,
-        }
     }
 
     /// The place of the first set that came at a position or later.
@@ -161,8 +88,55 @@ impl Window {
         self.sets.partition_point(|set| set.since < since)
     }
 
+    /// Drops the spans that end below the floor, and the sets that have no span left.
+    pub(super) fn trim(&mut self, alloc: Global) -> Result<(), Error>
+        ensures kept { OnOk result (self.new ≡ record (self.old) {
+          spans = self.new.spans;
+          sets = self.new.sets;
+          many = self.new.many;
+        }) }
+        ensures trims { OnOk result (Trims self.old self.new) }
+        ensures goes_on { OnOk result ((n : ℕ) → Keeps n self.old →
+            GoesOnAbove self.new.floor (stretches_of self.new)) }
+        ensures err { IfErr result (λ e. e ≡ OutOfMemory) }
+    {
+        if !self.drop_spans() {
+            return Ok(());
+        }
+        self.drop_sets(alloc)?;
+        Ok(())
+    }
+
+    /// Drops the spans that end below the floor, and answers whether there were some.
+    fn drop_spans(&mut self) -> bool
+        ensures kept { self.new ≡ record (self.old) { spans = self.new.spans } }
+        ensures trims { Trims self.old self.new }
+        ensures goes_on { GoesOnAbove self.new.floor (stretches_of self.new) }
+    {
+        let mut were_some = false;
+        while let Some(next) = self.spans.get(1) {
+            if self.floor < next.from {
+                break;
+            }
+            self.spans.pop_front();
+            were_some = true;
+        }
+        were_some
+    }
+
+    /// The position at which the first span begins. A set is in the window if it was last published
+    /// there or later.
+    fn begin(&self) -> usize
+        ensures { result ≡ begin_of self.now.spans.items }
+    {
+        match self.spans.front() {
+            Some(first) => first.from,
+            None => 0,
+        }
+    }
+
     /// Drops the sets that have no span left.
-    pub(super) fn drop_sets(&mut self, alloc: Global) -> Result<(), Error>
+    fn drop_sets(&mut self, alloc: Global) -> Result<(), Error>
         ensures kept { OnOk result (self.new
             ≡ record (self.old) { sets = self.new.sets; many = self.new.many }) }
         ensures keeps { OnOk result ((n : ℕ) → Keeps n self.old →
@@ -175,9 +149,9 @@ impl Window {
             return Ok(());
         }
         self.sets.retain(|set| begin <= set.last);
-        if self.sets.len() <= FEW {
+        if self.sets.len() <= FEW_SETS {
             self.many = None;
-            self.sets.shrink_to(FEW);
+            self.sets.shrink_to(FEW_SETS);
             return Ok(());
         }
         self.help(alloc)?;

@@ -1,7 +1,7 @@
 //! Any two sets of the windows are tested once: each new set with all sets of the other kind.
-ghost use Rattle.std.specs.Prelude.{◌≡◌, ◌<◌, ◌≤◌, ℕ, false, true};
+ghost use Rattle.std.specs.Prelude.{◌≡◌, ◌≤◌, ℕ, true};
 ghost use Rattle.std.specs.List.{Contains};
-ghost use Rattle.dnssec_judge.specs.Sets.{holds, linked, set_of};
+ghost use Rattle.dnssec_judge.specs.Sets.{holds, set_of};
 ghost use Rattle.dnssec_judge.specs.declared.sets.held.OpenSet.{OpenSet};
 ghost use Rattle.dnssec_judge.specs.Inner.Window.{AreByAge, IsOpen, Keeps, PairsHold};
 ghost use Rattle.dnssec_judge.specs.Inner.Window.{PairsTested, all_in};
@@ -42,19 +42,6 @@ impl Link {
             (Link::Signed, false) => other.holds_with_signers(one),
         }
     }
-
-    /// Whether a key links two sets. Then they hold, and so do sets with more keys.
-    #[inline(always)]
-    fn has_key(self, is_above: bool, one: &OpenSet, other: &OpenSet) -> bool
-        ensures { result ≡ linked self is_above (set_of one.now) (set_of other.now) }
-    {
-        match (self, is_above) {
-            (Link::Named, true) => one.names_key_of(other),
-            (Link::Named, false) => other.names_key_of(one),
-            (Link::Signed, true) => one.holds_with_signers(other),
-            (Link::Signed, false) => other.holds_with_signers(one),
-        }
-    }
 }
 
 // If there are many sets, a test with all of them first asks what is common to them. So most sets
@@ -68,18 +55,6 @@ impl Window {
         let first = self.place_from(tested);
         let (_, new) = self.sets.split_at(first);
         new
-    }
-
-    /// Whether a set came at position `tested` or later.
-    #[inline(always)]
-    pub(crate) fn has_new(&self, tested: usize) -> bool
-        ensures { result ≡ false → AreByAge self.now.sets.items → (h : OpenSet) →
-            IsOpen self.now h → h.since < tested }
-    {
-        match self.sets.last() {
-            Some(last) => tested <= last.since,
-            None => false,
-        }
     }
 
     /// Whether the new sets of another window hold with each set of this one. That one is of the
@@ -105,7 +80,7 @@ impl Window {
             result ≡ all_in self.now (λ p. holds link is_above (set_of set.now) p) }
     {
         if let Some(common) = self.common() {
-            if link.has_key(is_above, set, common) {
+            if !common.is_empty() && link.holds(is_above, set, common) {
                 return true;
             }
         }

@@ -1,18 +1,24 @@
-//! A report that a judge keeps, and when it is over.
-ghost use Rattle.std.specs.Prelude.{◌≡◌, ◌<◌, ◌≤◌, ◌+◌, ◌*◌, ℕ, nat_lt, not, true};
+//! A report that a judge keeps, when it is over, and how it lifts the floor of a window.
+ghost use Rattle.std.specs.Prelude.{◌≡◌, ◌<◌, ◌≤◌, ◌+◌, ◌*◌, ℕ, nat_lt, not, true, max, OnOk, IfErr};
+ghost use Rattle.dnssec_base.specs.declared.error.Error.TheVariants.{OutOfMemory};
 ghost use Rattle.dnssec_run.specs.Safe.{kind_of};
 ghost use Rattle.dnssec_run.specs.Steps.{base_of};
 ghost use Rattle.dnssec_judge.specs.Inner.Floor.{over_by};
-ghost use Rattle.dnssec_judge.specs.Inner.Window.{is_over_at, most, over, over_any};
+ghost use Rattle.dnssec_judge.specs.Inner.Window.{AreInOrder, floor_with, is_over_at, most, over};
+ghost use Rattle.dnssec_judge.specs.Inner.Window.{over_any};
 
-use dnssec_keyset::{Half, UnixTime};
+use super::Window;
+use dnssec_keyset::{Error, Half, UnixTime};
 use dnssec_run::{Mark, SetKind, Steps, retires};
 use std::time::Duration;
+
+/// A window keeps the room for this many reports.
+const FEW_DUES: usize = 4;
 
 /// A report that isn't over yet. Once it is, all below its base is retired.
 #[derive(Clone, Copy, Debug)]
 pub(crate) struct Due {
-    pub(super) over: UnixTime,
+    over: UnixTime,
     base: usize,
 }
 
@@ -48,7 +54,7 @@ impl Due {
 
     /// All below this position is retired at the time.
     #[tactic(auto, using(std::proofs::lemmas::Grind::common_steps))]
-    pub(super) fn over(&self, time: UnixTime) -> usize
+    fn over(&self, time: UnixTime) -> usize
         ensures { result ≡ over self.now time }
     {
         if self.is_over(time) { self.base } else { 0 }
@@ -62,10 +68,69 @@ impl Due {
     }
 
     /// Whether it is over as soon as another, with a base as high.
-    pub(super) fn beats(&self, other: &Due) -> bool
+    fn beats(&self, other: &Due) -> bool
         ensures { result ≡ true → (t : ℕ) → over other.now t ≤ over self.now t }
     {
         self.over <= other.over && other.base <= self.base
+    }
+}
+
+impl Window {
+    /// Notes a report, if there is one, unless another is over as soon with a base as high.
+    pub(super) fn note(&mut self, due: Option<Due>) -> Result<(), Error>
+        ensures dues { OnOk result ((t : ℕ) → floor_with self.old.floor self.new.dues.items t
+            ≡ max (floor_with self.old.floor self.old.dues.items t) (over_any due t)) }
+        ensures in_order { OnOk result (AreInOrder self.old.dues.items →
+            AreInOrder self.new.dues.items) }
+        ensures kept { OnOk result (self.new ≡ record (self.old) { dues = self.new.dues }) }
+        ensures err { IfErr result (λ e. e ≡ OutOfMemory) }
+    {
+        let Some(due) = due else {
+            return Ok(());
+        };
+        let place = self.dues.partition_point(|other| other.over <= due.over);
+        if self.is_beaten(&due, place) {
+            return Ok(());
+        }
+        self.dues.insert(place, due)?;
+        Ok(())
+    }
+
+    /// Whether the report before a place is over as soon as another, with a base as high.
+    fn is_beaten(&self, due: &Due, place: usize) -> bool
+        ensures { result ≡ true → (floor t : ℕ) →
+            over due.now t ≤ floor_with floor self.now.dues.items t }
+    {
+        let Some(before) = place.checked_sub(1) else {
+            return false;
+        };
+        match self.dues.get(before) {
+            Some(other) => other.beats(due),
+            None => false,
+        }
+    }
+
+    /// Lifts the floor to the greatest base of the reports that are over, and drops those reports.
+    pub(super) fn retire(&mut self, time: UnixTime)
+        ensures floor { AreInOrder self.old.dues.items → self.new.floor
+            ≡ floor_with self.old.floor self.old.dues.items time }
+        ensures dues { (t : ℕ) → time ≤ t → floor_with self.new.floor self.new.dues.items t
+            ≡ floor_with self.old.floor self.old.dues.items t }
+        ensures in_order { AreInOrder self.old.dues.items → AreInOrder self.new.dues.items }
+        ensures rises { self.old.floor ≤ self.new.floor }
+        ensures kept { self.new
+            ≡ record (self.old) { floor = self.new.floor; dues = self.new.dues } }
+    {
+        let mut floor = self.floor;
+        for due in &self.dues {
+            let over = due.over(time);
+            if floor < over {
+                floor = over;
+            }
+        }
+        self.floor = floor;
+        self.dues.retain(|due| !due.is_over(time));
+        self.dues.shrink_to(FEW_DUES);
     }
 }
 

@@ -9,8 +9,8 @@ use Rattle.dnssec_judge.proofs.OneByOne.Pairs.{none-where-held, none-without-ds,
 use Rattle.dnssec_judge.specs.Inner.Window.{AllHold, Tested, first_ds, stretches_of}
 use Rattle.dnssec_judge.proofs.OneByOne.Followed.{is-none, none-found, some-kept}
 use Rattle.dnssec_judge.specs.declared.{verdict.Broken.Broken, judging.Judge.Judge}
-use Rattle.dnssec_judge.{proofs.OneByOne.Same.stays-safe, specs.Inner.Search.IsVerdictAt}
-use Rattle.dnssec_judge.{proofs.OneByOne.Found.judged, specs.Judge.Follows, specs.Judge.Knows}
+use Rattle.dnssec_judge.{proofs.OneByOne.Kept.stays-safe, specs.Inner.Search.IsVerdictAt}
+use Rattle.dnssec_judge.{proofs.OneByOne.Spans.judged, specs.Judge.Follows, specs.Judge.Knows}
 use Rattle.dnssec_judge.{proofs.OneByOne.More.count, specs.Verdict.IsVerdict}
 use Rattle.dnssec_judge.proofs.judging.Judge.note_changes.Goals as goal
 
@@ -105,15 +105,6 @@ returns-then-are_signed-clause-ok c es e next keep h =
       zones = c.new_sets_hold-are_signed.ensures _ c.if-are_signed.true g.dnskey.keeps
           g.zone.keeps g.tested.zones;
     })
-
-pub returns-then-not-has_new_sets-clause-ok : goal.returns-then-not-has_new_sets-clause-ok
-returns-then-not-has_new_sets-clause-ok c es e next keep h =
-    let w = c.follow.new.self in let f = c.in_ok-follow.ensures in
-    let g = f.follows es e next keep h.follows in
-    held es e c.args.self.now w h f.found g
-    (is-none w.found (sym c.is_some.ensures ∙ c.if-is_some.false)) w.tested g.within
-    (c.has_new_sets.ensures _ c.if-not-has_new_sets.true g.ds.keeps g.dnskey.keeps g.zone.keeps
-    g.tested)
 
 pub returns-clause-ok : goal.returns-clause-ok
 returns-clause-ok c es e next keep h =

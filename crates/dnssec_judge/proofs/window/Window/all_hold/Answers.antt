@@ -1,15 +1,16 @@
--- What a key links to the common set holds with each.
+-- What holds with the common set, if that has a key, holds with each.
 use Rattle.std.proofs.Common.{ap, List, rules, sym, tests, ◌∙◌}
 use Rattle.std.specs.List.{list_all}
 use Rattle.std.proofs.lemmas.Iterator.{YieldsList-from_slice, Search.all_from_yields_List}
-use Rattle.dnssec_judge.proofs.OneByOne.Pairs.{all-linked}
+use Rattle.dnssec_judge.proofs.OneByOne.Pairs.{all-held}
 use Rattle.dnssec_judge.specs.{declared.sets.held.OpenSet.OpenSet, Sets.holds, Sets.set_of}
 use Rattle.dnssec_judge.proofs.window.Window.all_hold.Goals as goal
 
-pub returns-then-has_key : goal.returns-then-has_key
-returns-then-has_key c n k =
-    all-linked c.args.link c.args.is_above (set_of c.args.set.now) c.in-Some.common.now
-    c.args.self.now (c.in-Some.ensures k.common) (sym c.has_key.ensures ∙ c.if-has_key.true)
+pub returns-then-holds : goal.returns-then-holds
+returns-then-holds c n k =
+    all-held c.args.link c.args.is_above (set_of c.args.set.now) c.in-Some.common.now
+    c.args.self.now (c.in-Some.ensures k.common) (sym c.is_empty.ensures ∙ c.if-not-is_empty.true)
+    (sym c.holds.ensures ∙ c.if-holds.true)
 
 pub returns : goal.returns
 returns c n k =

@@ -9,8 +9,8 @@ use Rattle.dnssec_judge.proofs.window.Window.drop_sets.Goals as goal
 pub returns-then-all-clause-keeps : goal.returns-then-all-clause-keeps
 returns-then-all-clause-keeps c n k = (refl, (k, λ tested h le r. (h, r, refl)))
 
-pub returns-then-len-le-FEW : goal.returns-then-len-le-FEW
-returns-then-len-le-FEW c =
+pub returns-then-len-le-FEW_SETS : goal.returns-then-len-le-FEW_SETS
+returns-then-len-le-FEW_SETS c =
     let w = c.args.self.now in
     let new : Window = record w { sets = c.shrink_to.new.self; many = None } in
     let sets : new.sets.items ≡ filter (isnt-older (begin_of w.spans.items)) w.sets.items =

@@ -3,7 +3,7 @@ use Rattle.std.proofs.Common.{◌∙◌, arith, Option, sym, ℕ}
 use Rattle.dnssec_judge.specs.{Sets.Numbered, Sets.set_of, declared.window.Window.Window}
 use Rattle.dnssec_judge.specs.{Inner.Window.first_keys, Inner.Window.stretches_of}
 use Rattle.dnssec_judge.{specs.declared.verdict.Broken.Broken, proofs.OneByOne.Pairs.keys-held}
-use Rattle.dnssec_judge.proofs.OneByOne.{Firsts.done, Firsts.hit, Firsts.miss, Firsts.past}
+use Rattle.dnssec_judge.proofs.OneByOne.{Spans.done, Spans.hit, Spans.miss, Spans.past}
 use Rattle.dnssec_judge.proofs.OneByOne.Pairs.{no-keys}
 use Rattle.dnssec_judge.proofs.window.search.find_broken.Goals as goal
 

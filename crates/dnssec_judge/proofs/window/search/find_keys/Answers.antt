@@ -4,7 +4,7 @@ use Rattle.std.specs.Option.{option_map}
 use Rattle.dnssec_judge.specs.{Sets.Numbered, Sets.set_of, declared.verdict.Broken.Broken}
 use Rattle.dnssec_judge.specs.declared.window.{Window.Window, search.First.First}
 use Rattle.dnssec_judge.specs.Inner.Window.{broken, stretches_of, with_keys}
-use Rattle.dnssec_judge.proofs.OneByOne.{Firsts.done, Firsts.hit, Firsts.miss, Firsts.past}
+use Rattle.dnssec_judge.proofs.OneByOne.{Spans.done, Spans.hit, Spans.miss, Spans.past}
 use Rattle.dnssec_judge.proofs.OneByOne.Pairs.{signers-held}
 use Rattle.dnssec_judge.proofs.window.search.find_keys.Goals as goal
 

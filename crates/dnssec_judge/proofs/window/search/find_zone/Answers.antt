@@ -3,7 +3,7 @@ use Rattle.std.proofs.Common.{◌∙◌, ap, arith, Some, None, Option, sym, ℕ
 use Rattle.std.specs.Prelude.{if◌then◌else◌}
 use Rattle.dnssec_judge.specs.Sets.{Numbered, set_of, sets_have_chain}
 use Rattle.dnssec_judge.specs.{declared.sets.held.OpenSet.OpenSet, Inner.Window.if_failing}
-use Rattle.dnssec_judge.proofs.OneByOne.Firsts.{done, hit, miss, past}
+use Rattle.dnssec_judge.proofs.OneByOne.Spans.{done, hit, miss, past}
 use Rattle.dnssec_judge.proofs.window.search.find_zone.Goals as goal
 
 abbrev seek : OpenSet → OpenSet → ℕ → Numbered → Option ℕ

@@ -1,7 +1,7 @@
 -- They are all.
 use Rattle.std.proofs.{Common.◌∙◌, Common.ap, Common.List, Common.map, lemmas.List.take_all}
 use Rattle.dnssec_judge.specs.{Sets.parts_of, declared.sets.held.OpenSet.OpenSet}
-use Rattle.dnssec_judge.proofs.window.copy_sets.Goals as goal
+use Rattle.dnssec_judge.proofs.window.copies.copy_sets.Goals as goal
 
 pub returns-clause-ok : goal.returns-clause-ok
 returns-clause-ok c =
