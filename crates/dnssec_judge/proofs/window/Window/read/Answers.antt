@@ -1,6 +1,6 @@
 -- Two lists are read. If the set is another, it is put in, and a span of it stands last.
-use Rattle.std.proofs.Common.{◌≡◌, ◌∙◌, ◌++◌, ◌∷◌, [], ap, map, arith, refl, rules, subst, suc, sym}
-use Rattle.std.specs.Prelude.{◌||◌}
+use Rattle.std.proofs.Common.{◌≡◌, ◌∙◌, ◌++◌, ◌∷◌, [], ap, map, arith, refl, rules, subst, suc, sym, true}
+use Rattle.std.proofs.Common.{false}
 use Rattle.dnssec_run.specs.Published.{id_of}
 use Rattle.dnssec_judge.specs.declared.window.{Span.Span, Window.Window, last.Last.Last}
 use Rattle.dnssec_judge.specs.Inner.Window.{IsPut, came, last_of}
@@ -13,17 +13,16 @@ returns-then-not-is_other-clause-ok c =
     let w = c.args.self.now in
     let last : Last = record { keys = c.read.new.known; signers = c.read-2.new.known } in
     record {
-      is_other = c.in_ok-has_others.has_others || c.in_ok-is_signed_otherwise.is_signed_otherwise;
-      next = set-read c.args.numbers.now c.read.new.self c.read-2.new.self w.last last c.args.keys
-          c.args.signers (map id_of c.args.list.now) (map id_of c.args.signing.now) _ _
-          c.in_ok-has_others.ensures.ok c.in_ok-is_signed_otherwise.ensures.ok _ refl;
-      goes_on = rw c.if-not-is_other.true (record {
-        keeps = λ n at k. (
-          refl,
-          moved-as n (suc n) w k (omega arith) (record w { last = last }) refl,
-        );
-        origin = refl;
-      });
+      is_other = false;
+      next = rw c.if-not-is_other.true at (set-read c.args.numbers.now c.read.new.self
+          c.read-2.new.self w.last last c.args.keys c.args.signers (map id_of c.args.list.now)
+          (map id_of c.args.signing.now) _ _ c.in_ok-has_others.ensures.ok
+          c.in_ok-is_signed_otherwise.ensures.ok _ refl);
+      keeps = λ n at k. (
+        refl,
+        moved-as n (suc n) w k (omega arith) (record w { last = last }) refl,
+      );
+      origin = refl;
       floor = refl;
       dues = refl;
     }
@@ -40,16 +39,15 @@ returns-clause-ok c =
     ∙ ap (λ (x : Window). x.spans.items ++ span ∷ []) put.kept in
     let at-last : new.last ≡ last = ap (λ (x : Window). x.last) put.kept in
     record {
-      is_other = c.in_ok-has_others.has_others || c.in_ok-is_signed_otherwise.is_signed_otherwise;
-      next = rw at-last (set-read c.args.numbers.now c.read.new.self c.read-2.new.self w.last last
-          c.args.keys c.args.signers (map id_of c.args.list.now) (map id_of c.args.signing.now) _ _
-          c.in_ok-has_others.ensures.ok c.in_ok-is_signed_otherwise.ensures.ok _ refl);
-      goes_on = rw c.if-not-is_other.false (record {
-        keeps = λ n at k. is-put n c.args.at (last_of new.last) w new since at (subst (λ (l : Last).
-            IsPut c.args.at (last_of l) w.sets.items since new.sets.items) (sym at-last) put.put)
-            added (put.common k.common) k;
-        origin = ap came added ∙ came-pushed w.spans.items span;
-      });
+      is_other = true;
+      next = rw at-last (rw c.if-not-is_other.false at (set-read c.args.numbers.now
+          c.read.new.self c.read-2.new.self w.last last c.args.keys c.args.signers
+          (map id_of c.args.list.now) (map id_of c.args.signing.now) _ _
+          c.in_ok-has_others.ensures.ok c.in_ok-is_signed_otherwise.ensures.ok _ refl));
+      keeps = λ n at k. is-put n c.args.at (last_of new.last) w new since at (subst (λ (l : Last).
+          IsPut c.args.at (last_of l) w.sets.items since new.sets.items) (sym at-last) put.put)
+          added (put.common k.common) k;
+      origin = ap came added ∙ came-pushed w.spans.items span;
       floor = ap (λ (x : Window). x.floor) put.kept;
       dues = ap (λ (x : Window). x.dues.items) put.kept;
     }
