@@ -1,6 +1,7 @@
 """Clients, who ask all resolvers all the time, and judge the answers."""
 
 import asyncio
+import itertools
 import struct
 import time
 from collections import Counter
@@ -16,9 +17,9 @@ import dns.rdatatype
 from keys import HOSTS
 from places import RESOLVERS
 
-# Seconds between two questions to one resolver about one zone, before a new try, and before giving
-# up.
-PACE, RETRY, GIVE_UP = 0.08, 2, 8
+# Seconds between two questions to one resolver about one zone, and between tries of one of them.
+PACE, RETRY = 0.08, 2
+TRIES = 4
 ADDRESS = bytes((192, 0, 2, 1))
 SETS = ("SOA", "NS", "DNSKEY", "DS", "CDS", "CDNSKEY")
 NOERROR, NXDOMAIN = dns.rcode.NOERROR, dns.rcode.NXDOMAIN
@@ -49,10 +50,11 @@ class FalseAnswer(NamedTuple):
 
 
 class Line(asyncio.DatagramProtocol):
-    """The unanswered questions of one client to one resolver, by their numbers."""
+    """The unanswered questions of one client to one resolver, by their numbers. Numbers count up:
+    by random ones two questions would now and then have the same, and one of them no answer."""
 
     def __init__(self):
-        self.waiting = {}
+        self.waiting, self.numbers = {}, itertools.count()
 
     def connection_made(self, transport):
         self.transport = transport
@@ -66,18 +68,18 @@ class Line(asyncio.DatagramProtocol):
         pass
 
     async def ask(self, query):
-        """The answer to a question, or None if none comes."""
-        future = asyncio.get_running_loop().create_future()
-        self.waiting[query[:2]] = future
+        """The answer to a question, or None if none comes, and how many times it was asked again."""
+        number = struct.pack("!H", next(self.numbers) & 0xFFFF)
+        self.waiting[number] = future = asyncio.get_running_loop().create_future()
         try:
-            for _ in range(GIVE_UP // RETRY):
-                self.transport.sendto(query)
+            for again in range(TRIES):
+                self.transport.sendto(number + query[2:])
                 done, _ = await asyncio.wait([future], timeout=RETRY)
                 if done:
-                    return future.result()
-            return None
+                    return future.result(), again
+            return None, again
         finally:
-            self.waiting.pop(query[:2], None)
+            self.waiting.pop(number, None)
 
 
 class Clients:
@@ -140,7 +142,8 @@ class Clients:
             question.name, question.kind, want_dnssec=True, payload=4096
         )
         asked = time.time()
-        answer = await line.ask(query.to_wire())
+        answer, again = await line.ask(query.to_wire())
+        self.counts["again"] += again
         self.count(resolver, question, asked, answer)
 
     def count(self, resolver, question, asked, answer):

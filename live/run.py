@@ -76,14 +76,16 @@ def unlike(is_lie, clients):
     return "clients saw faults" if early and not is_lie else None
 
 
-HEAD = f"{'scene':53} {'seconds':>7} {'questions':>9} {'with AD':>9} {'SERVFAIL':>8} {'other':>6}"
+HEAD = (f"{'scene':53} {'seconds':>7} {'questions':>9} {'again':>6} {'with AD':>9} "
+        f"{'SERVFAIL':>8} {'other':>6}")
 
 
 def row(name, seconds, counts, faults):
     """A row of the table. Its other faults are all except SERVFAIL."""
-    asked, checked, servfail = (counts[what] for what in ("asked", "AD", "SERVFAIL"))
+    asked, again, checked, servfail = (counts[it] for it in ("asked", "again", "AD", "SERVFAIL"))
     return (
-        f"{name:53} {seconds:7.0f} {asked:9} {checked:9} {servfail:8} {faults - servfail:6}"
+        f"{name:53} {seconds:7.0f} {asked:9} {again:6} {checked:9} {servfail:8} "
+        f"{faults - servfail:6}"
     )
 
 

@@ -29,7 +29,7 @@ MEMORY = 3_500_000_000
 PYTEST = sys.executable, "-m", "pytest", "-q"
 # The tests that need no proof.
 FREE = ("oracle.test_runbooks", "oracle.test_networks", "gate.test_examples",
-        "gate.test_mistakes")
+        "gate.test_mistakes", "gate.test_clients")
 # The priority of edits, as that of `nice`.
 LOW = 10
 # What it leaves out, for that needs servers, root or hours.
