@@ -5,7 +5,7 @@ Python, the library, and the programs that the command runs.
 
 The script gives a zone its first keys, and then rolls its ZSK again and again, with all notes: one
 a month for a hundred years is its longest. A word is run by the library, if `make lib` has made it,
-and by the programs that `make build notes` has made. Without words it measures check and draw.
+and by the program that `make build` has made. Without words it measures check and draw.
 
 The last line has the exponent by which each column grows, from the second length to the last, less
 the start. It ends with status 1 if one grows faster than the lines.

@@ -62,7 +62,8 @@ def run(*command, **how):
     except FileNotFoundError:
         raise Fault(f"{words[0]} is missing here, and is needed") from None
     if ran.returncode:
-        raise Fault(f"{' '.join(words)}: status {ran.returncode}\n{ran.stderr.decode()}")
+        said = (ran.stderr or ran.stdout).decode()
+        raise Fault(f"{' '.join(words)}: status {ran.returncode}\n{said}")
     return ran.stdout.decode()
 
 
