@@ -68,7 +68,7 @@ class Line(asyncio.DatagramProtocol):
         pass
 
     async def ask(self, query):
-        """The answer to a question, or None if none comes, and how many times it was asked again."""
+        """The answer to a question, or None if none comes, and how often it was asked again."""
         number = struct.pack("!H", next(self.numbers) & 0xFFFF)
         self.waiting[number] = future = asyncio.get_running_loop().create_future()
         try:
