@@ -8,7 +8,7 @@ use Rattle.std.proofs.lemmas.List.{take-append-drop}
 use Rattle.std.specs.Prelude.{Option}
 use Rattle.dnssec_run.specs.declared.record.{Frame.Frame, Frames.Frames, Published.Published}
 use Rattle.dnssec_run.specs.declared.record.PublishedKey.{PublishedKey}
-use Rattle.dnssec_run.specs.declared.renewal.Renewal.{Renewal}
+use Rattle.dnssec_run.specs.declared.sets.Renewal.{Renewal}
 use Rattle.dnssec_run.specs.Frames.{KeepsFrame, KeepsFrames, KeepsSet, frame_with, frames_in}
 use Rattle.dnssec_run.specs.Frames.{no_frame, whole}
 use Rattle.dnssec_run.specs.Recorder.{HasKept, KeptBy}

@@ -27,7 +27,7 @@ use Rattle.dnssec_run.specs.Record.{new_world}
 use Rattle.dnssec_run.specs.Recorder.{Agrees, IsAscending, ids_where, position_in, position_shown}
 use Rattle.dnssec_run.specs.Recorder.{HasKept, KeptBy, shown_once, ids_read}
 pub use Rattle.dnssec_run.specs.Recorder.{passing}
-use Rattle.dnssec_run.specs.declared.{record.PublishedKey.PublishedKey, renewal.Renewal.Renewal}
+use Rattle.dnssec_run.specs.declared.{record.PublishedKey.PublishedKey, sets.Renewal.Renewal}
 use Rattle.std.specs.BTreeMap as tree
 
 abbrev pub order : List ℕ → List ℕ → Ordering

@@ -25,7 +25,7 @@ use Rattle.dnssec_run.specs.declared.record.Outcome.{Outcome}
 use Rattle.dnssec_run.specs.declared.record.{Frame.Frame, Published.Published}
 use Rattle.dnssec_run.specs.declared.record.PublishedKey.{PublishedKey}
 use Rattle.dnssec_run.specs.Frames.{KeepsFrame}
-use Rattle.dnssec_run.specs.declared.renewal.Renewal.{Renewal}
+use Rattle.dnssec_run.specs.declared.sets.Renewal.{Renewal}
 use Rattle.dnssec_run.specs.declared.running.Recorder.{Recorder}
 use Rattle.dnssec_run.specs.declared.lists.{ByList.ByList, Shown.Shown}
 use Rattle.dnssec_run.specs.declared.lists.Shown.TheVariants.{Ds, Dnskey, DnskeySigners}

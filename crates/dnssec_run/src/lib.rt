@@ -6,13 +6,13 @@
 
 mod caches;
 mod call;
+mod copies;
 mod in_order;
 mod lists;
 mod moments;
 mod places;
 mod plain;
 mod record;
-mod renewal;
 mod running;
 mod sets;
 mod steps;

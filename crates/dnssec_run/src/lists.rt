@@ -1,8 +1,4 @@
-//! The four lists of what is published, and which keys each shows.
-ghost use Rattle.std.specs.Prelude.{◌≡◌, ◌||◌};
-ghost use Rattle.dnssec_run.specs.Recorder.{shows};
-
-use dnssec_keyset::KeyType;
+//! The four lists of what is published.
 
 /// The sets of an entry.
 #[derive(Clone, Copy, Debug, PartialEq, Eq)]
@@ -11,27 +7,6 @@ pub enum Shown {
     Dnskey,
     DnskeySigners,
     ZoneSigners,
-}
-
-impl Shown {
-    /// Whether the set shows a key of this kind, in its state.
-    pub(crate) fn shows(self, keytype: KeyType) -> bool
-        ensures { result ≡ shows self keytype }
-    {
-        match (self, keytype) {
-            (Shown::Ds, KeyType::Ksk(state) | KeyType::Csk(state, _)) => state.at_parent(),
-            (
-                Shown::Dnskey,
-                KeyType::Ksk(state)
-                | KeyType::Zsk(state)
-                | KeyType::Csk(state, _)
-                | KeyType::Include(state),
-            ) => state.present(),
-            (Shown::DnskeySigners, KeyType::Ksk(state) | KeyType::Csk(state, _)) => state.signer(),
-            (Shown::ZoneSigners, KeyType::Zsk(state) | KeyType::Csk(_, state)) => state.signer(),
-            _ => false,
-        }
-    }
 }
 
 /// One answer for each list.
@@ -59,11 +34,4 @@ impl ByList {
         dnskey_signers: true,
         zone_signers: true,
     };
-
-    /// Whether it is any list.
-    pub(crate) fn is_any(self) -> bool
-        ensures { result ≡ (self.ds || self.dnskey || self.dnskey_signers || self.zone_signers) }
-    {
-        self.ds || self.dnskey || self.dnskey_signers || self.zone_signers
-    }
 }

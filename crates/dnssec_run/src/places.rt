@@ -11,7 +11,7 @@ ghost use Rattle.dnssec_run.specs.Recorder.{Agrees, ChangesAt, HasSameKeys, Leav
 ghost use Rattle.dnssec_run.specs.Recorder.{PlacesKey, SaysShownAt, at_list, passing, shows};
 
 use crate::lists::{ByList, Shown};
-use crate::record::{Frame, Frames, Published, PublishedKey};
+use crate::record::{Frame, Frames, Published, PublishedKey, published_key};
 use dnssec_keyset::{Error, KeySet, KeyType};
 use std::alloc::Global;
 use std::collections::BTreeMap;
@@ -126,7 +126,10 @@ fn renew_place(
     ensures err { IfErr result (λ e. e ≡ OutOfMemory) }
 {
     if !is_touched {
-        *frame = Frame::whole(keys.len());
+        *frame = Frame {
+            front: keys.len(),
+            back: 0,
+        };
         return Ok(false);
     }
     place_key(alloc, is_shown, added, keys, reference, frame)
@@ -180,17 +183,4 @@ fn place_key(
             Ok(true)
         }
     }
-}
-
-/// A key of a record, with a copy of its reference.
-pub(crate) fn published_key(
-    alloc: Global,
-    reference: &str,
-    added: usize,
-) -> Result<PublishedKey, Error>
-    ensures ok { IfOk result (λ k. id_of k ≡ (reference.now, added)) }
-    ensures err { IfErr result (λ e. e ≡ OutOfMemory) }
-{
-    let reference = String::from_str(alloc, reference)?;
-    Ok(PublishedKey { added, reference })
 }

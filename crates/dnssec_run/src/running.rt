@@ -19,8 +19,9 @@ ghost use Rattle.dnssec_run.specs.declared.call.Call.{Call};
 ghost use Rattle.dnssec_run.specs.declared.record.Entry.{Entry};
 
 use crate::call::{Call, KeyChange};
+use crate::copies::copy_sets;
 use crate::record::{Entry, Frames, Mark, Outcome, Published, Reply, Run};
-use crate::sets::{WalkOrder, copy_sets, renew};
+use crate::sets::{WalkOrder, renew};
 use dnssec_base::Name;
 use dnssec_keyset::{Error, KeySet};
 use std::alloc::Global;

@@ -1,33 +1,210 @@
-//! What is published of a key set, read in the order of its references.
-ghost use Rattle.std.specs.Prelude.{◌≡◌, ◌≤◌, ◌++◌, ◌∷◌, [], IfOk, IfErr, OnOk, map, true, false};
-ghost use Rattle.std.specs.Prelude.{◌||◌, IsSome, None, Some, string_bytes, vec_len};
+//! What is published of a key set, read in the order of its references. A set is read anew in
+//! place.
+ghost use Rattle.std.specs.Prelude.{◌≡◌, ◌≤◌, ◌++◌, ◌∷◌, [], List, IfOk, IfErr, OnOk, map, true};
+ghost use Rattle.std.specs.Prelude.{◌||◌, false, IsSome, None, Some, string_bytes, vec_len};
 ghost use Rattle.std.specs.BTreeMap as tree;
 ghost use Rattle.std.specs.HashMap as hash;
 ghost use Rattle.std.specs.Option.{option_map};
 ghost use Rattle.dnssec_base.specs.declared.error.Error.TheVariants.{OutOfMemory};
-ghost use Rattle.dnssec_run.specs.Frames.{KeepsFrames};
+ghost use Rattle.dnssec_run.specs.Frames.{KeepsFrame, KeepsFrames, frame_with};
 ghost use Rattle.dnssec_run.specs.Published.{IsPublished, World, id_of};
-ghost use Rattle.dnssec_run.specs.Recorder.{Agrees, AreFound, ChangesOnly, HasSameKeys, Leaves};
-ghost use Rattle.dnssec_run.specs.Recorder.{SaysShown, ids_read, shown_once, shows};
+ghost use Rattle.dnssec_run.specs.Recorder.{Agrees, AreFound, ChangesOnly, HasKept, HasSameKeys};
+ghost use Rattle.dnssec_run.specs.Recorder.{Leaves, SaysShown, ids_read, shown_once, shows};
+ghost use Rattle.dnssec_run.specs.declared.record.PublishedKey.{PublishedKey};
 
 use crate::lists::{ByList, Shown};
-use crate::places::{published_key, renew_key};
-use crate::record::{Frames, Published, PublishedKey};
-use crate::renewal::Renewal;
-use dnssec_keyset::{Error, Key, KeySet};
+use crate::places::renew_key;
+use crate::record::{Frame, Frames, Published, PublishedKey, published_key};
+use dnssec_keyset::{Error, Key, KeySet, KeyType};
 use std::alloc::Global;
 use std::collections::{BTreeMap, HashMap};
+use std::mem;
 
-/// Copies of keys of a record.
-fn copy_keys(alloc: Global, keys: &[PublishedKey]) -> Result<Vec<PublishedKey>, Error>
-    ensures ok { IfOk result (λ copies. map id_of copies.items ≡ map id_of keys.now) }
-    ensures err { IfErr result (λ e. e ≡ OutOfMemory) }
-{
-    let mut copies = Vec::with_capacity(alloc, keys.len())?;
-    for key in keys {
-        copies.push(published_key(alloc, &key.reference, key.added)?)?;
+/// Up to this many keys are put in or taken out in place. Each of them moves all keys after it.
+const MANY: usize = 16;
+
+/// A set while it is read anew in place: most keys of before stay where they stand.
+#[derive(Drop)]
+struct Renewal {
+    /// The keys that were read, and after them those of before that weren't met yet.
+    keys: Vec<PublishedKey>,
+    /// How many were read.
+    read: usize,
+    /// How many more changes are made in place.
+    changes_left: usize,
+    /// What stands around the changes so far, if there are any.
+    around: Option<Frame>,
+    /// Whether the set may have changed. If not, nothing is read.
+    is_touched: bool,
+}
+
+impl Renewal {
+    /// Takes the keys of before out of their place. None of them is read yet.
+    fn new(alloc: Global, before: &mut Vec<PublishedKey>, is_touched: bool) -> Self
+        ensures none { ids_read result ≡ [] }
+        ensures fits { result.read ≤ vec_len result.keys }
+        ensures before { result.keys.items ≡ before.old.items }
+        ensures around { result.around ≡ None }
+        ensures touched { result.is_touched ≡ is_touched }
+    {
+        Renewal {
+            keys: mem::replace(before, Vec::new(alloc)),
+            read: 0,
+            changes_left: MANY,
+            around: None,
+            is_touched,
+        }
     }
-    Ok(copies)
+
+    /// Reads the next key of all by its kind, and has it in the set if the set shows it. It is
+    /// called four times for each key, and mostly nothing changes.
+    #[inline(always)]
+    fn show(
+        &mut self,
+        alloc: Global,
+        shown: Shown,
+        keytype: &KeyType,
+        reference: &String,
+        added: usize,
+    ) -> Result<(), Error>
+        requires { self.old.read ≤ vec_len self.old.keys }
+        ensures ok { OnOk result (self.old.is_touched ≡ true →
+            ids_read self.new ≡ ids_read self.old
+            ++ shown_once (shows shown) (Some keytype.now) (string_bytes reference.now, added)) }
+        ensures left { OnOk result (self.old.is_touched ≡ false → self.new ≡ self.old) }
+        ensures touched { OnOk result (self.new.is_touched ≡ self.old.is_touched) }
+        ensures fits { OnOk result (self.new.read ≤ vec_len self.new.keys) }
+        ensures kept { OnOk result ((before : List PublishedKey) → HasKept before self.old →
+            HasKept before self.new) }
+        ensures err { IfErr result (λ e. e ≡ OutOfMemory) }
+    {
+        if !self.is_touched {
+            return Ok(());
+        }
+        let is_shown = shown.shows(*keytype);
+        match self.keys.get(self.read) {
+            Some(next) if next.added == added && next.reference == *reference => {
+                if is_shown {
+                    self.read += 1;
+                } else {
+                    self.take_next();
+                }
+                Ok(())
+            }
+            _ if is_shown => self.put(alloc, reference, added),
+            _ => Ok(()),
+        }
+    }
+
+    /// Puts a key in.
+    fn put(&mut self, alloc: Global, reference: &str, added: usize) -> Result<(), Error>
+        requires { self.old.read ≤ vec_len self.old.keys }
+        ensures ok { OnOk result (ids_read self.new
+            ≡ ids_read self.old ++ (reference.now, added) ∷ []) }
+        ensures fits { OnOk result (self.new.read ≤ vec_len self.new.keys) }
+        ensures kept { OnOk result ((before : List PublishedKey) → HasKept before self.old →
+            HasKept before self.new) }
+        ensures touched { OnOk result (self.new.is_touched ≡ self.old.is_touched) }
+        ensures err { IfErr result (λ e. e ≡ OutOfMemory) }
+    {
+        let key = published_key(alloc, reference, added)?;
+        self.count_change();
+        self.around = Some(self.frame_to(self.keys.len() - self.read));
+        self.keys.insert(self.read, key)?;
+        self.read += 1;
+        Ok(())
+    }
+
+    /// Takes the next key of before out.
+    fn take_next(&mut self)
+        requires { self.old.read ≤ vec_len self.old.keys }
+        ensures same { ids_read self.new ≡ ids_read self.old }
+        ensures touched { self.new.is_touched ≡ self.old.is_touched }
+        ensures fits { self.new.read ≤ vec_len self.new.keys }
+        ensures kept { (before : List PublishedKey) → HasKept before self.old →
+            HasKept before self.new }
+    {
+        self.count_change();
+        if self.read < self.keys.len() {
+            self.around = Some(self.frame_to(self.keys.len() - self.read - 1));
+            self.keys.remove(self.read);
+        }
+    }
+
+    /// After many changes in place drops what is left of before. So a set takes time for its keys,
+    /// and not for their square.
+    fn count_change(&mut self)
+        requires { self.old.read ≤ vec_len self.old.keys }
+        ensures same { ids_read self.new ≡ ids_read self.old }
+        ensures touched { self.new.is_touched ≡ self.old.is_touched }
+        ensures fits { self.new.read ≤ vec_len self.new.keys }
+        ensures kept { (before : List PublishedKey) → HasKept before self.old →
+            HasKept before self.new }
+    {
+        match self.changes_left.checked_sub(1) {
+            Some(left) => self.changes_left = left,
+            None => self.drop_rest(),
+        }
+    }
+
+    /// Drops the keys of before that weren't met yet.
+    fn drop_rest(&mut self)
+        requires { self.old.read ≤ vec_len self.old.keys }
+        ensures same { ids_read self.new ≡ ids_read self.old }
+        ensures all { map id_of self.new.keys.items ≡ ids_read self.old }
+        ensures touched { self.new.is_touched ≡ self.old.is_touched }
+        ensures fits { self.new.read ≤ vec_len self.new.keys }
+        ensures kept { (before : List PublishedKey) → HasKept before self.old →
+            HasKept before self.new }
+    {
+        self.around = Some(self.frame_to(0));
+        self.keys.truncate(self.read);
+    }
+
+    /// What stands around the changes so far and one at the next key, if so many keys come after.
+    fn frame_to(&self, back: usize) -> Frame
+        ensures { result ≡ frame_with self.now.around self.now.read back }
+    {
+        Frame {
+            front: match self.around {
+                Some(frame) => frame.front,
+                None => self.read,
+            },
+            back,
+        }
+    }
+
+    /// Ends a set after all keys were read.
+    fn finish(&mut self)
+        ensures touched { self.old.is_touched ≡ true →
+            map id_of self.new.keys.items ≡ ids_read self.old }
+        ensures left { self.old.is_touched ≡ false → self.new ≡ self.old }
+        ensures kept { (before : List PublishedKey) → HasKept before self.old →
+            HasKept before self.new }
+    {
+        if self.is_touched && self.read < self.keys.len() {
+            self.drop_rest();
+        }
+    }
+
+    /// The set, after all keys were read. Notes what stands around its changes.
+    fn into_keys(self, frame: &mut Frame) -> Vec<PublishedKey>
+        ensures touched { self.is_touched ≡ true → map id_of result.items ≡ ids_read self }
+        ensures left { self.is_touched ≡ false → result.items ≡ self.keys.items }
+        ensures frame { (before : List PublishedKey) → HasKept before self →
+            KeepsFrame frame.new (map id_of before) (map id_of result.items) }
+    {
+        let mut set = self;
+        set.finish();
+        *frame = match set.around {
+            Some(around) => around,
+            None => Frame {
+                front: set.keys.len(),
+                back: 0,
+            },
+        };
+        set.keys
+    }
 }
 
 /// Up to this many keys are brought into no order.
@@ -146,7 +323,7 @@ pub(crate) fn renew(
         Agrees keyset.now (tree.get_by_text added.now) w → IsPublished sets.new w) }
     ensures err { IfErr result (λ e. e ≡ OutOfMemory) }
 {
-    if !touched.is_any() {
+    if !(touched.ds | touched.dnskey | touched.dnskey_signers | touched.zone_signers) {
         return Ok(false);
     }
     if let Some(reference) = only {
@@ -201,17 +378,4 @@ fn renew_all(
     sets.dnskey_signers = dnskey_signers.into_keys(&mut frames.dnskey_signers);
     sets.zone_signers = zone_signers.into_keys(&mut frames.zone_signers);
     Ok(())
-}
-
-/// A copy of what is published.
-pub(crate) fn copy_sets(alloc: Global, sets: &Published) -> Result<Published, Error>
-    ensures ok { IfOk result (λ copy. HasSameKeys copy sets.now) }
-    ensures err { IfErr result (λ e. e ≡ OutOfMemory) }
-{
-    Ok(Published {
-        ds: copy_keys(alloc, &sets.ds)?,
-        dnskey: copy_keys(alloc, &sets.dnskey)?,
-        dnskey_signers: copy_keys(alloc, &sets.dnskey_signers)?,
-        zone_signers: copy_keys(alloc, &sets.zone_signers)?,
-    })
 }

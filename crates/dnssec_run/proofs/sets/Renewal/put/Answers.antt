@@ -4,7 +4,7 @@ use Rattle.std.proofs.Common.{rules, take, vec_len}
 use Rattle.dnssec_run.specs.{declared.record.PublishedKey.PublishedKey, Published.Id}
 use Rattle.dnssec_run.proofs.{Around.keeps-with, Around.kept-more, Positions.puts-next}
 use Rattle.dnssec_run.specs.Published.{id_of}
-use Rattle.dnssec_run.proofs.renewal.Renewal.put.Goals as goal
+use Rattle.dnssec_run.proofs.sets.Renewal.put.Goals as goal
 
 pub returns-clause-ok : goal.returns-clause-ok
 returns-clause-ok c =

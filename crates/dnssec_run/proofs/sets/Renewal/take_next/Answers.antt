@@ -1,7 +1,7 @@
 -- One key less stands after those that were read.
 use Rattle.std.proofs.Common.{◌≡◌, ◌<◌, ◌-◌, arith, length, rules, vec_len}
 use Rattle.dnssec_run.proofs.Around.{keeps-without, kept-more}
-use Rattle.dnssec_run.proofs.renewal.Renewal.take_next.Goals as goal
+use Rattle.dnssec_run.proofs.sets.Renewal.take_next.Goals as goal
 
 pub returns-then-self-len-clause-kept : goal.returns-then-self-len-clause-kept
 returns-then-self-len-clause-kept c before kept =

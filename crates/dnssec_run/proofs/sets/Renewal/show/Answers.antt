@@ -6,7 +6,7 @@ use Rattle.std.specs.Prelude.{slice_get}
 use Rattle.dnssec_run.specs.{declared.record.PublishedKey.PublishedKey, Published.Id}
 use Rattle.dnssec_run.specs.Recorder.{ids_read, shown_once, shows}
 use Rattle.dnssec_run.{specs.Published.id_of, proofs.Positions.keeps-next}
-use Rattle.dnssec_run.proofs.renewal.Renewal.show.Goals as goal
+use Rattle.dnssec_run.proofs.sets.Renewal.show.Goals as goal
 
 pub returns-then-is_shown-clause-ok : goal.returns-then-is_shown-clause-ok
 returns-then-is_shown-clause-ok c touched =

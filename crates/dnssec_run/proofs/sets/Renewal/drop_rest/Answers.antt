@@ -1,7 +1,7 @@
 -- What comes after the keys that were read goes.
 use Rattle.std.proofs.Common.{◌≡◌, arith, length, rules, vec_len}
 use Rattle.dnssec_run.proofs.Around.{keeps-cut, kept-more}
-use Rattle.dnssec_run.proofs.renewal.Renewal.drop_rest.Goals as goal
+use Rattle.dnssec_run.proofs.sets.Renewal.drop_rest.Goals as goal
 
 pub returns-clause-kept : goal.returns-clause-kept
 returns-clause-kept c before kept =

@@ -1,0 +1,34 @@
+//! Copies of what is published.
+ghost use Rattle.std.specs.Prelude.{◌≡◌, IfOk, IfErr, map};
+ghost use Rattle.dnssec_base.specs.declared.error.Error.TheVariants.{OutOfMemory};
+ghost use Rattle.dnssec_run.specs.Published.{id_of};
+ghost use Rattle.dnssec_run.specs.Recorder.{HasSameKeys};
+
+use crate::record::{Published, PublishedKey, published_key};
+use dnssec_keyset::Error;
+use std::alloc::Global;
+
+/// Copies of keys of a record.
+fn copy_keys(alloc: Global, keys: &[PublishedKey]) -> Result<Vec<PublishedKey>, Error>
+    ensures ok { IfOk result (λ copies. map id_of copies.items ≡ map id_of keys.now) }
+    ensures err { IfErr result (λ e. e ≡ OutOfMemory) }
+{
+    let mut copies = Vec::with_capacity(alloc, keys.len())?;
+    for key in keys {
+        copies.push(published_key(alloc, &key.reference, key.added)?)?;
+    }
+    Ok(copies)
+}
+
+/// A copy of what is published.
+pub(crate) fn copy_sets(alloc: Global, sets: &Published) -> Result<Published, Error>
+    ensures ok { IfOk result (λ copy. HasSameKeys copy sets.now) }
+    ensures err { IfErr result (λ e. e ≡ OutOfMemory) }
+{
+    Ok(Published {
+        ds: copy_keys(alloc, &sets.ds)?,
+        dnskey: copy_keys(alloc, &sets.dnskey)?,
+        dnskey_signers: copy_keys(alloc, &sets.dnskey_signers)?,
+        zone_signers: copy_keys(alloc, &sets.zone_signers)?,
+    })
+}
