@@ -174,19 +174,6 @@ impl Renewal {
         }
     }
 
-    /// Ends a set after all keys were read.
-    fn finish(&mut self)
-        ensures touched { self.old.is_touched ≡ true →
-            map id_of self.new.keys.items ≡ ids_read self.old }
-        ensures left { self.old.is_touched ≡ false → self.new ≡ self.old }
-        ensures kept { (before : List PublishedKey) → HasKept before self.old →
-            HasKept before self.new }
-    {
-        if self.is_touched && self.read < self.keys.len() {
-            self.drop_rest();
-        }
-    }
-
     /// The set, after all keys were read. Notes what stands around its changes.
     fn into_keys(self, frame: &mut Frame) -> Vec<PublishedKey>
         ensures touched { self.is_touched ≡ true → map id_of result.items ≡ ids_read self }
@@ -195,7 +182,9 @@ impl Renewal {
             KeepsFrame frame.new (map id_of before) (map id_of result.items) }
     {
         let mut set = self;
-        set.finish();
+        if set.is_touched && set.read < set.keys.len() {
+            set.drop_rest();
+        }
         *frame = match set.around {
             Some(around) => around,
             None => Frame {
