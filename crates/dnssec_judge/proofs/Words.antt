@@ -129,20 +129,17 @@ none_set words r is lacks =
 
 -- ---- words that are written
 
--- the word of a number with its bit
-abbrev with_bit : List ℕ → ℕ → ℕ
-with_bit words number = bit_or (word_at words (number / 64)) (1 * 2 ^ (number % 64) % 2 ^ 64)
-
-pub put-bit : (old new : List ℕ) (number : ℕ)
-    → ((i : ℕ) → word_at new i
-    ≡ (if nat_eq (number / 64) i then with_bit old number else word_at old i))
+-- a word is written that has the bit of a number too
+pub put-bit : (old new : List ℕ) (number index : ℕ) → index ≡ number / 64
+    → ((i : ℕ) → word_at new i ≡ (if nat_eq index i
+    then bit_or (word_at old index) (1 * 2 ^ (number % 64) % 2 ^ 64) else word_at old i))
     → (n : ℕ) → has_bit new n ≡ (if nat_eq number n then true else has_bit old n)
-put-bit old new number is n =
+put-bit old new number index at is n =
     let low : number % 64 < 64 = omega arith in
-    let same = bit_at_set_same w64 (word_at old (number / 64)) (number % 64) low in
-    let others = bit_at_set_other w64 (word_at old (number / 64)) (number % 64) low (n % 64) in
+    let same = bit_at_set_same w64 (word_at old index) (number % 64) low in
+    let others = bit_at_set_other w64 (word_at old index) (number % 64) low (n % 64) in
     let here = is (n / 64) in
-    grind (arith, nat_tests, same, others, here)
+    grind (arith, nat_tests, same, others, here, at)
 
 noughts : (m i : ℕ) → get_or {A = ℕ} (replicate m 0) i 0 ≡ 0
 noughts m i = grind (arith, get_or-replicate, get_or_past, length-replicate)
@@ -171,20 +168,19 @@ none-of-all first one with words ones others none more zero = none
 none-of-all first one with words ones others none more (suc i) = more i
 
 -- the first word is written
-pub first-written : (first word : ℕ) (rest : List ℕ) (index : ℕ) → index ≡ 0
-    → (i : ℕ) → word_at (word ∷ rest) i
-    ≡ (if nat_eq index i then word else word_at (first ∷ rest) i)
-first-written first word rest index is zero = grind (arith, nat_tests)
-first-written first word rest index is (suc i) = grind (arith, nat_tests)
+pub first-written : (first word : ℕ) (rest : List ℕ) (i : ℕ)
+    → word_at (word ∷ rest) i ≡ (if nat_eq 0 i then word else word_at (first ∷ rest) i)
+first-written first word rest zero = grind (arith, nat_tests)
+first-written first word rest (suc i) = grind (arith, nat_tests)
 
--- a word is written among the others
-pub written-words : (first : ℕ) (rest : List ℕ) (index before word : ℕ)
-    → before + 1 ≡ index → before < length rest
-    → (i : ℕ) → word_at (first ∷ set rest before word) i
-    ≡ (if nat_eq index i then word else word_at (first ∷ rest) i)
-written-words first rest index before word is lt zero = grind (arith, nat_tests)
-written-words first rest index before word is lt (suc i) =
-    grind (arith, nat_tests, get_or-set_same, get_or-set_other)
+-- a word is written among others that are the same
+pub other-written : (first : ℕ) (rest other : List ℕ) (j word : ℕ) → j < length other
+    → ((i : ℕ) → get_or other i 0 ≡ get_or rest i 0)
+    → (i : ℕ) → word_at (first ∷ set other j word) i
+    ≡ (if nat_eq (suc j) i then word else word_at (first ∷ rest) i)
+other-written first rest other j word lt same zero = grind (arith, nat_tests)
+other-written first rest other j word lt same (suc i) =
+    let here = same i in grind (arith, nat_tests, get_or-set_same, get_or-set_other, here)
 
 -- or other words that are the same follow the first
 pub same-words : (first : ℕ) (rest other : List ℕ) → ((i : ℕ) → get_or other i 0 ≡ get_or rest i 0)

@@ -3,10 +3,8 @@
 
 mod bits;
 mod held;
-mod number_list;
 mod numbers;
 
 pub(crate) use bits::Bits;
 pub(crate) use held::{OpenSet, digest_of};
-pub(crate) use number_list::NumberList;
-pub(crate) use numbers::{Numbers, is_left};
+pub(crate) use numbers::{NumberList, Numbers, is_left};

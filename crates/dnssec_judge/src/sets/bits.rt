@@ -1,5 +1,5 @@
 //! Sets of small numbers.
-ghost use Rattle.std.specs.Prelude.{◌≡◌, ◌≤◌, ◌&&◌, ℕ, true, false, nat_eq, vec_len};
+ghost use Rattle.std.specs.Prelude.{◌≡◌, ◌&&◌, ℕ, true, false, nat_eq};
 ghost use Rattle.std.specs.Prelude.{if◌then◌else◌, IfOk, IfErr, OnOk};
 ghost use Rattle.std.specs.List.{list_any};
 ghost use Rattle.dnssec_base.specs.declared.error.Error.TheVariants.{OutOfMemory};
@@ -11,8 +11,9 @@ use std::alloc::Global;
 /// How many numbers have their bits in one word.
 const WORD: usize = 64;
 
-/// A set of small numbers, as a bit for each. Numbers below 64 take no memory of the allocator.
-#[derive(Debug, Drop)]
+/// A set of small numbers, as a bit for each. Numbers below 64 take no memory of the allocator. All
+/// sets are without words at the end that are 0, or two that are the same may be taken for two.
+#[derive(Debug, Drop, PartialEq)]
 pub(crate) struct Bits {
     /// The numbers below 64.
     first: u64,
@@ -56,55 +57,21 @@ impl Bits {
         })
     }
 
-    /// One of its words.
-    #[inline(always)]
-    fn word(&self, index: usize) -> u64
-        ensures { result ≡ word_at (words_of self.now) index }
-    {
-        match index.checked_sub(1) {
-            None => self.first,
-            Some(index) => self.rest.get(index).copied().unwrap_or(0),
-        }
-    }
-
-    /// Writes one of its words.
-    fn set_word(&mut self, index: usize, word: u64)
-        requires { index ≤ vec_len self.old.rest }
-        ensures { (i : ℕ) → word_at (words_of self.new) i
-            ≡ (if nat_eq index i then word else word_at (words_of self.old) i) }
-    {
-        let Some(before) = index.checked_sub(1) else {
-            self.first = word;
-            return;
-        };
-        self.rest[before] = word;
-    }
-
-    /// Fills its words up with 0, to so many after the first.
-    fn fill_up(&mut self, len: usize) -> Result<(), Error>
-        ensures len { OnOk result (len ≤ vec_len self.new.rest) }
-        ensures same { OnOk result ((i : ℕ) → word_at (words_of self.new) i
-            ≡ word_at (words_of self.old) i) }
-        ensures err { IfErr result (λ e. e ≡ OutOfMemory) }
-    {
-        if len <= self.rest.len() {
-            return Ok(());
-        }
-        self.rest.reserve_exact(len - self.rest.len())?;
-        self.rest.resize(len, 0)?;
-        Ok(())
-    }
-
     /// Puts a number in.
     pub(crate) fn put(&mut self, number: usize) -> Result<(), Error>
         ensures ok { OnOk result ((n : ℕ) → has self.new n
             ≡ (if nat_eq number n then true else has self.old n)) }
         ensures err { IfErr result (λ e. e ≡ OutOfMemory) }
     {
-        let index = number / WORD;
-        let word = self.word(index) | 1u64 << (number % WORD);
-        self.fill_up(index)?;
-        self.set_word(index, word);
+        let bit = 1u64 << (number % WORD);
+        let Some(index) = (number / WORD).checked_sub(1) else {
+            self.first |= bit;
+            return Ok(());
+        };
+        let len = self.rest.len().max(index + 1);
+        self.rest.reserve_exact(len - self.rest.len())?;
+        self.rest.resize(len, 0)?;
+        self.rest[index] |= bit;
         Ok(())
     }
 
@@ -113,10 +80,13 @@ impl Bits {
         ensures { (n : ℕ) → has self.new n
             ≡ (if nat_eq number n then false else has self.old n) }
     {
-        let index = number / WORD;
-        if index <= self.rest.len() {
-            let word = self.word(index) & !(1u64 << (number % WORD));
-            self.set_word(index, word);
+        let others = !(1u64 << (number % WORD));
+        let Some(index) = (number / WORD).checked_sub(1) else {
+            self.first &= others;
+            return;
+        };
+        if index < self.rest.len() {
+            self.rest[index] &= others;
             self.trim();
         }
     }
@@ -144,7 +114,11 @@ impl Bits {
     pub(crate) fn has(&self, number: usize) -> bool
         ensures { result ≡ has self.now number }
     {
-        (self.word(number / WORD) >> (number % WORD)) & 1 == 1
+        let word = match (number / WORD).checked_sub(1) {
+            None => self.first,
+            Some(index) => self.rest.get(index).copied().unwrap_or(0),
+        };
+        (word >> (number % WORD)) & 1 == 1
     }
 
     /// Whether no number is in it.
@@ -165,15 +139,6 @@ impl Bits {
             ShareAll (words_of self.now) (words_of one.now) (words_of other.now) → ⊥ }
     {
         self.first & one.first & other.first != 0 || do_all_meet(&self.rest, &one.rest, &other.rest)
-    }
-
-    /// Whether it is the same set. All sets are without words at the end that are 0, or two that
-    /// are the same may be taken for two.
-    #[inline(always)]
-    pub(crate) fn is(&self, other: &Bits) -> bool
-        ensures { result ≡ true → words_of self.now ≡ words_of other.now }
-    {
-        self.first == other.first && self.rest == other.rest
     }
 
     /// A number that is the same for the same set, and for others mostly not.

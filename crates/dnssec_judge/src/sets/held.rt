@@ -62,7 +62,7 @@ impl OpenSet {
     pub(crate) fn is(&self, keys: &Bits, signers: &Bits) -> bool
         ensures { result ≡ true → set_of self.now ≡ (words_of keys.now, words_of signers.now) }
     {
-        self.keys.is(keys) && self.signers.is(signers)
+        self.keys == *keys && self.signers == *signers
     }
 
     /// Sets with other digests are other sets.

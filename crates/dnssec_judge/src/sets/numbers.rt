@@ -1,11 +1,13 @@
 //! The keys of a record as small numbers.
-ghost use Rattle.std.specs.Prelude.{◌↔◌, ◌≡◌, ◌≤◌, ◌+◌, ℕ, false, true, None, Some, map};
+ghost use Rattle.std.specs.Prelude.{◌↔◌, ◌≡◌, ◌≤◌, ◌<◌, ℕ, false, true, None, Some, [], map, nat_eq};
 ghost use Rattle.std.specs.Prelude.{IfOk, IfErr, IfSome, OnOk, vec_len};
+ghost use Rattle.std.specs.List.{insert, list_any, remove};
 ghost use Rattle.dnssec_base.specs.declared.error.Error.TheVariants.{OutOfMemory};
 ghost use Rattle.dnssec_run.specs.Published.{id_of};
+ghost use Rattle.dnssec_judge.specs.Bits.{has};
 ghost use Rattle.dnssec_judge.specs.Numbers.{Extends, IsRead, IsTable, StandFor, key_at};
 
-use super::number_list::NumberList;
+use super::bits::Bits;
 use dnssec_keyset::Error;
 use dnssec_run::{Frame, PublishedKey};
 use std::alloc::Global;
@@ -71,8 +73,6 @@ impl Numbers {
 
     /// Reads a list over the one of before, and answers whether it is another. It reads only what
     /// may have changed.
-    // Inline, so that a list that stays makes no call.
-    #[inline(always)]
     pub(crate) fn read(
         &mut self,
         alloc: Global,
@@ -87,53 +87,29 @@ impl Numbers {
         if is_left(list, frame, known) {
             return Ok(false);
         }
-        self.read_changes(alloc, list, known, frame)
-    }
-
-    /// The same, also if the list may have changed.
-    fn read_changes(
-        &mut self,
-        alloc: Global,
-        list: &[PublishedKey],
-        known: &mut NumberList,
-        frame: Frame,
-    ) -> Result<bool, Error>
-        ensures ok { IfOk result (IsRead self.old self.new known.old.numbers.items
-            known.new.numbers.items frame (map id_of list.now)) }
-        ensures err { IfErr result (λ e. e ≡ OutOfMemory) }
-    {
-        let old_len = known.as_slice().len();
         let len = list.len();
-        if old_len.saturating_sub(len) == 1 && is_around(frame, len) {
+        let old_len = known.numbers.len();
+        let around = frame.front.saturating_add(frame.back);
+        if old_len.saturating_sub(len) == 1 && around == len {
             known.remove(frame.front);
             return Ok(true);
         }
-        if len.saturating_sub(old_len) == 1 && is_around(frame, old_len) {
+        if len.saturating_sub(old_len) == 1 && around == old_len {
             let number = self.number_of(&list[frame.front])?;
             known.insert(frame.front, number)?;
             return Ok(true);
         }
-        if self.are(known.as_slice(), list) {
+        if self.are(&known.numbers, list) {
             return Ok(false);
         }
-        let numbers = self.read_anew(alloc, list)?;
-        *known = NumberList::of(alloc, numbers)?;
-        Ok(true)
-    }
-
-    /// The numbers of the keys of a list.
-    fn read_anew(&mut self, alloc: Global, list: &[PublishedKey]) -> Result<Vec<usize>, Error>
-        ensures ok { IfOk result (λ numbers. IsTable self.old →
-            StandFor self.new numbers.items (map id_of list.now)) }
-        ensures extends { OnOk result (Extends self.old self.new) }
-        ensures err { IfErr result (λ e. e ≡ OutOfMemory) }
-    {
-        let mut numbers = Vec::with_capacity(alloc, list.len())?;
+        let mut numbers = Vec::with_capacity(alloc, len)?;
         for key in list {
             let number = self.number_of(key)?;
             numbers.push(number)?;
         }
-        Ok(numbers)
+        let bits = Bits::of(alloc, &numbers)?;
+        *known = NumberList { numbers, bits };
+        Ok(true)
     }
 
     /// Whether the numbers are those of the keys of a list.
@@ -298,23 +274,77 @@ impl Numbers {
     }
 }
 
+/// A list of numbers, and the set of them: with one more, or one less, only that is written.
+#[derive(Debug, Drop)]
+pub(crate) struct NumberList {
+    numbers: Vec<usize>,
+    bits: Bits,
+    ghost same: { (n : ℕ) → has bits n ≡ list_any (λ number. nat_eq number n) numbers.items },
+}
+
+impl NumberList {
+    /// No numbers.
+    pub(crate) fn none(alloc: Global) -> Self
+        ensures { result.numbers.items ≡ [] }
+    {
+        NumberList {
+            numbers: Vec::new(alloc),
+            bits: Bits::new(alloc),
+        }
+    }
+
+    /// A copy of it.
+    pub(crate) fn try_clone(&self) -> Result<Self, Error>
+        ensures ok { IfOk result (λ list. list.numbers.items ≡ self.now.numbers.items) }
+        ensures err { IfErr result (λ e. e ≡ OutOfMemory) }
+    {
+        Ok(NumberList {
+            numbers: self.numbers.clone()?,
+            bits: self.bits.try_clone()?,
+        })
+    }
+
+    /// The set of the numbers.
+    #[inline(always)]
+    pub(crate) fn bits(&self) -> &Bits
+        ensures { result.now ≡ self.now.bits }
+    {
+        &self.bits
+    }
+
+    /// Puts a number in at a place.
+    pub(crate) fn insert(&mut self, place: usize, number: usize) -> Result<(), Error>
+        requires { place ≤ vec_len self.old.numbers }
+        ensures ok { OnOk result (self.new.numbers.items
+            ≡ insert self.old.numbers.items place number) }
+        ensures err { IfErr result (λ e. e ≡ OutOfMemory) }
+    {
+        let mut bits = self.bits.try_clone()?;
+        bits.put(number)?;
+        self.numbers.insert(place, number)?;
+        self.bits = bits;
+        Ok(())
+    }
+
+    /// Takes the number at a place out.
+    pub(crate) fn remove(&mut self, place: usize)
+        requires { place < vec_len self.old.numbers }
+        ensures { self.new.numbers.items ≡ remove self.old.numbers.items place }
+    {
+        let number = self.numbers.remove(place);
+        if !stands_in(number, &self.numbers) {
+            self.bits.take_out(number);
+        }
+    }
+}
+
 /// Whether a list that keeps its frame is the one of before: it keeps all of that, and is as long.
 #[inline(always)]
 pub(crate) fn is_left(list: &[PublishedKey], frame: Frame, known: &NumberList) -> bool
     ensures { result ≡ true → (t : Numbers) → IsRead t t known.now.numbers.items
         known.now.numbers.items frame (map id_of list.now) false }
 {
-    frame.front == list.len() && known.as_slice().len() == list.len()
-}
-
-/// Whether this many keys are all that stand around a change.
-fn is_around(frame: Frame, len: usize) -> bool
-    ensures { result ≡ true → frame.front + frame.back ≡ len }
-{
-    match len.checked_sub(frame.front) {
-        Some(rest) => rest == frame.back,
-        None => false,
-    }
+    frame.front == list.len() && known.numbers.len() == list.len()
 }
 
 /// A copy of a key.
@@ -325,4 +355,16 @@ fn copy_of(key: &PublishedKey) -> Result<PublishedKey, Error>
     let reference = key.reference.clone()?;
     let added = key.added;
     Ok(PublishedKey { added, reference })
+}
+
+/// Whether a number stands in a list.
+fn stands_in(number: usize, list: &[usize]) -> bool
+    ensures { result ≡ list_any (λ n. nat_eq n number) list.now }
+{
+    let mut is_there = false;
+    // It goes on to the end, so that several numbers are compared at once.
+    for other in list {
+        is_there |= *other == number;
+    }
+    is_there
 }

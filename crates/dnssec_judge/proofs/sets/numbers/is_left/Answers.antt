@@ -1,5 +1,5 @@
 -- A list that keeps all of the one of before, and is as long, is that one.
-use Rattle.std.proofs.Common.{◌≡◌, ap, arith, length, map, subst}
+use Rattle.std.proofs.Common.{◌≡◌, arith, map, subst}
 use Rattle.std.proofs.lemmas.{Bool.eqb-true, List.length-map}
 use Rattle.dnssec_run.{proofs.Since.same-ids, specs.Published.id_of}
 use Rattle.dnssec_judge.{proofs.Framed.all-front, specs.Numbers.StandFor, proofs.Table.stand-len}
@@ -15,6 +15,6 @@ returns-then-frame-list c is t = record {
       let before = stand-len t known.items was h in
       let same : was ≡ ids = all-front c.args.frame was ids keeps
       (omega (arith, c.if-frame-list.true, len))
-      (omega (arith, before, ap length c.as_slice.ensures, len, eqb-true _ _ is)) in
+      (omega (arith, before, c.len.ensures, known.ok.0, len, eqb-true _ _ is)) in
       (subst (StandFor t known.items) same h, (same-ids was ids).1 same));
 }

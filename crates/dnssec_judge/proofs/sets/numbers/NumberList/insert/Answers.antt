@@ -4,7 +4,7 @@ use Rattle.std.specs.Prelude.{◌||◌, if◌then◌else◌, nat_eq}
 use Rattle.std.{specs.List.insert, specs.List.list_any, proofs.Common.ℕ}
 use Rattle.std.proofs.lemmas.List.Sorted.{IsPermutation-insert, list_any-IsPermutation}
 use Rattle.dnssec_judge.specs.Bits.{has_bit}
-use Rattle.dnssec_judge.proofs.sets.number_list.NumberList.insert.Goals as goal
+use Rattle.dnssec_judge.proofs.sets.numbers.NumberList.insert.Goals as goal
 
 -- a number of a list with one more is that one, or was there
 any-inserted : (xs : List ℕ) (i m n : ℕ) → list_any (λ k. nat_eq k n) (insert xs i m)

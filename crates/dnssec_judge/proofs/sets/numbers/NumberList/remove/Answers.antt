@@ -6,7 +6,7 @@ use Rattle.std.{specs.List.list_any, specs.List.remove, proofs.lemmas.Bool.eqb-t
 use Rattle.std.proofs.Common.{subst}
 use Rattle.std.specs.List.Sorted.{IsPermutation}
 use Rattle.std.proofs.lemmas.List.Sorted.{IsPermutation-remove, list_any-IsPermutation}
-use Rattle.dnssec_judge.proofs.sets.number_list.NumberList.remove.Goals as goal
+use Rattle.dnssec_judge.proofs.sets.numbers.NumberList.remove.Goals as goal
 
 -- a number that is still there, and one that isn't
 still : (b c : Bool) → (b ≡ true → c ≡ true) → (b || c) ≡ c

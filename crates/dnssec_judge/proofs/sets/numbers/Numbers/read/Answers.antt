@@ -1,0 +1,125 @@
+-- A key more or less between those that stay, or others: then each key has its number.
+use Rattle.std.proofs.Common.{◌≡◌, ◌∙◌, ◌+◌, ◌++◌, ◌∷◌, [], List, ap, arith, length, map, rules}
+use Rattle.std.proofs.Common.{subst, sym, take}
+use Rattle.std.proofs.lemmas.{Bool.false_from_ne_true, List.get_or-map, List.length-map}
+use Rattle.std.proofs.lemmas.List.{map-append, take_all, take_more}
+use Rattle.dnssec_run.{proofs.Since.same-ids, specs.Published.id_of}
+use Rattle.dnssec_run.specs.{declared.record.PublishedKey.PublishedKey, Origins.same_ids}
+use Rattle.dnssec_judge.proofs.{Framed.read-less, Framed.read-more, Table.stand-once}
+use Rattle.dnssec_judge.proofs.Table.{stand-on, stand-push}
+use Rattle.dnssec_judge.specs.Numbers.{StandFor, key_at}
+use Rattle.dnssec_judge.proofs.sets.numbers.Numbers.read.Goals as goal
+
+pub remove-requires : goal.remove-requires
+remove-requires c = omega (
+  arith,
+  c.args.known.now.numbers.ok.0,
+  c.len-old_len.ensures,
+  c.if-saturating_sub-eq1.true,
+  c.saturating_sub.ensures,
+  c.saturating_add-around.ensures,
+  c.if-around-len.true,
+)
+
+pub insert-requires : goal.insert-requires
+insert-requires c = omega (
+  arith,
+  c.args.known.now.numbers.ok.0,
+  c.len-old_len.ensures,
+  c.saturating_add-around.ensures,
+  c.if-around-old_len.true,
+)
+
+pub returns-then-around-len-clause-ok : goal.returns-then-around-len-clause-ok
+returns-then-around-len-clause-ok c = record {
+  extends = λ t. (t, λ n k e. e);
+  read = λ was t h keeps.
+      (let known = c.args.known.now.numbers in let list = c.args.list.now in
+      let ids = length-map list id_of in
+      let one : length known.items ≡ length list + 1 = omega (
+        arith,
+        known.ok.0,
+        c.len-old_len.ensures,
+        c.if-saturating_sub-eq1.true,
+        c.saturating_sub.ensures,
+      ) in
+      rw c.remove.ensures (read-less c.args.self.now known.items was (map id_of list) c.args.frame
+      h keeps (omega (arith, c.saturating_add-around.ensures, c.if-around-len.true, ids, one,
+      known.ok.0)) (omega (arith, ids, one))));
+}
+
+pub returns-then-around-old_len-clause-ok : goal.returns-then-around-old_len-clause-ok
+returns-then-around-old_len-clause-ok c = record {
+  extends = c.in_ok-number.ensures.extends;
+  read = λ was t h keeps.
+      (let list = c.args.list.now in let key = c.index-list-frame.result in
+      let known = c.args.known.now.numbers in let front = c.args.frame.front in
+      let one : length list ≡ length known.items + 1 = omega (
+        arith,
+        known.ok.0,
+        c.len-old_len.ensures,
+        c.if-saturating_sub-eq1-2.true,
+        c.saturating_sub-2.ensures,
+      ) in
+      let around : front + c.args.frame.back ≡ length known.items = omega (
+        arith,
+        known.ok.0,
+        c.len-old_len.ensures,
+        c.saturating_add-around.ensures,
+        c.if-around-old_len.true,
+        one,
+      ) in
+      rw c.in_ok-insert.ensures.ok (read-more c.args.self.now known.items was (map id_of list)
+      c.args.frame h keeps c.number_of.new.self (c.in_ok-number.ensures.extends t).1 around
+      (length-map list id_of ∙ one) c.in_ok-number.number (id_of key) (ap id_of c.index-list-frame.is
+      ∙ sym (get_or-map id_of list front key (id_of key) (omega (arith, around, one))))
+      c.in_ok-number.ensures.ok));
+}
+
+pub returns-then-are-clause-ok : goal.returns-then-are-clause-ok
+returns-then-are-clause-ok c = record {
+  extends = λ t. (t, λ n k e. e);
+  read = λ was t h keeps.
+      (let ids = map id_of c.args.list.now in let ns = c.args.known.now.numbers.items in
+      let now : StandFor c.args.self.now ns ids = rw c.deref.ensures.value
+      at (c.are.ensures.yes c.if-are.true) in
+      (now, (same-ids was ids).1 (stand-once c.args.self.now ns was ids h now)));
+}
+
+pub loop-key-init : goal.loop-key-init
+loop-key-init c t =
+    let none : c.in_ok-numbers.numbers.items ≡ [] = search rules in
+    (t, λ n k e. e, ap (map (key_at c.args.self.now)) none)
+
+pub loop-key-preserved : goal.loop-key-preserved
+loop-key-preserved c t =
+    let so = c.loop-key.invariant t in
+    let list = c.args.list.now in let i = c.loop-key.key-index in let key = c.key-item.result in
+    let extends = c.in_ok-number-2.ensures.extends so.0 in
+    let pushed : c.push.new.self.items ≡ c.loop-key.numbers.items ++ c.in_ok-number-2.number ∷ [] =
+    search rules in
+    let ids : map id_of (take (i + 1) list) ≡ map id_of (take i list) ++ id_of key ∷ [] =
+    ap (λ (ks : List PublishedKey). map id_of ks)
+    (take_more list i key c.loop-key-test.true ∙ (λ j. take i list ++ sym c.key-item.is j ∷ []))
+    ∙ map-append id_of (take i list) (key ∷ []) in (
+      extends.0,
+      λ n k e. extends.1 n k (so.1 n k e),
+      rw (pushed, ids) (stand-push c.number_of-in-loop-key.new.self c.loop-key.numbers.items
+          (map id_of (take i list)) c.in_ok-number-2.number (id_of key)
+          (stand-on c.loop-key.self c.number_of-in-loop-key.new.self c.loop-key.numbers.items _ extends.1
+          so.2) c.in_ok-number-2.ensures.ok),
+    )
+
+pub returns-clause-ok : goal.returns-clause-ok
+returns-clause-ok c = record {
+  extends = λ t. (let so = c.loop-key.invariant t in (so.0, so.1));
+  read = λ was t h keeps.
+      (let list = c.args.list.now in let ids = map id_of list in (
+        subst (λ (ks : List PublishedKey). StandFor c.loop-key.self c.loop-key.numbers.items
+            (map id_of ks)) (take_all c.loop-key.key-index list c.loop-key-test.false)
+            (c.loop-key.invariant t).2,
+        false_from_ne_true (same_ids was ids) (λ e. c.are.ensures.no c.if-are.false
+            (rw c.deref.ensures.value (subst (StandFor c.args.self.now
+            c.args.known.now.numbers.items) ((same-ids was ids).0 e) h))),
+      ));
+}
