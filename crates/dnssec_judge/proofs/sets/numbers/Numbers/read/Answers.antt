@@ -44,8 +44,14 @@ returns-then-around-len-clause-ok c = record {
         c.saturating_sub.ensures,
       ) in
       rw c.remove.ensures (read-less c.args.self.now known.items was (map id_of list) c.args.frame
-      h keeps (omega (arith, c.saturating_add-around.ensures, c.if-around-len.true, ids, one,
-      known.ok.0)) (omega (arith, ids, one))));
+      h keeps (omega (
+        arith,
+        c.saturating_add-around.ensures,
+        c.if-around-len.true,
+        ids,
+        one,
+        known.ok.0,
+      )) (omega (arith, ids, one))));
 }
 
 pub returns-then-around-old_len-clause-ok : goal.returns-then-around-old_len-clause-ok
