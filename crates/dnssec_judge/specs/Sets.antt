@@ -26,13 +26,6 @@ keys_hold p q = has_none p.0 || meet_three p.0 q.0 q.1
 abbrev pub zone_holds : Numbered → Numbered → Bool
 zone_holds q z = meet q.0 z.0
 
--- a key links the one set to the other; the first is of the kind above, or else the second
-abbrev pub linked : Link → Bool → Numbered → Numbered → Bool
-linked Named true p q = meet_three p.0 q.0 q.1
-linked Named false q p = meet_three p.0 q.0 q.1
-linked Signed true q z = meet q.0 z.0
-linked Signed false z q = meet q.0 z.0
-
 -- the two hold in a chain
 abbrev pub holds : Link → Bool → Numbered → Numbered → Bool
 holds Named true p q = keys_hold p q
