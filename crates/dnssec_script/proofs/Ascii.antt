@@ -4,15 +4,16 @@ use Rattle.std.proofs.Common.{◌≡◌, ℕ, ◌<◌, ◌≤◌, ◌∙◌, [],
 use Rattle.std.proofs.Common.{List, ap, arith, codes, cond, length, ◌≢◌, refl, subst, sym}
 use Rattle.std.proofs.lemmas.{Grind.common_steps, Str.IsUtf8-from_ascii, Str.Ascii.IsAscii-from_all}
 use Rattle.std.proofs.lemmas.{List.Sums.AllPass-from_list_all, Bool.Decides.nat_tests}
-use Rattle.std.proofs.lemmas.Bool.{false_from_ne_true}
+use Rattle.std.proofs.lemmas.Bool.{false_from_ne_true, false≢true}
+use Rattle.std.specs.Prelude.{if◌then◌else◌}
 use Rattle.std.specs.{Prelude.None, Prelude.Some, Prelude.find, Prelude.nat_le, List.list_all}
-use Rattle.std.specs.{Str.IsAscii, Str.IsNotAscii, Str.IsUtf8, Str.bytes_eq}
+use Rattle.std.specs.{Str.IsAscii, Str.IsUtf8, Str.bytes_eq}
 use Rattle.std.specs.{Cmp.Lexicographic.bytes_decides, Option.option_map}
 use Rattle.dnssec_base.{specs.AlgorithmNames.algorithm_named, proofs.AlgorithmNames.no_name}
 use Rattle.dnssec_zone.specs.Rolls.{all_rolls}
 use Rattle.dnssec_key.specs.Texts.{roll_name}
 use Rattle.dnssec_script.specs.Script.{is_reference, is_reference_byte, roll_named, word_named}
-use Rattle.dnssec_script.specs.Script.{words}
+use Rattle.dnssec_script.specs.Script.{Reference, as_reference, word_at, words}
 use Rattle.dnssec_script.specs.declared.word.Word.{Word}
 
 -- if each byte passes a test that only ASCII passes
@@ -38,9 +39,6 @@ one_below b after le rest =
     let below : is_below b ≡ true = grind (arith, nat_tests) in
     ap (λ x. x && list_all is_below after) below ∙ rest
 
-pub not_ascii : (text : List ℕ) → IsNotAscii text → ¬ IsAscii text
-not_ascii text wide ascii = let below = ascii wide.0 in let above = wide.1 in absurd (omega arith)
-
 -- ---- a reference
 
 last_of_three : (x y z : Bool) → (x && y && z) ≡ true → z ≡ true
@@ -54,6 +52,20 @@ reference_utf8 text is =
     let last = last_of_three (not (length text == 0)) (not (bytes_eq text (codes "-"))) _ is in
     IsUtf8-from_ascii text
     (all_ascii is_reference_byte (λ b visible. grind (arith, nat_tests)) text last)
+
+-- what passes each test is one
+pub visible : (text : List ℕ) → (length text == 0) ≡ false → bytes_eq text (codes "-") ≡ false
+    → list_all is_reference_byte text ≡ true → true ≡ is_reference text
+unfolding is_reference
+visible text some other all =
+    sym (ap (λ b. not b && not (bytes_eq text (codes "-")) && list_all is_reference_byte text) some
+    ∙ ap (λ b. not b && list_all is_reference_byte text) other ∙ all)
+
+pub reference_read : (text read : List ℕ) → read ≡ text → true ≡ is_reference text
+    → Some (Reference read) ≡ as_reference text
+unfolding as_reference
+reference_read text read same is =
+    ap (λ t. Some (Reference t)) same ∙ ap (λ b. if b then Some (Reference text) else None) is
 
 -- ---- a name
 
@@ -71,13 +83,13 @@ unnamed name text (r ∷ rs) other =
     ap (λ b. cond b (Some r) (find (λ r. bytes_eq (name r) text) rs)) differs
     ∙ unnamed name text rs other.1
 
--- what isn't ASCII isn't the name of any
-differs : {A : Type 0} (name : A → List ℕ) (text : List ℕ) → ¬ IsAscii text → (rows : List A)
-    → list_all (λ r. list_all is_below (name r)) rows ≡ true → Differs name text rows
-differs name text other [] below = tt
-differs name text other (r ∷ rs) below =
-    let b = and_both (list_all is_below (name r)) _ below in (
-      λ same. other (subst IsAscii (sym same) (below_ascii (name r) b.0)),
+-- what is no reference isn't the name of any, if all of these are references
+differs : {A : Type 0} (name : A → List ℕ) (text : List ℕ) → false ≡ is_reference text
+    → (rows : List A) → list_all (λ r. is_reference (name r)) rows ≡ true → Differs name text rows
+differs name text other [] are = tt
+differs name text other (r ∷ rs) are =
+    let b = and_both (is_reference (name r)) _ are in (
+      λ same. false≢true (other ∙ ap is_reference same ∙ b.0),
       differs name text other rs b.1,
     )
   where
@@ -106,28 +118,35 @@ no_such_word text other = ap (option_map (λ (row : List ℕ × Word). row.1))
 pub unless_word : (text : List ℕ) → Unless name_of text (None ≡ word_named text) words
 unless_word text = unless name_of text _ words (no_such_word text)
 
-pub no_word : (text : List ℕ) → ¬ IsAscii text → None ≡ word_named text
+-- the first field, if it is no word
+pub no_word_at : (fields : List (List ℕ)) (name : List ℕ) (rest : List (List ℕ))
+    → fields ≡ name ∷ rest → None ≡ word_named name → None ≡ word_at fields
+no_word_at fields name rest are none =
+    ap (option_map (λ (w : Word). (w, rest))) none ∙ sym (ap word_at are)
+
+pub no_word : (text : List ℕ) → false ≡ is_reference text → None ≡ word_named text
+unfolding is_reference
 no_word text other = no_such_word text (differs name_of text other words refl)
 
-pub no_roll : (text : List ℕ) → ¬ IsAscii text → None ≡ roll_named text
-unfolding roll_named
+pub no_roll : (text : List ℕ) → false ≡ is_reference text → None ≡ roll_named text
+unfolding is_reference roll_named
 no_roll text other = sym (unnamed roll_name text all_rolls
     (differs roll_name text other all_rolls refl))
 
-pub no_algorithm : (text : List ℕ) → ¬ IsAscii text → None ≡ algorithm_named text
+pub no_algorithm : (text : List ℕ) → false ≡ is_reference text → None ≡ algorithm_named text
+unfolding is_reference
 no_algorithm text other =
     no_name text (apart (codes "RSASHA256") refl) (apart (codes "RSASHA512") refl)
     (apart (codes "ECDSAP256SHA256") refl) (apart (codes "ECDSAP384SHA384") refl)
     (apart (codes "ED25519") refl) (apart (codes "ED448") refl)
   where
-    apart : (name : List ℕ) → list_all is_below name ≡ true → text ≢ name
-    apart name below same = other (subst IsAscii (sym same) (below_ascii name below))
+    apart : (name : List ℕ) → is_reference name ≡ true → text ≢ name
+    apart name is same = false≢true (other ∙ ap is_reference same ∙ is)
 
 pub ruleset steps = (
   common_steps,
   reference_utf8,
   IsUtf8-from_ascii,
-  not_ascii,
   no_word,
   no_roll,
   no_algorithm,

@@ -1,21 +1,19 @@
 //! A text that is cut at a byte: a script at its line feeds, and a line at its spaces. Then the
 //! fields of a line, and what each says.
-ghost use Rattle.std.specs.Prelude.{◌≡◌, ◌≤◌, ◌+◌, ◌==◌, ◌∷◌, if◌then◌else◌, List, [], map};
-ghost use Rattle.std.specs.Prelude.{IfOk, length, not};
-ghost use Rattle.std.specs.List.{position_or_len, prefix_len, slice_split};
-ghost use Rattle.std.specs.Simd.Lanes.{chunk};
-ghost use Rattle.std.specs.Prelude.{Option, Some, None, is_some, IfSome, IfNone};
-ghost use Rattle.std.specs.Str.{IsAscii};
+ghost use Rattle.std.specs.Prelude.{◌≡◌, ◌≤◌, ◌==◌, ◌∷◌, if◌then◌else◌, List, [], map};
+ghost use Rattle.std.specs.Prelude.{IfOk};
+ghost use Rattle.std.specs.List.{slice_split};
+ghost use Rattle.std.specs.Prelude.{Option, Some, None, is_some, IfSome};
 ghost use denote.Bor.{now};
 ghost use Rattle.std.specs.Option.{option_map};
 ghost use Rattle.dnssec_script.specs.Script.{Value, Reference, Private, References, Flag, Roll};
 ghost use Rattle.dnssec_script.specs.Script.{Number, Moment, is_reference, as_reference};
 ghost use Rattle.dnssec_script.specs.Script.{as_private, as_list, as_yes_no, as_roll, as_number};
 ghost use Rattle.dnssec_script.specs.Script.{as_algorithm, as_tag, as_ttl, as_time};
-ghost use Rattle.dnssec_script.specs.Script.{is_list, is_number, number_of, references_of};
+ghost use Rattle.dnssec_script.specs.Script.{is_number, number_of, references_of};
 ghost use Rattle.dnssec_script.specs.Inner.Reading.{parts_left};
 ghost use Rattle.dnssec_script.specs.Script.{value_at, values_of, first_field, fields_of};
-ghost use Rattle.dnssec_script.specs.Script.{word_at, word_named};
+ghost use Rattle.dnssec_script.specs.Script.{word_at};
 
 use crate::word::Word;
 use dnssec_base::SecurityAlgorithm;
@@ -28,58 +26,29 @@ use std::time::Duration;
 /// How many bytes are looked at together.
 const LANES: usize = 16;
 
-/// The text up to the first such byte, and what comes after it; none if it has no such byte.
+/// The text up to the first such byte, and what comes after it; none if it has no such byte. Each
+/// byte of a script is read here first, so it looks at many at a time.
 pub(crate) fn split_once(text: &[u8], byte: u8) -> (&[u8], Option<&[u8]>)
     ensures { slice_split (λ b. b == byte) text.now ≡ result.0.now ∷ parts_left byte result.1 }
 {
-    let end = place_of(text, byte);
-    if end < text.len() {
-        (&text[..end], Some(&text[end + 1..]))
-    } else {
-        (text, None)
-    }
-}
-
-/// Where the first such byte stands, or the length of a text without one. Each byte of a script is
-/// read here first, so it looks at many at a time.
-fn place_of(text: &[u8], byte: u8) -> usize
-    ensures { result ≡ position_or_len (λ b. b == byte) text.now }
-{
     let mut end = 0;
     while text.len() - end >= LANES {
-        let ahead = bytes_before(text, end, byte) as usize;
-        if ahead < LANES {
-            return end + ahead;
+        let hits = u8x16::from_slice(&text[end..])
+            .simd_eq(u8x16::splat(byte))
+            .to_bitmask();
+        if hits != 0 {
+            end += hits.trailing_zeros() as usize;
+            break;
         }
         end += LANES;
     }
-    while end < text.len() && text[end] != byte {
+    while end < text.len() {
+        if text[end] == byte {
+            return (&text[..end], Some(&text[end + 1..]));
+        }
         end += 1;
     }
-    end
-}
-
-/// How many of the next bytes come before the first such byte among them.
-fn bytes_before(text: &[u8], at: usize, byte: u8) -> u32
-    requires { at + 16 ≤ length text.now }
-    ensures { result ≡ prefix_len (λ b. not (b == byte)) (chunk at 16 text.now) }
-{
-    let hits = u8x16::from_slice(&text[at..])
-        .simd_eq(u8x16::splat(byte))
-        .to_bitmask();
-    if hits == 0 { 16 } else { hits.trailing_zeros() }
-}
-
-/// Whether the text is visible ASCII characters, except the comma, and not a single `-`.
-#[tactic(auto, unfolding(crate::specs::Script::is_reference))]
-fn is_reference(text: &[u8]) -> bool
-    ensures { result ≡ is_reference text.now }
-{
-    !text.is_empty()
-        && text != b"-".as_slice()
-        && text
-            .iter()
-            .all(|byte| byte.is_ascii_graphic() && *byte != b',')
+    (text, None)
 }
 
 /// A flag, from `yes` or `no`.
@@ -94,18 +63,6 @@ fn yes_no(text: &[u8]) -> Option<bool>
     } else {
         None
     }
-}
-
-/// The text, if it is ASCII.
-#[tactic(auto, using(crate::proofs::Ascii::steps))]
-pub(crate) fn ascii(text: &[u8]) -> Option<&str>
-    ensures same { IfSome result (λ ascii. ascii.now ≡ text.now) }
-    ensures none { IfNone result (¬ IsAscii text.now) }
-{
-    if !text.is_ascii() {
-        return None;
-    }
-    Some(unsafe { str::from_utf8_unchecked(text) })
 }
 
 /// A number up to `most`.
@@ -129,14 +86,25 @@ fn number(most: u64, text: &[u8]) -> Option<u64>
     if number <= most { Some(number) } else { None }
 }
 
-/// A key's reference.
-#[tactic(auto, using(crate::proofs::Ascii::steps), unfolding(crate::specs::Script::as_reference))]
+/// The text, if it is visible ASCII characters, except the comma, and not a single `-`. So is each
+/// key's reference, and also each name of a word, of a roll and of an algorithm.
+#[tactic(
+    auto,
+    using(crate::proofs::Ascii::steps),
+    unfolding(crate::specs::Script::as_reference, crate::specs::Script::is_reference)
+)]
 fn reference(text: &[u8]) -> Option<&str>
     ensures read { option_map (λ q. Reference q.now) result ≡ as_reference text.now }
     ensures is { is_some result ≡ is_reference text.now }
     ensures same { IfSome result (λ q. q.now ≡ text.now) }
 {
-    if !is_reference(text) {
+    if text.is_empty() || text == b"-".as_slice() {
+        return None;
+    }
+    let is_reference = text
+        .iter()
+        .all(|byte| byte.is_ascii_graphic() && *byte != b',');
+    if !is_reference {
         return None;
     }
     // All of them are ASCII, and so they are text.
@@ -162,48 +130,7 @@ fn algorithm(text: &[u8]) -> Option<SecurityAlgorithm>
 {
     match number(255, text) {
         Some(number) => Some(SecurityAlgorithm::from_int(number as u8)),
-        None => SecurityAlgorithm::from_name(ascii(text)?),
-    }
-}
-
-/// Whether the text is references with single commas between them, or `-` for none.
-#[tactic(auto, unfolding(crate::specs::Script::is_list))]
-fn is_list(text: &[u8]) -> bool
-    ensures { result ≡ is_list text.now }
-{
-    text == b"-".as_slice()
-        || text
-            .split(|byte| *byte == b',')
-            .all(|part| is_reference(part))
-}
-
-/// The word with this name.
-#[tactic(auto, using(crate::proofs::Ascii::steps), unfolding(crate::specs::Script::word_named))]
-fn word_named(name: &[u8]) -> Option<Word>
-    ensures { result ≡ word_named name.now }
-{
-    match ascii(name)? {
-        "add-ksk" => Some(Word::AddKsk),
-        "add-zsk" => Some(Word::AddZsk),
-        "add-csk" => Some(Word::AddCsk),
-        "add-public" => Some(Word::AddPublic),
-        "set-decoupled" => Some(Word::SetDecoupled),
-        "set-present" => Some(Word::SetPresent),
-        "set-signer" => Some(Word::SetSigner),
-        "set-at-parent" => Some(Word::SetAtParent),
-        "set-stale" => Some(Word::SetStale),
-        "set-visible" => Some(Word::SetVisible),
-        "set-ds-visible" => Some(Word::SetDsVisible),
-        "set-rrsig-visible" => Some(Word::SetRrsigVisible),
-        "delete" => Some(Word::Delete),
-        "start" => Some(Word::Start),
-        "report1" => Some(Word::Report1),
-        "wait1" => Some(Word::Wait1),
-        "report2" => Some(Word::Report2),
-        "wait2" => Some(Word::Wait2),
-        "done" => Some(Word::Done),
-        "abort" => Some(Word::Abort),
-        _ => None,
+        None => SecurityAlgorithm::from_name(reference(text)?),
     }
 }
 
@@ -250,12 +177,36 @@ impl<'a> Fields<'a> {
         }
     }
 
-    /// The next field as a word.
-    pub(crate) fn word(self) -> Option<(Word, Fields<'a>)>
-        ensures { option_map (λ x. (x.0, x.1)) result ≡ word_at self.entry }
+    /// The word with which a line begins, and the fields after it.
+    #[tactic(auto, using(crate::proofs::Ascii::steps), unfolding(crate::specs::Script::word_named))]
+    pub(crate) fn after_word(line: &'a [u8]) -> Option<(Word, Fields<'a>)>
+        ensures { option_map (λ x. (x.0, x.1)) result ≡ word_at (fields_of line.now) }
     {
-        let (name, fields) = self.next()?;
-        Some((word_named(name)?, fields))
+        let (name, rest) = split_once(line, b' ');
+        let word = match reference(name)? {
+            "add-ksk" => Word::AddKsk,
+            "add-zsk" => Word::AddZsk,
+            "add-csk" => Word::AddCsk,
+            "add-public" => Word::AddPublic,
+            "set-decoupled" => Word::SetDecoupled,
+            "set-present" => Word::SetPresent,
+            "set-signer" => Word::SetSigner,
+            "set-at-parent" => Word::SetAtParent,
+            "set-stale" => Word::SetStale,
+            "set-visible" => Word::SetVisible,
+            "set-ds-visible" => Word::SetDsVisible,
+            "set-rrsig-visible" => Word::SetRrsigVisible,
+            "delete" => Word::Delete,
+            "start" => Word::Start,
+            "report1" => Word::Report1,
+            "wait1" => Word::Wait1,
+            "report2" => Word::Report2,
+            "wait2" => Word::Wait2,
+            "done" => Word::Done,
+            "abort" => Word::Abort,
+            _ => return None,
+        };
+        Some((word, Fields { rest }))
     }
 
     /// The next field as a reference.
@@ -291,7 +242,7 @@ impl<'a> Fields<'a> {
         ensures { option_map (λ x. (Roll x.0, x.1)) result ≡ value_at as_roll self.entry }
     {
         let (text, fields) = self.next()?;
-        Some((ascii(text)?.parse().ok()?, fields))
+        Some((reference(text)?.parse().ok()?, fields))
     }
 
     /// The next field as an algorithm.
@@ -345,18 +296,22 @@ impl<'a> Fields<'a> {
     pub(crate) fn last_time(self) -> Option<UnixTime>
         ensures { option_map (λ t. Moment t ∷ []) result ≡ values_of (as_time ∷ []) self.entry }
     {
-        let (time, fields) = self.time()?;
-        fields.end()?;
-        Some(time)
+        // A number has no space, so what is left is a single field.
+        let seconds = number(u64::MAX, self.rest?)?;
+        Some(UnixTime::from(Duration::from_secs(seconds)))
     }
 
-    /// The next field as a list of references.
+    /// The next field as a list of references: with single commas between them, or `-` for none.
     #[tactic(auto, unfolding(crate::specs::Script::as_list))]
     pub(crate) fn list(self) -> Option<(ReferenceList<'a>, Fields<'a>)>
         ensures { option_map (λ x. (References x.0, x.1)) result ≡ value_at as_list self.entry }
     {
         let (text, fields) = self.next()?;
-        if !is_list(text) {
+        let is_list = text == b"-".as_slice()
+            || text
+                .split(|byte| *byte == b',')
+                .all(|part| reference(part).is_some());
+        if !is_list {
             return None;
         }
         Some((ReferenceList { text }, fields))

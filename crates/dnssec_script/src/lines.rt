@@ -1,15 +1,13 @@
 //! The lines of a script.
-ghost use Rattle.std.specs.Prelude.{◌≡◌, ℕ, suc, List, [], map, IfOk, IfErr, IfSome, IfNone};
+ghost use Rattle.std.specs.Prelude.{◌≡◌, ℕ, List, [], map, IfOk, IfErr, IfSome, IfNone};
 ghost use denote.Bor.{now};
 ghost use Rattle.dnssec_base.specs.NameText as names;
-ghost use Rattle.dnssec_run.specs.declared.call.Call.{Call};
 ghost use Rattle.dnssec_script.specs.Script.{BeginsWithZone, IsZoneLine, NamesZone};
 ghost use Rattle.dnssec_script.specs.Script.{lines_of, without_end};
-ghost use Rattle.dnssec_script.specs.Inner.Reading.{HasRead, IsReadFault, ReadsOn, lines_left};
+ghost use Rattle.dnssec_script.specs.Inner.Reading.{HasRead, IsReadFault};
 ghost use Rattle.dnssec_script.specs.declared.lines.ReadFault.TheVariants.{OutOfMemory};
 
 use crate::fields::split_once;
-use crate::statement::{Statement, read_line};
 use dnssec_base::{Name, NameError};
 use std::alloc::{AllocError, Global};
 
@@ -94,9 +92,9 @@ fn zone_name(alloc: Global, text: &[u8]) -> Result<Option<Name<Vec<u8>>>, AllocE
 #[derive(Drop)]
 pub struct Lines<'a> {
     /// What comes after the lines that were read; none after the last one.
-    rest: Option<&'a [u8]>,
+    pub(crate) rest: Option<&'a [u8]>,
     /// How many lines were read.
-    count: usize,
+    pub(crate) count: usize,
 }
 
 impl<'a> Lines<'a> {
@@ -115,36 +113,6 @@ impl<'a> Lines<'a> {
         match read_zone(alloc, first)? {
             Some(name) => Ok((name, Lines { rest, count: 1 })),
             None => Err(ReadFault::Malformed(1)),
-        }
-    }
-
-    /// What the next line says; none after the last line.
-    ///
-    /// # Errors
-    ///
-    /// - `Malformed` with the number of the line if it doesn't have its form.
-    /// - `OutOfMemory` if there is no memory for its call. A line that makes no call takes none.
-    pub fn next(&mut self, alloc: Global) -> Result<Option<Statement<'a>>, ReadFault>
-        ensures ok { IfOk result (λ found. (script name : List ℕ) (calls : List Call) →
-            HasRead script name calls self.old → ReadsOn script name calls self.new found) }
-        ensures fewer { IfOk result (λ found. IfSome found (λ _.
-            lines_left self.old ≡ suc (lines_left self.new))) }
-        ensures err { IfErr result (λ fault. (script name : List ℕ) (calls : List Call) →
-            HasRead script name calls self.old → IsReadFault script fault) }
-    {
-        let Some(text) = self.rest else {
-            return Ok(None);
-        };
-        // More lines than can be counted would have no room.
-        let Some(count) = self.count.checked_add(1) else {
-            return Err(ReadFault::OutOfMemory);
-        };
-        let (line, rest) = split_once(text, b'\n');
-        self.rest = rest;
-        self.count = count;
-        match read_line(alloc, line)? {
-            Some(statement) => Ok(Some(statement)),
-            None => Err(ReadFault::Malformed(count)),
         }
     }
 }

@@ -1,17 +1,22 @@
-//! What a line of a script says: the call of its word, made from its fields.
+//! What a line of a script says: the call of its word, made from its fields; and what the next of
+//! the lines of a script says.
 ghost use Rattle.std.specs.Prelude.{◌≡◌, if◌then◌else◌, IfOk, IfErr, IsSome, None, true, [], ◌∷◌};
+ghost use Rattle.std.specs.Prelude.{ℕ, suc, List, IfSome};
 ghost use Rattle.std.specs.Option.{option_map};
 ghost use Rattle.dnssec_key.specs.Key.{is_available};
+ghost use Rattle.dnssec_run.specs.declared.call.Call.{Call};
 ghost use Rattle.dnssec_script.specs.Script.{call_says, said_after_word, says};
 ghost use Rattle.dnssec_script.specs.Script.{Moment, References, Roll, as_list, as_roll, as_time};
 ghost use Rattle.dnssec_script.specs.Script.{values_of};
+ghost use Rattle.dnssec_script.specs.Inner.Reading.{HasRead, IsReadFault, ReadsOn, lines_left};
 ghost use Rattle.dnssec_script.specs.Inner.Statement.{MakesEntry, start_says};
 ghost use Rattle.dnssec_script.specs.Inner.Statement.{adds, statement_says, takes_memory};
 
-use crate::fields::{Fields, ReferenceList};
+use crate::fields::{Fields, ReferenceList, split_once};
 use crate::forms::{
     KeyTraits, flag, key, public_key, report, roll, signing_key, stamp, timed_flag, wait,
 };
+use crate::lines::{Lines, ReadFault};
 use crate::word::Word;
 use dnssec_keyset::{Available, Error, RollType, UnixTime};
 use dnssec_run::{Call, Entry, Recorder};
@@ -59,6 +64,38 @@ impl<'a> Statement<'a> {
     }
 }
 
+impl<'a> Lines<'a> {
+    /// What the next line says; none after the last line.
+    ///
+    /// # Errors
+    ///
+    /// - `Malformed` with the number of the line if it doesn't have its form.
+    /// - `OutOfMemory` if there is no memory for its call. A line that makes no call takes none.
+    pub fn next(&mut self, alloc: Global) -> Result<Option<Statement<'a>>, ReadFault>
+        ensures ok { IfOk result (λ found. (script name : List ℕ) (calls : List Call) →
+            HasRead script name calls self.old → ReadsOn script name calls self.new found) }
+        ensures fewer { IfOk result (λ found. IfSome found (λ _.
+            lines_left self.old ≡ suc (lines_left self.new))) }
+        ensures err { IfErr result (λ fault. (script name : List ℕ) (calls : List Call) →
+            HasRead script name calls self.old → IsReadFault script fault) }
+    {
+        let Some(text) = self.rest else {
+            return Ok(None);
+        };
+        // More lines than can be counted would have no room.
+        let Some(count) = self.count.checked_add(1) else {
+            return Err(ReadFault::OutOfMemory);
+        };
+        let (line, rest) = split_once(text, b'\n');
+        self.rest = rest;
+        self.count = count;
+        match read_line(alloc, line)? {
+            Some(statement) => Ok(Some(statement)),
+            None => Err(ReadFault::Malformed(count)),
+        }
+    }
+}
+
 /// What a line says, if it has the form of a script's line.
 ///
 /// # Errors
@@ -70,14 +107,22 @@ pub fn read_line<'a>(alloc: Global, line: &'a [u8]) -> Result<Option<Statement<'
     ensures read { IfOk result (λ found. option_map statement_says found ≡ says line.now) }
     ensures memory { IfErr result (λ _. IsSome (says line.now)) }
 {
-    let Some((word, fields)) = Fields::of(line).word() else {
+    let Some((word, fields)) = Fields::after_word(line) else {
         return Ok(None);
     };
     match word {
         Word::AddKsk | Word::AddZsk | Word::AddCsk | Word::AddPublic => {
             call_that_adds(alloc, word, fields)
         }
-        Word::Start => call_that_starts(alloc, fields),
+        Word::Start => match start_fields(fields) {
+            Some((rolltype, old, new, moment)) => Ok(Some(Statement::Start(Start {
+                rolltype,
+                old: old.references(alloc)?,
+                new: new.references(alloc)?,
+                moment,
+            }))),
+            None => Ok(None),
+        },
         _ => Ok(call_of_parts(word, fields)),
     }
 }
@@ -151,10 +196,15 @@ fn call_of_parts<'a>(word: Word, fields: Fields<'a>) -> Option<Statement<'a>>
         ≡ if takes_memory word then None else said_after_word word fields.entry }
 {
     match word {
+        Word::SetStale | Word::Delete => {
+            let pubref = key(fields)?;
+            Some(Statement::Call(match word {
+                Word::SetStale => Call::SetStale { pubref },
+                _ => Call::DeleteKey { pubref },
+            }))
+        }
         Word::SetDecoupled | Word::SetSigner | Word::SetAtParent => {
-            let Some((pubref, value)) = flag(fields) else {
-                return None;
-            };
+            let (pubref, value) = flag(fields)?;
             Some(Statement::Call(match word {
                 Word::SetDecoupled => Call::SetDecoupled { pubref, value },
                 Word::SetSigner => Call::SetSigner { pubref, value },
@@ -177,15 +227,6 @@ fn call_of_parts<'a>(word: Word, fields: Fields<'a>) -> Option<Statement<'a>>
                 _ => Call::SetRrsigVisible { pubref, time },
             }))
         }
-        Word::SetStale | Word::Delete => {
-            let Some(pubref) = key(fields) else {
-                return None;
-            };
-            Some(Statement::Call(match word {
-                Word::SetStale => Call::SetStale { pubref },
-                _ => Call::DeleteKey { pubref },
-            }))
-        }
         Word::Report1 | Word::Report2 => {
             let Some((rolltype, ttl, now)) = report(fields) else {
                 return None;
@@ -205,9 +246,7 @@ fn call_of_parts<'a>(word: Word, fields: Fields<'a>) -> Option<Statement<'a>>
             }))
         }
         Word::Done | Word::Abort => {
-            let Some(rolltype) = roll(fields) else {
-                return None;
-            };
+            let rolltype = roll(fields)?;
             Some(Statement::Call(match word {
                 Word::Done => Call::RollDone { rolltype },
                 _ => Call::AbortRoll { rolltype },
@@ -226,26 +265,6 @@ fn availability(may_come_in: bool) -> Available
     } else {
         Available::NotAvailable
     }
-}
-
-/// The call of the word that starts a roll, made from the fields after it.
-fn call_that_starts<'a>(
-    alloc: Global,
-    fields: Fields<'a>,
-) -> Result<Option<Statement<'a>>, AllocError>
-    ensures read { IfOk result (λ found.
-        option_map statement_says found ≡ said_after_word Word.Start fields.entry) }
-    ensures memory { IfErr result (λ _. IsSome (said_after_word Word.Start fields.entry)) }
-{
-    let Some((rolltype, old, new, moment)) = start_fields(fields) else {
-        return Ok(None);
-    };
-    Ok(Some(Statement::Start(Start {
-        rolltype,
-        old: old.references(alloc)?,
-        new: new.references(alloc)?,
-        moment,
-    })))
 }
 
 /// The fields of a start, with lists that are parts of the line.
