@@ -88,11 +88,7 @@ fn number(most: u64, text: &[u8]) -> Option<u64>
 
 /// The text, if it is visible ASCII characters, except the comma, and not a single `-`. So is each
 /// key's reference, and also each name of a word, of a roll and of an algorithm.
-#[tactic(
-    auto,
-    using(crate::proofs::Ascii::steps),
-    unfolding(crate::specs::Script::as_reference, crate::specs::Script::is_reference)
-)]
+#[tactic(auto, using(crate::proofs::Ascii::steps), unfolding(crate::specs::Script::as_reference, crate::specs::Script::is_reference))]
 fn reference(text: &[u8]) -> Option<&str>
     ensures read { option_map (λ q. Reference q.now) result ≡ as_reference text.now }
     ensures is { is_some result ≡ is_reference text.now }
