@@ -1,5 +1,6 @@
 //! The keys of a record as small numbers.
-ghost use Rattle.std.specs.Prelude.{◌↔◌, ◌≡◌, ◌≤◌, ◌<◌, ℕ, false, true, None, Some, [], map, nat_eq};
+ghost use Rattle.std.specs.Prelude.{◌↔◌, ◌≡◌, ◌≤◌, ◌<◌, ℕ, false, true, None, Some, []};
+ghost use Rattle.std.specs.Prelude.{map, nat_eq};
 ghost use Rattle.std.specs.Prelude.{IfOk, IfErr, IfSome, OnOk, vec_len};
 ghost use Rattle.std.specs.List.{insert, list_any, remove};
 ghost use Rattle.dnssec_base.specs.declared.error.Error.TheVariants.{OutOfMemory};

@@ -1,5 +1,6 @@
 //! A report that a judge keeps, when it is over, and how it lifts the floor of a window.
-ghost use Rattle.std.specs.Prelude.{◌≡◌, ◌<◌, ◌≤◌, ◌+◌, ◌*◌, ℕ, nat_lt, not, true, max, OnOk, IfErr};
+ghost use Rattle.std.specs.Prelude.{◌≡◌, ◌<◌, ◌≤◌, ◌+◌, ◌*◌, ℕ, nat_lt, not, true, max};
+ghost use Rattle.std.specs.Prelude.{OnOk, IfErr};
 ghost use Rattle.dnssec_base.specs.declared.error.Error.TheVariants.{OutOfMemory};
 ghost use Rattle.dnssec_run.specs.Safe.{kind_of};
 ghost use Rattle.dnssec_run.specs.Steps.{base_of};

@@ -1,5 +1,6 @@
 -- Two lists are read. If the set is another, it is put in, and a span of it stands last.
-use Rattle.std.proofs.Common.{◌≡◌, ◌∙◌, ◌++◌, ◌∷◌, [], ap, map, arith, refl, rules, subst, suc, sym, true}
+use Rattle.std.proofs.Common.{◌≡◌, ◌∙◌, ◌++◌, ◌∷◌, [], ap, map, arith, refl, rules, subst, suc}
+use Rattle.std.proofs.Common.{sym, true}
 use Rattle.std.proofs.Common.{false}
 use Rattle.dnssec_run.specs.Published.{id_of}
 use Rattle.dnssec_judge.specs.declared.window.{Span.Span, Window.Window, last.Last.Last}

@@ -77,7 +77,8 @@ returns-then-around-old_len-clause-ok c = record {
       ) in
       rw c.in_ok-insert.ensures.ok (read-more c.args.self.now known.items was (map id_of list)
       c.args.frame h keeps c.number_of.new.self (c.in_ok-number.ensures.extends t).1 around
-      (length-map list id_of ∙ one) c.in_ok-number.number (id_of key) (ap id_of c.index-list-frame.is
+      (length-map list id_of ∙ one) c.in_ok-number.number (id_of key)
+      (ap id_of c.index-list-frame.is
       ∙ sym (get_or-map id_of list front key (id_of key) (omega (arith, around, one))))
       c.in_ok-number.ensures.ok));
 }
@@ -112,8 +113,8 @@ loop-key-preserved c t =
       λ n k e. extends.1 n k (so.1 n k e),
       rw (pushed, ids) (stand-push c.number_of-in-loop-key.new.self c.loop-key.numbers.items
           (map id_of (take i list)) c.in_ok-number-2.number (id_of key)
-          (stand-on c.loop-key.self c.number_of-in-loop-key.new.self c.loop-key.numbers.items _ extends.1
-          so.2) c.in_ok-number-2.ensures.ok),
+          (stand-on c.loop-key.self c.number_of-in-loop-key.new.self c.loop-key.numbers.items _
+          extends.1 so.2) c.in_ok-number-2.ensures.ok),
     )
 
 pub returns-clause-ok : goal.returns-clause-ok
