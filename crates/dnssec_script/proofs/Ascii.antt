@@ -1,11 +1,10 @@
 -- A text of ASCII characters is text: a reference, and the name of a zone, a word, a roll or an
 -- algorithm.
 use Rattle.std.proofs.Common.{◌≡◌, ℕ, ◌<◌, ◌≤◌, ◌∙◌, [], ◌∷◌, ◌&&◌, ◌==◌, Bool, true, false, not}
-use Rattle.std.proofs.Common.{List, ap, arith, codes, cond, length, ◌≢◌, refl, subst, sym}
+use Rattle.std.proofs.Common.{List, ap, arith, codes, cond, length, ◌≢◌, refl, sym}
 use Rattle.std.proofs.lemmas.{Grind.common_steps, Str.IsUtf8-from_ascii, Str.Ascii.IsAscii-from_all}
 use Rattle.std.proofs.lemmas.{List.Sums.AllPass-from_list_all, Bool.Decides.nat_tests}
 use Rattle.std.proofs.lemmas.Bool.{false_from_ne_true, false≢true}
-use Rattle.std.specs.Prelude.{if◌then◌else◌}
 use Rattle.std.specs.{Prelude.None, Prelude.Some, Prelude.find, Prelude.nat_le, List.list_all}
 use Rattle.std.specs.{Str.IsAscii, Str.IsUtf8, Str.bytes_eq}
 use Rattle.std.specs.{Cmp.Lexicographic.bytes_decides, Option.option_map}
@@ -13,7 +12,7 @@ use Rattle.dnssec_base.{specs.AlgorithmNames.algorithm_named, proofs.AlgorithmNa
 use Rattle.dnssec_zone.specs.Rolls.{all_rolls}
 use Rattle.dnssec_key.specs.Texts.{roll_name}
 use Rattle.dnssec_script.specs.Script.{is_reference, is_reference_byte, roll_named, word_named}
-use Rattle.dnssec_script.specs.Script.{Reference, as_reference, word_at, words}
+use Rattle.dnssec_script.specs.Script.{word_at, words}
 use Rattle.dnssec_script.specs.declared.word.Word.{Word}
 
 -- if each byte passes a test that only ASCII passes
@@ -52,20 +51,6 @@ reference_utf8 text is =
     let last = last_of_three (not (length text == 0)) (not (bytes_eq text (codes "-"))) _ is in
     IsUtf8-from_ascii text
     (all_ascii is_reference_byte (λ b visible. grind (arith, nat_tests)) text last)
-
--- what passes each test is one
-pub visible : (text : List ℕ) → (length text == 0) ≡ false → bytes_eq text (codes "-") ≡ false
-    → list_all is_reference_byte text ≡ true → true ≡ is_reference text
-unfolding is_reference
-visible text some other all =
-    sym (ap (λ b. not b && not (bytes_eq text (codes "-")) && list_all is_reference_byte text) some
-    ∙ ap (λ b. not b && list_all is_reference_byte text) other ∙ all)
-
-pub reference_read : (text read : List ℕ) → read ≡ text → true ≡ is_reference text
-    → Some (Reference read) ≡ as_reference text
-unfolding as_reference
-reference_read text read same is =
-    ap (λ t. Some (Reference t)) same ∙ ap (λ b. if b then Some (Reference text) else None) is
 
 -- ---- a name
 

@@ -4,11 +4,9 @@
 -- |-------------------------|--------------------------------|-------------------|
 -- | `split_once`            | `cut_at`, `further`            | Cuts              |
 -- | `number`                | `too_great`                    | Digits            |
--- | `Fields::last_time`     | `last_moment`                  | Digits            |
 -- | `Fields::roll`          | `no_roll`, `roll_read`         | Rolls, Ascii      |
 -- | `Fields::after_word`    | `no_word`                      | Ascii             |
--- | `Fields::list`          | `list_at`                      | Lists             |
--- | `ReferenceList::references`   | `list_of_parts`, `parts_of`    | Lists             |
+-- | `ReferenceList::references`   | `each_reference`, `parts_of`   | Lists             |
 -- | `algorithm`             | `no_algorithm`                 | Ascii             |
 -- | `reference`             | `reference_utf8`               | Ascii             |
 -- | `read_zone`             | `zone_none`, `spelled_utf8`    | Zone              |

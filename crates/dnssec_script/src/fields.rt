@@ -10,7 +10,7 @@ ghost use Rattle.dnssec_script.specs.Script.{Value, Reference, Private, Referenc
 ghost use Rattle.dnssec_script.specs.Script.{Number, Moment, is_reference, as_reference};
 ghost use Rattle.dnssec_script.specs.Script.{as_private, as_list, as_yes_no, as_roll, as_number};
 ghost use Rattle.dnssec_script.specs.Script.{as_algorithm, as_tag, as_ttl, as_time};
-ghost use Rattle.dnssec_script.specs.Script.{is_number, number_of, references_of};
+ghost use Rattle.dnssec_script.specs.Script.{is_list, is_number, number_of, references_of};
 ghost use Rattle.dnssec_script.specs.Inner.Reading.{parts_left};
 ghost use Rattle.dnssec_script.specs.Script.{value_at, values_of, first_field, fields_of};
 ghost use Rattle.dnssec_script.specs.Script.{word_at};
@@ -51,6 +51,18 @@ pub(crate) fn split_once(text: &[u8], byte: u8) -> (&[u8], Option<&[u8]>)
     (text, None)
 }
 
+/// Whether the text is visible ASCII characters, except the comma, and not a single `-`.
+#[tactic(auto, unfolding(crate::specs::Script::is_reference))]
+fn is_reference(text: &[u8]) -> bool
+    ensures { result ≡ is_reference text.now }
+{
+    !text.is_empty()
+        && text != b"-".as_slice()
+        && text
+            .iter()
+            .all(|byte| byte.is_ascii_graphic() && *byte != b',')
+}
+
 /// A flag, from `yes` or `no`.
 #[tactic(auto, using(crate::proofs::Ascii::steps), unfolding(crate::specs::Script::as_yes_no))]
 fn yes_no(text: &[u8]) -> Option<bool>
@@ -86,21 +98,14 @@ fn number(most: u64, text: &[u8]) -> Option<u64>
     if number <= most { Some(number) } else { None }
 }
 
-/// The text, if it is visible ASCII characters, except the comma, and not a single `-`. So is each
-/// key's reference, and also each name of a word, of a roll and of an algorithm.
-#[tactic(auto, using(crate::proofs::Ascii::steps), unfolding(crate::specs::Script::as_reference, crate::specs::Script::is_reference))]
+/// A key's reference. Each name of a word, of a roll and of an algorithm is read as one too.
+#[tactic(auto, using(crate::proofs::Ascii::steps), unfolding(crate::specs::Script::as_reference))]
 fn reference(text: &[u8]) -> Option<&str>
     ensures read { option_map (λ q. Reference q.now) result ≡ as_reference text.now }
     ensures is { is_some result ≡ is_reference text.now }
     ensures same { IfSome result (λ q. q.now ≡ text.now) }
 {
-    if text.is_empty() || text == b"-".as_slice() {
-        return None;
-    }
-    let is_reference = text
-        .iter()
-        .all(|byte| byte.is_ascii_graphic() && *byte != b',');
-    if !is_reference {
+    if !is_reference(text) {
         return None;
     }
     // All of them are ASCII, and so they are text.
@@ -128,6 +133,17 @@ fn algorithm(text: &[u8]) -> Option<SecurityAlgorithm>
         Some(number) => Some(SecurityAlgorithm::from_int(number as u8)),
         None => SecurityAlgorithm::from_name(reference(text)?),
     }
+}
+
+/// Whether the text is references with single commas between them, or `-` for none.
+#[tactic(auto, unfolding(crate::specs::Script::is_list))]
+fn is_list(text: &[u8]) -> bool
+    ensures { result ≡ is_list text.now }
+{
+    text == b"-".as_slice()
+        || text
+            .split(|byte| *byte == b',')
+            .all(|part| is_reference(part))
 }
 
 /// The fields of a line that haven't been read yet, each between single spaces.
@@ -292,22 +308,18 @@ impl<'a> Fields<'a> {
     pub(crate) fn last_time(self) -> Option<UnixTime>
         ensures { option_map (λ t. Moment t ∷ []) result ≡ values_of (as_time ∷ []) self.entry }
     {
-        // A number has no space, so what is left is a single field.
-        let seconds = number(u64::MAX, self.rest?)?;
-        Some(UnixTime::from(Duration::from_secs(seconds)))
+        let (time, fields) = self.time()?;
+        fields.end()?;
+        Some(time)
     }
 
-    /// The next field as a list of references: with single commas between them, or `-` for none.
+    /// The next field as a list of references.
     #[tactic(auto, unfolding(crate::specs::Script::as_list))]
     pub(crate) fn list(self) -> Option<(ReferenceList<'a>, Fields<'a>)>
         ensures { option_map (λ x. (References x.0, x.1)) result ≡ value_at as_list self.entry }
     {
         let (text, fields) = self.next()?;
-        let is_list = text == b"-".as_slice()
-            || text
-                .split(|byte| *byte == b',')
-                .all(|part| reference(part).is_some());
-        if !is_list {
+        if !is_list(text) {
             return None;
         }
         Some((ReferenceList { text }, fields))

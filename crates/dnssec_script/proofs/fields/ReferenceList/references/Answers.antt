@@ -6,7 +6,7 @@ use Rattle.std.proofs.lemmas.List.Sums.{AllPass-from_list_all}
 use Rattle.std.specs.List.{slice_split}
 use Rattle.std.specs.Slice.Iter as slice
 use Rattle.dnssec_script.specs.Script.{is_reference}
-use Rattle.dnssec_script.proofs.{Ascii.reference_utf8, Lists.list_of_parts, Lists.parts_of}
+use Rattle.dnssec_script.proofs.{Ascii.reference_utf8, Lists.each_reference, Lists.parts_of}
 use Rattle.dnssec_script.proofs.fields.ReferenceList.references.Goals as goal
 
 pub from_utf8_unchecked-requires : goal.from_utf8_unchecked-requires
@@ -20,7 +20,7 @@ from_utf8_unchecked-requires c =
     (λ x b q k. search (rules, tests))) c.loop-part.yielded _ c.loop-part.yielded_by _ _ part
     c.in-Some.is c.next.ensures.steps in
     let each = AllPass-from_list_all is_reference (slice_split (λ b. b == 44) text)
-    (sym (list_of_parts text (search rules)) ∙ c.self.invariant) in
+    (each_reference text (search rules) c.self.invariant) in
     reference_utf8 part.now
     (ap is_reference turn.1 ∙ each (length c.loop-part.yielded) part.now turn.0)
 
