@@ -11,11 +11,11 @@ use Rattle.dnssec_policy.specs.declared.policy.Scheme.TheVariants.{Split, Single
 use Rattle.dnssec_policy.specs.declared.policy.ZskMethod.{ZskMethod}
 use Rattle.dnssec_policy.specs.declared.text.wish.{PolicyDraft.PolicyDraft, WishWord.WishWord}
 use Rattle.dnssec_policy.specs.Text.Reading.{line_after, of_draft, of_first, policy_of, read_from}
-use Rattle.dnssec_policy.specs.Text.{Reading.wish_said, Wishes.no_wish}
+use Rattle.dnssec_policy.specs.Text.{Reading.wish_said, Wishes.no_wish, Wishes.word_name}
 use Rattle.dnssec_policy.specs.Text.Writing.{HasNoOther, IsNumber, IsSayable, IsSayableRenewal}
 use Rattle.dnssec_policy.specs.Text.Writing.{IsSecond, first_line, lifetime_text, number_line}
 use Rattle.dnssec_policy.specs.Text.Writing.{once_text, policy_text, renewal_text, renewals_text}
-use Rattle.dnssec_policy.specs.Text.Writing.{rolls_text, word_name}
+use Rattle.dnssec_policy.specs.Text.Writing.{rolls_text}
 use Rattle.dnssec_policy.proofs.Texts.Cut.{AllLack, lack-append, lacks, lines-back, text-append}
 use Rattle.dnssec_policy.proofs.Texts.{Cut.text_of, Numbers.digits-lack, Steps.one-more}
 use Rattle.dnssec_policy.proofs.Texts.Wishing.{bare, bare_first, deletion-back, first-back}
@@ -154,14 +154,14 @@ so_far l o m q = record {
 
 -- a line that stands only if something is said is read as that
 step : (scheme : Scheme) (line : ℕ → List ℕ) (d : Option ℕ → PolicyDraft) (P : ℕ → Type 0)
-    (o : Option ℕ) → IfSome o P → ((n : ℕ) → P n → line_after scheme (d None) (line n) ≡ Ok
-    (d (Some n)))
+    (o : Option ℕ) → IfSome o P
+    → ((m n : ℕ) → P n → line_after scheme m (d None) (line n) ≡ Ok (d (Some n)))
     → (n : ℕ) (rest : List (List ℕ))
     → (m : ℕ) × (read_from scheme n (d None) (said_lines line o ++ rest)
     ≡ read_from scheme m (d o) rest)
 step scheme line d P None so each n rest = (n, refl)
 step scheme line d P (Some k) so each n rest =
-    (suc n, one-more scheme n (d None) (d (Some k)) (line k) rest (each k so))
+    (suc n, one-more scheme n (d None) (d (Some k)) (line k) rest (each n k so))
 
 -- the last line
 last : (scheme : Scheme) (l o m q : Option ℕ) (n k : ℕ) → IsNumber n
@@ -170,7 +170,7 @@ last : (scheme : Scheme) (l o m q : Option ℕ) (n k : ℕ) → IsNumber n
 unfolding read_from
 last scheme l o m q n k small =
     one-more scheme k (so_far l o m q) (record (so_far l o m q) { delete_after = Some n })
-    (bare word.DeleteAfter n) [] (ap (wish_said scheme (so_far l o m q)) (deletion-back n small))
+    (bare word.DeleteAfter n) [] (ap (wish_said scheme k (so_far l o m q)) (deletion-back n small))
 
 split-back : (k : KskMethod) (z : ZskMethod) (p : Policy) → IsSayableRenewal p.ksk
     → IsSayableRenewal p.zsk → IsNumber p.delete_after
@@ -188,17 +188,18 @@ split-back k z p ksk zsk small =
     let ld = said_lines (once_line Zsk) p.zsk.once in
     let end = bare word.DeleteAfter p.delete_after ∷ [] in
     let a = step scheme (lifetime_line Ksk) (λ o. so_far o None None None) IsNumber p.ksk.lifetime
-    ksk.0 (λ n is. ap (wish_said scheme (so_far None None None None)) (lifetime-back Ksk n is)) 2
-    (lb ++ (lc ++ (ld ++ end))) in
+    ksk.0 (λ m n is. ap (wish_said scheme m (so_far None None None None))
+    (lifetime-back Ksk n is)) 2 (lb ++ (lc ++ (ld ++ end))) in
     let b = step scheme (once_line Ksk) (λ o. so_far p.ksk.lifetime o None None) IsSecond p.ksk.once
-    ksk.1 (λ n is. ap (wish_said scheme (so_far p.ksk.lifetime None None None))
+    ksk.1 (λ m n is. ap (wish_said scheme m (so_far p.ksk.lifetime None None None))
     (once-back Ksk n is)) a.0 (lc ++ (ld ++ end)) in
     let c = step scheme (lifetime_line Zsk) (λ o. so_far p.ksk.lifetime p.ksk.once o None) IsNumber
-    p.zsk.lifetime zsk.0 (λ n is. ap (wish_said scheme (so_far p.ksk.lifetime p.ksk.once None None))
+    p.zsk.lifetime zsk.0
+    (λ m n is. ap (wish_said scheme m (so_far p.ksk.lifetime p.ksk.once None None))
     (lifetime-back Zsk n is)) b.0 (ld ++ end) in
     let d = step scheme (once_line Zsk) (λ o. so_far p.ksk.lifetime p.ksk.once p.zsk.lifetime o)
     IsSecond p.zsk.once zsk.1
-    (λ n is. ap (wish_said scheme (so_far p.ksk.lifetime p.ksk.once p.zsk.lifetime None))
+    (λ m n is. ap (wish_said scheme m (so_far p.ksk.lifetime p.ksk.once p.zsk.lifetime None))
     (once-back Zsk n is)) c.0 end in
     let parts : ((la ++ lb) ++ (lc ++ ld)) ++ end ≡ la ++ (lb ++ (lc ++ (ld ++ end))) =
     append_assoc (la ++ lb) (lc ++ ld) end ∙ append_assoc la lb ((lc ++ ld) ++ end)
@@ -218,11 +219,11 @@ single-back p ksk small =
     let end = bare word.DeleteAfter p.delete_after ∷ [] in
     let a = step SingleType (lifetime_line Csk) (λ o. so_far o None None None) IsNumber
     p.ksk.lifetime ksk.0
-    (λ n is. ap (wish_said SingleType (so_far None None None None)) (lifetime-back Csk n is)) 2
+    (λ m n is. ap (wish_said SingleType m (so_far None None None None)) (lifetime-back Csk n is)) 2
     (lb ++ end) in
     let b = step SingleType (once_line Csk) (λ o. so_far p.ksk.lifetime o None None) IsSecond
     p.ksk.once ksk.1
-    (λ n is. ap (wish_said SingleType (so_far p.ksk.lifetime None None None))
+    (λ m n is. ap (wish_said SingleType m (so_far p.ksk.lifetime None None None))
     (once-back Csk n is)) a.0 end in
     ap (read_from SingleType 2 no_wish) (append_assoc la lb end) ∙ a.1 ∙ b.1
     ∙ last SingleType p.ksk.lifetime p.ksk.once None None p.delete_after b.0 small

@@ -1,21 +1,22 @@
 -- Reading on, line by line.
 use Rattle.std.proofs.Common.{◌≡◌, ℕ, suc, ◌∷◌, List, Ok, Err, ap}
-use Rattle.dnssec_policy.specs.declared.{policy.Scheme.Scheme, text.fault.WishFault.WishFault}
+use Rattle.dnssec_policy.specs.declared.policy.Scheme.{Scheme}
+use Rattle.dnssec_policy.specs.declared.text.{fault.PolicyFault.PolicyFault}
 use Rattle.dnssec_policy.specs.declared.text.wish.PolicyDraft.{PolicyDraft}
-use Rattle.dnssec_policy.specs.Text.Reading.{fault_at, line_after, onward, read_from}
+use Rattle.dnssec_policy.specs.Text.Reading.{line_after, onward, read_from}
 
 -- a line that says something new
 pub one-more : (scheme : Scheme) (n : ℕ) (d more : PolicyDraft) (line : List ℕ)
-    (lines : List (List ℕ)) → line_after scheme d line ≡ Ok more
+    (lines : List (List ℕ)) → line_after scheme n d line ≡ Ok more
     → read_from scheme n d (line ∷ lines) ≡ read_from scheme (suc n) more lines
 unfolding read_from
 one-more scheme n d more line lines e =
-    ap (onward n (λ more. read_from scheme (suc n) more lines)) e
+    ap (onward (λ more. read_from scheme (suc n) more lines)) e
 
 -- and one with a fault
-pub faulty : (scheme : Scheme) (n : ℕ) (d : PolicyDraft) (fault : WishFault) (line : List ℕ)
-    (lines : List (List ℕ)) → line_after scheme d line ≡ Err fault
-    → read_from scheme n d (line ∷ lines) ≡ Err (fault_at fault n)
+pub faulty : (scheme : Scheme) (n : ℕ) (d : PolicyDraft) (fault : PolicyFault) (line : List ℕ)
+    (lines : List (List ℕ)) → line_after scheme n d line ≡ Err fault
+    → read_from scheme n d (line ∷ lines) ≡ Err fault
 unfolding read_from
 faulty scheme n d fault line lines e =
-    ap (onward n (λ more. read_from scheme (suc n) more lines)) e
+    ap (onward (λ more. read_from scheme (suc n) more lines)) e

@@ -12,8 +12,8 @@ use Rattle.dnssec_policy.specs.declared.text.wish.Wish.TheVariants as wish
 use Rattle.dnssec_policy.specs.declared.text.wish.{WishWord.WishWord}
 use Rattle.dnssec_policy.specs.declared.text.wish.WishWord.TheVariants as word
 use Rattle.dnssec_policy.specs.Text.Wishes.{as_first, as_wish, base_of, scheme_of}
-use Rattle.dnssec_policy.specs.Text.Wishes.{wish_after, word_named}
-use Rattle.dnssec_policy.specs.Text.Writing.{IsNumber, IsSecond, rolls_text, word_name}
+use Rattle.dnssec_policy.specs.Text.Wishes.{wish_after, word_name, word_named}
+use Rattle.dnssec_policy.specs.Text.Writing.{IsNumber, IsSecond, rolls_text}
 use Rattle.dnssec_policy.proofs.Texts.Cut.{first-field, lacks, one-field}
 use Rattle.dnssec_policy.proofs.Texts.Numbers.{digits-lack, number-back, time-back}
 

@@ -2,45 +2,38 @@
 use Rattle.std.specs.Prelude.{ℕ, suc, if◌then◌else◌, List, [], ◌∷◌, Option, None, Some, unwrap_or}
 use Rattle.std.specs.{Prelude.Result, Prelude.Ok, Prelude.Err, Option.ok_or}
 use Rattle.dnssec_policy.specs.declared.policy.{Policy.Policy, Scheme.Scheme}
-use Rattle.dnssec_policy.specs.declared.text.fault.{WishFault.WishFault, PolicyFault.PolicyFault}
+use Rattle.dnssec_policy.specs.declared.text.fault.PolicyFault.{PolicyFault}
 use Rattle.dnssec_policy.specs.declared.text.fault.PolicyFault.TheVariants.{Malformed, SaidTwice}
 use Rattle.dnssec_policy.specs.declared.text.fault.PolicyFault.TheVariants.{NoSuchKeys}
 use Rattle.dnssec_policy.specs.declared.text.wish.{PolicyDraft.PolicyDraft, Wish.Wish}
 use Rattle.dnssec_policy.specs.Text.Wishes.{after, as_first, as_wish, is_for, no_wish}
-use Rattle.dnssec_policy.specs.declared.text.fault.WishFault.TheVariants as line
-
--- the fault of a line, with its number
-abbrev pub fault_at : WishFault → ℕ → PolicyFault
-fault_at line.Malformed n = Malformed n
-fault_at line.SaidTwice n = SaidTwice n
-fault_at line.NoSuchKeys n = NoSuchKeys n
 
 -- ---- line by line
 
--- after one more wish, beside the scheme of the first line
-abbrev pub said_after : Scheme → PolicyDraft → Wish → Result PolicyDraft WishFault
-said_after scheme d wish =
-    if is_for scheme wish then ok_or (after d wish) line.SaidTwice else Err line.NoSuchKeys
+-- after one more wish on line n, beside the scheme of the first line
+abbrev pub said_after : Scheme → ℕ → PolicyDraft → Wish → Result PolicyDraft PolicyFault
+said_after scheme n d wish =
+    if is_for scheme wish then ok_or (after d wish) (SaidTwice n) else Err (NoSuchKeys n)
 
-abbrev pub wish_said : Scheme → PolicyDraft → Option Wish → Result PolicyDraft WishFault
-wish_said scheme d None = Err line.Malformed
-wish_said scheme d (Some wish) = said_after scheme d wish
+abbrev pub wish_said : Scheme → ℕ → PolicyDraft → Option Wish → Result PolicyDraft PolicyFault
+wish_said scheme n d None = Err (Malformed n)
+wish_said scheme n d (Some wish) = said_after scheme n d wish
 
 -- after one more line
-abbrev pub line_after : Scheme → PolicyDraft → List ℕ → Result PolicyDraft WishFault
-line_after scheme d line = wish_said scheme d (as_wish line)
+abbrev pub line_after : Scheme → ℕ → PolicyDraft → List ℕ → Result PolicyDraft PolicyFault
+line_after scheme n d line = wish_said scheme n d (as_wish line)
 
--- the fault of line n, or what the others say
-abbrev pub onward : ℕ → (PolicyDraft → Result PolicyDraft PolicyFault)
-    → Result PolicyDraft WishFault → Result PolicyDraft PolicyFault
-onward n rest (Err fault) = Err (fault_at fault n)
-onward n rest (Ok d) = rest d
+-- the fault of a line, or what the others say
+abbrev pub onward : (PolicyDraft → Result PolicyDraft PolicyFault)
+    → Result PolicyDraft PolicyFault → Result PolicyDraft PolicyFault
+onward rest (Err fault) = Err fault
+onward rest (Ok d) = rest d
 
 -- what lines say, the first of them of this number; or the first fault
 unfoldable pub read_from : Scheme → ℕ → PolicyDraft → List (List ℕ) → Result PolicyDraft PolicyFault
 read_from scheme n d [] = Ok d
 read_from scheme n d (line ∷ lines) =
-    onward n (λ more. read_from scheme (suc n) more lines) (line_after scheme d line)
+    onward (λ more. read_from scheme (suc n) more lines) (line_after scheme n d line)
 
 -- ---- all lines
 

@@ -1,5 +1,5 @@
 -- What a line of a policy says.
-use Rattle.std.specs.Prelude.{ℕ, if◌then◌else◌, Bool, true, false, List, [], codes}
+use Rattle.std.specs.Prelude.{ℕ, if◌then◌else◌, Bool, true, false, List, [], ◌∷◌, codes, find}
 use Rattle.std.specs.Prelude.{Option, None, Some, option_and_then}
 use Rattle.std.specs.{Option.option_map, Str.bytes_eq}
 use Rattle.dnssec_network.specs.Text.Lines.{either_named}
@@ -68,15 +68,22 @@ as_first line =
 
 -- ---- further lines
 
+abbrev pub word_name : WishWord → List ℕ
+word_name (word.Lifetime Ksk) = codes "ksk-lifetime"
+word_name (word.Lifetime Zsk) = codes "zsk-lifetime"
+word_name (word.Lifetime Csk) = codes "csk-lifetime"
+word_name (word.Once Ksk) = codes "ksk-once"
+word_name (word.Once Zsk) = codes "zsk-once"
+word_name (word.Once Csk) = codes "csk-once"
+word_name word.DeleteAfter = codes "delete-after"
+
+abbrev pub words : List WishWord
+words = word.Lifetime Ksk ∷ word.Lifetime Zsk ∷ word.Lifetime Csk
+    ∷ word.Once Ksk ∷ word.Once Zsk ∷ word.Once Csk ∷ word.DeleteAfter ∷ []
+
+-- the word with this name
 unfoldable pub word_named : List ℕ → Option WishWord
-word_named name =
-    if bytes_eq name (codes "ksk-lifetime") then Some (word.Lifetime Ksk)
-    else (if bytes_eq name (codes "zsk-lifetime") then Some (word.Lifetime Zsk)
-    else (if bytes_eq name (codes "csk-lifetime") then Some (word.Lifetime Csk)
-    else (if bytes_eq name (codes "ksk-once") then Some (word.Once Ksk)
-    else (if bytes_eq name (codes "zsk-once") then Some (word.Once Zsk)
-    else (if bytes_eq name (codes "csk-once") then Some (word.Once Csk)
-    else (if bytes_eq name (codes "delete-after") then Some word.DeleteAfter else None))))))
+word_named name = find (λ w. bytes_eq name (word_name w)) words
 
 -- the word that stands first, and the fields after it
 abbrev pub word_at : List (List ℕ) → Option (WishWord × List (List ℕ))

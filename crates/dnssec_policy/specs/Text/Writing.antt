@@ -8,6 +8,7 @@ use Rattle.dnssec_policy.specs.declared.policy.{Policy.Policy, Term.Term, Scheme
 use Rattle.dnssec_policy.specs.declared.policy.Scheme.TheVariants.{Split, SingleType}
 use Rattle.dnssec_policy.specs.declared.text.wish.WishWord.{WishWord}
 use Rattle.dnssec_policy.specs.declared.text.wish.WishWord.TheVariants as word
+use Rattle.dnssec_policy.specs.Text.Wishes.{word_name}
 
 -- ---- names
 
@@ -15,15 +16,6 @@ use Rattle.dnssec_policy.specs.declared.text.wish.WishWord.TheVariants as word
 abbrev pub rolls_text : Scheme → List ℕ
 rolls_text (Split k z) = roll_name (ksk_roll k) ++ codes " " ++ roll_name (zsk_roll z)
 rolls_text SingleType = roll_name CskRoll
-
-abbrev pub word_name : WishWord → List ℕ
-word_name (word.Lifetime Ksk) = codes "ksk-lifetime"
-word_name (word.Lifetime Zsk) = codes "zsk-lifetime"
-word_name (word.Lifetime Csk) = codes "csk-lifetime"
-word_name (word.Once Ksk) = codes "ksk-once"
-word_name (word.Once Zsk) = codes "zsk-once"
-word_name (word.Once Csk) = codes "csk-once"
-word_name word.DeleteAfter = codes "delete-after"
 
 -- ---- lines, each with its line feed
 

@@ -1,6 +1,5 @@
 //! Why a text is no policy.
 ghost use Rattle.std.specs.Prelude.{◌≡◌, Some};
-ghost use Rattle.dnssec_policy.specs.Text.Reading.{fault_at};
 ghost use Rattle.dnssec_policy.specs.Text.Faults.{fault_text};
 ghost use Rattle.dnssec_policy.specs.declared.text.fault.PolicyFault.TheVariants.{OutOfMemory};
 
@@ -19,27 +18,6 @@ pub enum PolicyFault {
     NoSuchKeys(usize),
     /// Memory has run out.
     OutOfMemory,
-}
-
-/// What is wrong with a line after the first.
-#[derive(Clone, Copy)]
-pub(crate) enum WishFault {
-    Malformed,
-    SaidTwice,
-    NoSuchKeys,
-}
-
-impl WishFault {
-    /// The same fault of a policy, on the line of this number.
-    pub(crate) fn at(self, number: usize) -> PolicyFault
-        ensures { result ≡ fault_at self number }
-    {
-        match self {
-            WishFault::Malformed => PolicyFault::Malformed(number),
-            WishFault::SaidTwice => PolicyFault::SaidTwice(number),
-            WishFault::NoSuchKeys => PolicyFault::NoSuchKeys(number),
-        }
-    }
 }
 
 impl fmt::Display for PolicyFault {

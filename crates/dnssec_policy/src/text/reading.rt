@@ -18,10 +18,7 @@ fn read_wishes(scheme: Scheme, lines: &[&[u8]]) -> Result<PolicyDraft, PolicyFau
 {
     let mut draft = PolicyDraft::new();
     for (index, line) in lines.iter().enumerate() {
-        match draft.line_after(scheme, line) {
-            Ok(more) => draft = more,
-            Err(fault) => return Err(fault.at(index + 2)),
-        }
+        draft = draft.line_after(scheme, index + 2, line)?;
     }
     Ok(draft)
 }

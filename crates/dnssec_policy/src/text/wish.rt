@@ -5,10 +5,11 @@ ghost use Rattle.dnssec_policy.specs.Text.Wishes.{after, as_first, as_wish, base
 ghost use Rattle.dnssec_policy.specs.Text.Wishes.{has_role, moment_in, no_wish, scheme_of};
 ghost use Rattle.dnssec_policy.specs.Text.Wishes.{seconds_in, single_of, slot, split_of};
 ghost use Rattle.dnssec_policy.specs.Text.Wishes.{wish_after, with_deletion, with_lifetime};
-ghost use Rattle.dnssec_policy.specs.Text.Wishes.{with_once, with_slot, word_at, word_named};
+ghost use Rattle.dnssec_policy.specs.Text.Wishes.{with_once, with_slot, word_at, word_name};
+ghost use Rattle.dnssec_policy.specs.Text.Wishes.{word_named};
 ghost use Rattle.dnssec_policy.specs.Text.Reading.{line_after, policy_with, said_after};
 
-use super::fault::WishFault;
+use super::fault::PolicyFault;
 use crate::policy::{KeyRole, KskMethod, Policy, Scheme, Term, ZskMethod};
 use dnssec_keyset::{SecurityAlgorithm, UnixTime};
 use dnssec_network::either_named;
@@ -96,28 +97,41 @@ pub(crate) enum Wish {
     DeleteAfter(u64),
 }
 
+/// Each word, once.
+const WORDS: [WishWord; 7] = [
+    WishWord::Lifetime(KeyRole::Ksk),
+    WishWord::Lifetime(KeyRole::Zsk),
+    WishWord::Lifetime(KeyRole::Csk),
+    WishWord::Once(KeyRole::Ksk),
+    WishWord::Once(KeyRole::Zsk),
+    WishWord::Once(KeyRole::Csk),
+    WishWord::DeleteAfter,
+];
+
+/// The name of a word.
+pub(crate) fn word_name(word: WishWord) -> &'static str
+    ensures { result.now ≡ word_name word }
+{
+    match word {
+        WishWord::Lifetime(KeyRole::Ksk) => "ksk-lifetime",
+        WishWord::Lifetime(KeyRole::Zsk) => "zsk-lifetime",
+        WishWord::Lifetime(KeyRole::Csk) => "csk-lifetime",
+        WishWord::Once(KeyRole::Ksk) => "ksk-once",
+        WishWord::Once(KeyRole::Zsk) => "zsk-once",
+        WishWord::Once(KeyRole::Csk) => "csk-once",
+        WishWord::DeleteAfter => "delete-after",
+    }
+}
+
 /// The word with this name.
 #[tactic(auto, unfolding(crate::specs::Text::Wishes::word_named))]
 fn word_named(name: &[u8]) -> Option<WishWord>
     ensures { result ≡ word_named name.now }
 {
-    if name == b"ksk-lifetime".as_slice() {
-        Some(WishWord::Lifetime(KeyRole::Ksk))
-    } else if name == b"zsk-lifetime".as_slice() {
-        Some(WishWord::Lifetime(KeyRole::Zsk))
-    } else if name == b"csk-lifetime".as_slice() {
-        Some(WishWord::Lifetime(KeyRole::Csk))
-    } else if name == b"ksk-once".as_slice() {
-        Some(WishWord::Once(KeyRole::Ksk))
-    } else if name == b"zsk-once".as_slice() {
-        Some(WishWord::Once(KeyRole::Zsk))
-    } else if name == b"csk-once".as_slice() {
-        Some(WishWord::Once(KeyRole::Csk))
-    } else if name == b"delete-after".as_slice() {
-        Some(WishWord::DeleteAfter)
-    } else {
-        None
-    }
+    WORDS
+        .iter()
+        .copied()
+        .find(|word| name == word_name(*word).as_bytes())
 }
 
 /// The first field as a word.
@@ -297,26 +311,31 @@ impl PolicyDraft {
         }
     }
 
-    /// After one more wish for the keys of a scheme.
-    fn said_after(&self, scheme: Scheme, wish: &Wish) -> Result<Self, WishFault>
-        ensures { result ≡ said_after scheme self.now wish.now }
+    /// After one more wish for the keys of a scheme, on a line of this number.
+    fn said_after(&self, scheme: Scheme, number: usize, wish: &Wish) -> Result<Self, PolicyFault>
+        ensures { result ≡ said_after scheme number self.now wish.now }
     {
         if !is_for(scheme, wish) {
-            return Err(WishFault::NoSuchKeys);
+            return Err(PolicyFault::NoSuchKeys(number));
         }
         match self.after(wish) {
             Some(more) => Ok(more),
-            None => Err(WishFault::SaidTwice),
+            None => Err(PolicyFault::SaidTwice(number)),
         }
     }
 
-    /// After one more line.
-    pub(crate) fn line_after(&self, scheme: Scheme, line: &[u8]) -> Result<Self, WishFault>
-        ensures { result ≡ line_after scheme self.now line.now }
+    /// After one more line, of this number.
+    pub(crate) fn line_after(
+        &self,
+        scheme: Scheme,
+        number: usize,
+        line: &[u8],
+    ) -> Result<Self, PolicyFault>
+        ensures { result ≡ line_after scheme number self.now line.now }
     {
         match read_wish(line) {
-            Some(wish) => self.said_after(scheme, &wish),
-            None => Err(WishFault::Malformed),
+            Some(wish) => self.said_after(scheme, number, &wish),
+            None => Err(PolicyFault::Malformed(number)),
         }
     }
 

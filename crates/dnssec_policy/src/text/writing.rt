@@ -5,9 +5,8 @@ ghost use Rattle.dnssec_policy.specs.Text.Reading.{policy_of};
 ghost use Rattle.dnssec_policy.specs.Text.Writing.{IsSayable, first_line, lifetime_text};
 ghost use Rattle.dnssec_policy.specs.Text.Writing.{number_line, once_text, policy_text};
 ghost use Rattle.dnssec_policy.specs.Text.Writing.{renewal_text, renewals_text, rolls_text};
-ghost use Rattle.dnssec_policy.specs.Text.Writing.{word_name};
 
-use super::wish::WishWord;
+use super::wish::{WishWord, word_name};
 use crate::policy::{KeyRole, Policy, Scheme, Term};
 use dnssec_key::roll_name;
 use dnssec_keyset::{RollType, UnixTime};
@@ -136,19 +135,4 @@ fn push_number(text: &mut String, number: u128) -> Result<(), AllocError>
     ensures { OnOk result (string_bytes text.new ≡ string_bytes text.old ++ decimal number) }
 {
     write!(text, "{number}")
-}
-
-/// The name of a word.
-fn word_name(word: WishWord) -> &'static str
-    ensures { result.now ≡ word_name word }
-{
-    match word {
-        WishWord::Lifetime(KeyRole::Ksk) => "ksk-lifetime",
-        WishWord::Lifetime(KeyRole::Zsk) => "zsk-lifetime",
-        WishWord::Lifetime(KeyRole::Csk) => "csk-lifetime",
-        WishWord::Once(KeyRole::Ksk) => "ksk-once",
-        WishWord::Once(KeyRole::Zsk) => "zsk-once",
-        WishWord::Once(KeyRole::Csk) => "csk-once",
-        WishWord::DeleteAfter => "delete-after",
-    }
 }
