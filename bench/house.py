@@ -41,7 +41,7 @@ from sources import bodies, code, sources
 from tests.gate import type_names
 
 # They belong to the gate, and not to the product.
-GATE = {"callers", "courses", "dnssec_tests"}
+GATE = {"callers", "dnssec_tests"}
 # How long a body, a function of Python, a file and a line may be.
 BODY, FUNCTION, FILE, LINE = 60, 25, 400, 100
 CODE = {".rt", ".py", ".rs", ".c", ".h", ".go", ".sh", ".in"}
