@@ -1,6 +1,3 @@
--- A user of the key set needn't read these. Contracts of `dnssec_key` that `dnssec_zone` calls name
--- all four.
-pub mod Bits
-pub mod TagIndex
-pub mod Counts
+-- A user of the key set needn't read this: the words of a roll's column, which the contracts that
+-- `dnssec_zone` calls name.
 pub mod Columns

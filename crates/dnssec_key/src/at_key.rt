@@ -15,11 +15,10 @@ ghost use Rattle.dnssec_key.specs.Inner.Columns.{column_of};
 use crate::column::KeyMove::{AtEachRole, AtEachState, AtRoles};
 use crate::column::RoleMove::{SetAtParent, SetPresent, SetSigner, SetStale, Stays, TurnsOld};
 use crate::column::{Column, KeyMove, KeyTest, RoleMove, RoleTest};
-use crate::key::Key;
+use crate::key::{Key, KeyState};
 use crate::kind::KeyType;
 use crate::roll::{Half, PhaseEnd, RollType};
 use crate::setting::Setting;
-use crate::state::KeyState;
 use dnssec_base::{KeyTimestamps, Stamp, UnixTime, write_stamp};
 
 impl RoleTest {

@@ -1,17 +1,171 @@
-//! Keys, and how many of them serve for what a start wants.
-ghost use Rattle.std.specs.Prelude.{◌≡◌, IfOk, IsOkUnless, string_bytes};
-ghost use Rattle.std.specs.Option.{option_map};
+//! Keys, and the state of a key in each of its roles.
+ghost use Rattle.std.specs.Prelude.{◌≡◌, IfOk, IsOkUnless, Some, false, string_bytes};
+ghost use Rattle.std.specs.Option.{option_map, option_map_or};
 ghost use Rattle.dnssec_key.specs.State.{is_stale, is_fresh, is_kept};
-ghost use Rattle.dnssec_key.specs.Key.{all_states, new_key};
-ghost use Rattle.dnssec_key.specs.Inner.Counts.{count_after, count_of, counts_after, no_counts};
+ghost use Rattle.dnssec_key.specs.State.{kept_present, kept_at_parent};
+ghost use Rattle.dnssec_key.specs.Key.{all_states, is_available, new_key, new_state};
+ghost use Rattle.dnssec_key.specs.Texts.{ending, state_text};
 ghost use Rattle.dnssec_base.specs.declared.error.Error.TheVariants.{OutOfMemory};
 
 use crate::kind::KeyType;
-use crate::roll::Want;
-use crate::state::FRESH;
 use dnssec_base::{Error, KeyTimestamps, SecurityAlgorithm, UnixTime, new_stamps};
 use std::alloc::AllocError;
+use std::fmt;
 use std::marker::Model;
+
+/// Whether a key may come in by a roll.
+#[derive(Clone, Copy, Debug, PartialEq, Eq)]
+pub enum Available {
+    Available,
+    NotAvailable,
+}
+
+/// The state of a key in one of its roles.
+///
+/// Before a roll takes it in, a role of an available key is fresh. Then it is in use: it signs, is
+/// in the DNSKEY set, or has to have a DS at the parent. Then it is old, and once nothing of it is
+/// left, stale.
+#[derive(Clone, Copy, Debug, Default, PartialEq)]
+pub struct KeyState {
+    pub(crate) available: bool,
+    pub(crate) old: bool,
+    pub(crate) signer: bool,
+    pub(crate) present: bool,
+    pub(crate) at_parent: bool,
+}
+
+impl Model for KeyState {
+    ghost use Rattle.dnssec_key.specs.State.{Flags};
+
+    ghost Value = { Flags };
+
+    ghost view = { λ s. record {
+      available = s.available;
+      old = s.old;
+      signer = s.signer;
+      present = s.present;
+      at_parent = s.at_parent;
+    } };
+
+    ghost inverse = { λ s. record {
+      available = s.available;
+      old = s.old;
+      signer = s.signer;
+      present = s.present;
+      at_parent = s.at_parent;
+    } };
+}
+
+/// The state of a role that may come in, and has not begun to.
+pub(crate) const FRESH: KeyState = KeyState {
+    available: true,
+    old: false,
+    signer: false,
+    present: false,
+    at_parent: false,
+};
+
+impl KeyState {
+    /// The state of a role that no roll has taken in yet.
+    pub fn new(available: Available) -> KeyState
+        ensures { result ≡ new_state (is_available available) }
+    {
+        KeyState {
+            available: available == Available::Available,
+            ..FRESH
+        }
+    }
+
+    /// Whether the role is on its way out.
+    pub fn old(&self) -> bool
+        ensures { result ≡ self.now.old }
+    {
+        self.old
+    }
+
+    /// Whether the key signs in this role: the DNSKEY set as a KSK, the zone as a ZSK.
+    pub fn signer(&self) -> bool
+        ensures { result ≡ self.now.signer }
+    {
+        self.signer
+    }
+
+    /// Whether the key is in the DNSKEY set.
+    pub fn present(&self) -> bool
+        ensures { result ≡ self.now.present }
+    {
+        self.present
+    }
+
+    /// Whether the parent has to have a DS record for the key.
+    pub fn at_parent(&self) -> bool
+        ensures { result ≡ self.now.at_parent }
+    {
+        self.at_parent
+    }
+
+    /// Whether the role has left: it is old, doesn't sign, isn't in the DNSKEY set and has no DS at
+    /// the parent.
+    pub fn stale(&self) -> bool
+        ensures { result ≡ is_stale self.now }
+    {
+        self.old && !self.signer && !self.present && !self.at_parent
+    }
+}
+
+/// Whether the role is there, in the DNSKEY set, and not old.
+pub fn is_kept_present(role: Option<KeyState>) -> bool
+    ensures { result ≡ option_map_or kept_present role false }
+{
+    role.is_some_and(|state| !state.old && state.present)
+}
+
+/// Whether the role is there, has to have a DS at the parent, and is not old.
+pub fn is_kept_at_parent(role: Option<KeyState>) -> bool
+    ensures { result ≡ option_map_or kept_at_parent role false }
+{
+    role.is_some_and(|state| !state.old && state.at_parent)
+}
+
+impl fmt::Display for KeyState {
+    ghost output = { λ s. Some (state_text s) };
+
+    /// Writes the flags that are set, and the part that such a key plays in a roll, as
+    /// `Signer, Present (Active)`.
+    fn fmt<W: fmt::Write>(&self, f: &mut fmt::Formatter<W>) -> fmt::Result {
+        let words = [
+            (self.old, "Old"),
+            (self.signer, "Signer"),
+            (self.present, "Present"),
+            (self.at_parent, "At Parent"),
+        ];
+        let mut separator = "";
+        for (is_set, word) in words {
+            if is_set {
+                write!(f, "{separator}{word}")?;
+                separator = ", ";
+            }
+        }
+        f.write_str(self.ending())
+    }
+}
+
+impl KeyState {
+    /// What stands at the end of the text: the part that a key in this state plays in a roll.
+    fn ending(&self) -> &'static str
+        ensures { result.now ≡ ending self.now.old self.now.signer self.now.present }
+    {
+        match (self.old, self.signer, self.present) {
+            (false, false, false) => "(Future)",
+            (false, false, true) => " (Incoming)",
+            (false, true, true) => " (Active)",
+            (true, true, true) => " (Leaving)",
+            (true, false, true) => " (Retired)",
+            (true, false, false) => " (Stale)",
+            (_, true, false) => "",
+        }
+    }
+}
 
 /// A key of a key set.
 #[derive(Debug, Drop)]
@@ -164,91 +318,6 @@ impl Key {
         match self.keytype {
             KeyType::Ksk(state) | KeyType::Zsk(state) | KeyType::Include(state) => !state.old,
             KeyType::Csk(ksk, zsk) => !ksk.old && !zsk.old,
-        }
-    }
-}
-
-/// For each want, how many keys meet it by the states of their roles, whether a start lists them as
-/// old or not.
-#[derive(Clone, Copy)]
-pub struct Counts {
-    present_ksk: usize,
-    ksk_at_parent: usize,
-    present_zsk: usize,
-    present_ksk_role: usize,
-    present_zsk_role: usize,
-}
-
-/// Whether a key comes into the counts, or goes out of them.
-#[derive(Clone, Copy)]
-pub enum Counting {
-    OneMore,
-    OneLess,
-}
-
-impl Counting {
-    /// Changes a count, if the key serves.
-    fn change(self, count: &mut usize, serves: bool)
-        ensures { count.new ≡ count_after serves self count.old }
-    {
-        if serves {
-            *count = match self {
-                Counting::OneMore => count.saturating_add(1),
-                Counting::OneLess => count.saturating_sub(1),
-            };
-        }
-    }
-}
-
-impl Counts {
-    /// The counts of no keys.
-    pub fn none() -> Counts
-        ensures { result ≡ no_counts }
-    {
-        Counts {
-            present_ksk: 0,
-            ksk_at_parent: 0,
-            present_zsk: 0,
-            present_ksk_role: 0,
-            present_zsk_role: 0,
-        }
-    }
-
-    /// How many keys meet a want.
-    pub fn of(&self, want: Want) -> usize
-        ensures { result ≡ count_of self.now want }
-    {
-        match want {
-            Want::PresentKsk => self.present_ksk,
-            Want::KskAtParent => self.ksk_at_parent,
-            Want::PresentZsk => self.present_zsk,
-            Want::PresentKskRole => self.present_ksk_role,
-            Want::PresentZskRole => self.present_zsk_role,
-        }
-    }
-
-    /// Counts a key, or counts it no longer.
-    pub fn count(&mut self, keytype: &KeyType, counting: Counting)
-        ensures { self.new ≡ counts_after counting keytype.now self.old }
-    {
-        match *keytype {
-            KeyType::Ksk(ksk) => {
-                let present = !ksk.old && ksk.present;
-                let at_parent = !ksk.old && ksk.at_parent;
-                counting.change(&mut self.present_ksk, present);
-                counting.change(&mut self.present_ksk_role, present);
-                counting.change(&mut self.ksk_at_parent, at_parent);
-            }
-            KeyType::Zsk(zsk) => {
-                let present = !zsk.old && zsk.present;
-                counting.change(&mut self.present_zsk, present);
-                counting.change(&mut self.present_zsk_role, present);
-            }
-            KeyType::Csk(ksk, zsk) => {
-                counting.change(&mut self.present_ksk_role, !ksk.old && ksk.present);
-                counting.change(&mut self.present_zsk_role, !zsk.old && zsk.present);
-            }
-            KeyType::Include(_) => {}
         }
     }
 }

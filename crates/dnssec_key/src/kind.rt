@@ -3,7 +3,7 @@ ghost use Rattle.std.specs.Prelude.{◌≡◌};
 ghost use Rattle.dnssec_key.specs.Key.{ksk_state, zsk_state, ksk_role_state, zsk_role_state};
 ghost use Rattle.dnssec_key.specs.Key.{key_state, zone_key_state};
 
-use crate::state::KeyState;
+use crate::key::KeyState;
 
 /// The kind of a key, with the state of each of its roles.
 #[derive(Clone, Copy, Debug, PartialEq)]
