@@ -3,7 +3,7 @@
 //! them: whoever has a key set can't change a key outside its calls.
 ghost use Rattle.std.specs.Prelude.{◌≡◌, false};
 ghost use Rattle.std.specs.Option.{option_map_or};
-ghost use Rattle.dnssec_key.specs.RollTable.{at_roles, comes_in_signing, leaves_dnskey};
+ghost use Rattle.dnssec_key.specs.RollTable.{leaves_dnskey};
 ghost use Rattle.dnssec_key.specs.RollTable.{half_of, after_end};
 ghost use Rattle.dnssec_key.specs.RollTable.{key_by, old_at_start, new_at_early_end};
 ghost use Rattle.dnssec_key.specs.RollTable.{old_at_early_end};
@@ -63,7 +63,6 @@ impl KeyTest {
         ensures { result ≡ keys_of self key.now }
     {
         match self {
-            KeyTest::EveryKey => true,
             KeyTest::Ksk(test) => test.is_passed_by(key.ksk()),
             KeyTest::Zsk(test) => test.is_passed_by(key.zsk()),
             KeyTest::KskRole(test) => test.is_passed_by(key.ksk_role()),
@@ -106,7 +105,10 @@ impl RoleMove {
             RoleMove::TurnsOld => state.old = true,
             RoleMove::TurnsBack => state.old = false,
             RoleMove::ComesIn => state.present = true,
-            RoleMove::ComesInSigning => comes_in_signing(state),
+            RoleMove::ComesInSigning => {
+                state.present = true;
+                state.signer = true;
+            }
             RoleMove::DsComesIn => state.at_parent = true,
             RoleMove::DsFollows => {
                 if state.present {
@@ -124,7 +126,8 @@ impl RoleMove {
                 if state.old && state.present {
                     leaves_dnskey(state);
                 } else if !state.old && state.at_parent {
-                    comes_in_signing(state);
+                    state.present = true;
+                    state.signer = true;
                 }
             }
             RoleMove::LeavesDnskey => leaves_dnskey(state),
@@ -157,14 +160,6 @@ impl RoleMove {
     }
 }
 
-/// The key goes into the DNSKEY set, and signs.
-fn comes_in_signing(state: &mut KeyState)
-    ensures { state.exit.now ≡ comes_in_signing state.entry.now }
-{
-    state.present = true;
-    state.signer = true;
-}
-
 /// The key drops out of the DNSKEY set, and signs no more.
 fn leaves_dnskey(state: &mut KeyState)
     ensures { state.exit.now ≡ leaves_dnskey state.entry.now }
@@ -179,45 +174,29 @@ impl KeyMove {
     pub(crate) fn at(self, key: &mut KeyType)
         ensures { key.new ≡ change_of self key.old }
     {
-        match self {
-            KeyMove::NoRole => {}
-            KeyMove::AtKsk(does) => {
-                if let KeyType::Ksk(state) = key {
+        let (ksk, zsk) = match (self, &*key) {
+            (KeyMove::AtKsk(does), KeyType::Ksk(_)) => (does, Stays),
+            (KeyMove::AtZsk(does), KeyType::Zsk(_)) => (Stays, does),
+            (KeyMove::AtRoles(ksk, zsk), _) => (ksk, zsk),
+            (KeyMove::AtEachRole(does) | KeyMove::AtEachState(does), _) => (does, does),
+            (KeyMove::AtEachRoleIf(test, does), key) if test.is_passed_by(key.first_role()) => {
+                (does, does)
+            }
+            _ => return,
+        };
+        match key {
+            KeyType::Ksk(state) => ksk.at(state),
+            KeyType::Zsk(state) => zsk.at(state),
+            KeyType::Csk(ksk_state, zsk_state) => {
+                ksk.at(ksk_state);
+                zsk.at(zsk_state);
+            }
+            KeyType::Include(state) => {
+                if let KeyMove::AtEachState(does) = self {
                     does.at(state);
                 }
             }
-            KeyMove::AtZsk(does) => {
-                if let KeyType::Zsk(state) = key {
-                    does.at(state);
-                }
-            }
-            KeyMove::AtRoles(ksk, zsk) => at_roles(ksk, zsk, key),
-            KeyMove::AtEachRole(does) => at_roles(does, does, key),
-            KeyMove::AtEachRoleIf(test, does) => {
-                if test.is_passed_by(key.first_role()) {
-                    at_roles(does, does, key);
-                }
-            }
-            KeyMove::AtEachState(does) => match key {
-                KeyType::Include(state) => does.at(state),
-                _ => at_roles(does, does, key),
-            },
         }
-    }
-}
-
-/// The one happens to each KSK role, the other to each ZSK role.
-fn at_roles(ksk: RoleMove, zsk: RoleMove, key: &mut KeyType)
-    ensures { key.new ≡ at_roles (move_of ksk) (move_of zsk) key.old }
-{
-    match key {
-        KeyType::Ksk(state) => ksk.at(state),
-        KeyType::Zsk(state) => zsk.at(state),
-        KeyType::Csk(ksk_state, zsk_state) => {
-            ksk.at(ksk_state);
-            zsk.at(zsk_state);
-        }
-        KeyType::Include(_) => {}
     }
 }
 
@@ -256,7 +235,9 @@ pub fn mark_new(key: &mut Key, column: &Column, now: UnixTime)
     ensures { key.new
         ≡ key_by (column_of column.now).comes (column_of column.now).writes now key.old }
 {
-    write_stamps(column.writes, &key.keytype, now, &mut key.timestamps);
+    if column.publishes {
+        write_stamp(&mut key.timestamps, Stamp::Published, now);
+    }
     column.comes.at(&mut key.keytype);
 }
 

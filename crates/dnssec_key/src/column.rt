@@ -20,7 +20,6 @@ pub(crate) enum RoleTest {
 /// The keys with a role that passes.
 #[derive(Clone, Copy)]
 pub(crate) enum KeyTest {
-    EveryKey,
     /// KSKs, but no CSKs.
     Ksk(RoleTest),
     /// ZSKs, but no CSKs.
@@ -110,10 +109,10 @@ pub struct Column {
     pub changes_algorithms: bool,
     /// What a start puts on a new key.
     pub(crate) comes: KeyMove,
-    /// The stamps that it writes on it.
-    pub(crate) writes: Writes,
+    /// Whether it publishes the key, and so writes that stamp on it.
+    pub(crate) publishes: bool,
     /// The actions due after the start.
-    pub(crate) asks: &'static [Action],
+    pub asks: &'static [Action],
     /// What an early end takes from a new key.
     pub(crate) goes: KeyMove,
     /// What it takes from an old one.

@@ -12,7 +12,7 @@ ghost use Rattle.dnssec_key.specs.Texts.{roll_name, NamesRoll};
 ghost use Rattle.dnssec_key.specs.Inner.Columns.{half_roll_of, column_of};
 
 use crate::column::KeyMove::{AtEachRole, AtEachRoleIf, AtKsk, AtRoles, AtZsk, NoRole};
-use crate::column::KeyTest::{AnyKey, EitherRole, EveryKey, Ksk, KskRole, ZoneKey, Zsk, ZskRole};
+use crate::column::KeyTest::{AnyKey, EitherRole, Ksk, KskRole, ZoneKey, Zsk, ZskRole};
 use crate::column::RoleMove::{
     ComesIn, ComesInSigning, DsComesIn, DsFollows, KeysChangePlaces, LeavesDnskey, LeavesDnskeyIf,
     LeavesParent, LeavesParentIf, LeavesSilently, LeavesSilentlyIf, SignaturesFollow, Stays,
@@ -42,7 +42,7 @@ static KSK_DOUBLE_SIGNATURE: Column = Column {
     wants: &[PresentKsk],
     changes_algorithms: false,
     comes: AtKsk(ComesInSigning),
-    writes: &[(Published, EveryKey)],
+    publishes: true,
     asks: &[UpdateDnskeyRrset, ReportDnskeyPropagated],
     goes: AtKsk(LeavesDnskey),
     returns: AtKsk(TurnsBack),
@@ -74,7 +74,7 @@ static KSK_DOUBLE_DS: Column = Column {
     wants: &[KskAtParent],
     changes_algorithms: false,
     comes: AtKsk(DsComesIn),
-    writes: &[],
+    publishes: false,
     asks: &[CreateCdsRrset, UpdateDsRrset, ReportDsPropagated],
     goes: AtKsk(LeavesParent),
     returns: AtKsk(TurnsBack),
@@ -106,7 +106,7 @@ static ZSK_PRE_PUBLISH: Column = Column {
     wants: &[PresentZsk],
     changes_algorithms: false,
     comes: AtZsk(ComesIn),
-    writes: &[(Published, EveryKey)],
+    publishes: true,
     asks: &[UpdateDnskeyRrset, ReportDnskeyPropagated],
     goes: AtZsk(LeavesSilently),
     returns: AtZsk(TurnsBack),
@@ -138,7 +138,7 @@ static ZSK_DOUBLE_SIGNATURE: Column = Column {
     wants: &[PresentZsk],
     changes_algorithms: false,
     comes: AtZsk(ComesInSigning),
-    writes: &[(Published, EveryKey)],
+    publishes: true,
     asks: &[
         UpdateDnskeyRrset,
         UpdateRrsig,
@@ -188,7 +188,7 @@ static CSK_ROLL: Column = Column {
     wants: &[PresentKskRole, PresentZskRole],
     changes_algorithms: false,
     comes: AtRoles(ComesInSigning, ComesIn),
-    writes: &[(Published, EveryKey)],
+    publishes: true,
     asks: &[UpdateDnskeyRrset, ReportDnskeyPropagated],
     goes: AtRoles(LeavesDnskey, LeavesSilently),
     returns: AtEachRole(TurnsBack),
@@ -229,7 +229,7 @@ static ALGORITHM_ROLL: Column = Column {
     wants: &[PresentKskRole, PresentZskRole],
     changes_algorithms: true,
     comes: AtEachRole(ComesInSigning),
-    writes: &[(Published, EveryKey)],
+    publishes: true,
     asks: &[
         UpdateDnskeyRrset,
         UpdateRrsig,
@@ -281,6 +281,7 @@ impl RollType {
         ensures side { result.now.side ≡ side_of self }
         ensures wants { result.now.wants.now ≡ wants self }
         ensures algorithms { result.now.changes_algorithms ≡ may_change_algorithms self }
+        ensures asks { result.now.asks.now ≡ (column self).asks }
         ensures kept_first { result.now.first.moves_kept ≡ wait_moves_kept self TheFirst }
         ensures kept_second { result.now.second.moves_kept ≡ wait_moves_kept self TheSecond }
     {

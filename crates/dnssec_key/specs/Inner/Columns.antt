@@ -1,5 +1,5 @@
 -- What the columns of the code mean: the words of a column are those of the table of rolls.
-use Rattle.std.specs.{Prelude.Bool, Prelude.◌||◌, Prelude.List, List.fold}
+use Rattle.std.specs.{Prelude.Bool, Prelude.◌||◌, Prelude.List, Prelude.if◌then◌else◌, List.fold}
 use Rattle.dnssec_key.specs.State.{Flags, kept_present, kept_at_parent, old_present, is_old}
 use Rattle.dnssec_key.specs.State.{is_leaving, old_at_parent, kept_signing, old_silent}
 use Rattle.dnssec_key.specs.Key.{ksk, zsk, every_key, ksk_role, zsk_role, any_key, either}
@@ -42,7 +42,6 @@ test_of test.OldSilent = old_silent
 
 -- the keys of which a role passes
 abbrev pub keys_of : KeyTest → KeyType → Bool
-keys_of keys.EveryKey = every_key
 keys_of (keys.Ksk t) = ksk (test_of t)
 keys_of (keys.Zsk t) = zsk (test_of t)
 keys_of (keys.KskRole t) = ksk_role (test_of t)
@@ -109,7 +108,7 @@ half_roll_of h = record {
 abbrev pub column_of : Column → ColumnOfRoll
 column_of c = record {
   comes = change_of c.comes;
-  writes = writes_of c.writes.now;
+  writes = if c.publishes then record writes_nothing { published = every_key } else writes_nothing;
   asks = c.asks.now;
   goes = change_of c.goes;
   returns = change_of c.returns;
