@@ -9,7 +9,8 @@ use std::marker::Model;
 /// Every number is accepted, also one that the registry leaves free.
 #[derive(Clone, Copy, Debug, PartialEq, Eq, Hash)]
 pub struct SecurityAlgorithm {
-    number: u8,
+    /// The number.
+    pub number: u8,
 }
 
 impl Model for SecurityAlgorithm {
