@@ -3,10 +3,8 @@
 //! them: whoever has a key set can't change a key outside its calls.
 ghost use Rattle.std.specs.Prelude.{◌≡◌, false};
 ghost use Rattle.std.specs.Option.{option_map_or};
-ghost use Rattle.dnssec_key.specs.RollTable.{leaves_dnskey};
-ghost use Rattle.dnssec_key.specs.RollTable.{half_of, after_end};
-ghost use Rattle.dnssec_key.specs.RollTable.{key_by, old_at_start, new_at_early_end};
-ghost use Rattle.dnssec_key.specs.RollTable.{old_at_early_end};
+ghost use Rattle.dnssec_key.specs.RollTable.{leaves_dnskey, half_of, after_end, key_by};
+ghost use Rattle.dnssec_key.specs.RollTable.{old_at_start, new_at_early_end, old_at_early_end};
 ghost use Rattle.dnssec_key.specs.Setters.{setting_of, set_by};
 ghost use Rattle.dnssec_key.specs.Stamping.{stamps_after};
 ghost use Rattle.dnssec_key.specs.Inner.Columns.{test_of, keys_of, move_of, change_of, writes_of};
@@ -235,10 +233,10 @@ pub fn mark_new(key: &mut Key, column: &Column, now: UnixTime)
     ensures { key.new
         ≡ key_by (column_of column.now).comes (column_of column.now).writes now key.old }
 {
+    column.comes.at(&mut key.keytype);
     if column.publishes {
         write_stamp(&mut key.timestamps, Stamp::Published, now);
     }
-    column.comes.at(&mut key.keytype);
 }
 
 /// A roll that listed the key as old is ended early.
