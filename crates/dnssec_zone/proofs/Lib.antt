@@ -2,6 +2,7 @@
 --
 -- | Function or law                  | Lemma                          | Files                    |
 -- |----------------------------------|--------------------------------|--------------------------|
+-- | `TagIndex::empty`                | `zeros`                        | BitWords                 |
 -- | `Keys`: the map that it shows    | ruleset `shown`, `get-walked`  | Walks                    |
 -- | `Derived`: the tags              | `TagsAgree-added` and the like | Tags, Quantified         |
 -- | `Derived`: the counts            | `counts-added` and the like    | Counted, Walks           |
@@ -17,6 +18,7 @@
 --
 -- `Tests` tests all rolls, options and pairs of flags; `Flags` says by it what flags a key may have
 -- on each side: for the laws of key sets and of runs.
+pub mod BitWords
 pub mod Walks
 pub mod Phases
 pub mod Quantified

@@ -15,7 +15,8 @@ use Rattle.dnssec_zone.specs.{Keys.Keys, Keys.TagsApart}
 use Rattle.dnssec_zone.specs.{Inner.NewKeys.freshness_fault, Inner.Tags.HasListed}
 use Rattle.dnssec_zone.proofs.Quantified.{list_any-map}
 use Rattle.dnssec_key.specs.{declared.roll.RollType.RollType, Key.KeyParts, RollTable.column}
-use Rattle.dnssec_key.specs.{declared.kind.KeyType.KeyType, Inner.Bits.is_set}
+use Rattle.dnssec_key.specs.declared.kind.KeyType.{KeyType}
+use Rattle.dnssec_zone.specs.Inner.Bits.{is_set}
 use Rattle.dnssec_base.specs.declared.error.Error.{Error}
 
 pub is_listed-texts : (rs : List (Bor (List ℕ))) (q : List ℕ) → is_listed (texts rs) q

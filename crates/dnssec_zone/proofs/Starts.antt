@@ -9,7 +9,8 @@ use Rattle.std.specs.{Prelude.Option, Prelude.◌&&◌, Prelude.◌||◌, Prelud
 use Rattle.std.specs.{FinMap.get, Int.bit_at, Option.option_map_or, Str.bytes_eq}
 use Rattle.std.specs.{Cmp.Lexicographic.bytes_decides, Cmp.both_ways}
 use Rattle.dnssec_base.specs.declared.error.Error.{Error}
-use Rattle.dnssec_key.specs.{Key.KeyParts, Inner.Bits.is_set}
+use Rattle.dnssec_key.specs.Key.{KeyParts}
+use Rattle.dnssec_zone.specs.Inner.Bits.{is_set}
 use Rattle.dnssec_zone.specs.{Start.Want, Start.has_algorithm, Inner.NewKeys.AreOf}
 use Rattle.dnssec_zone.specs.{Inner.NewKeys.some_serves, declared.check.NewKeys.NewKeys, Keys.Keys}
 use Rattle.dnssec_zone.specs.{Refusals.AnswersExactly}

@@ -1,11 +1,12 @@
 //! Why a start is refused for its keys. Nothing is changed here.
 ghost use Rattle.std.specs.Prelude.{◌≡◌, ℕ, Bool, List, [], false, not, ◌&&◌, ◌||◌, length, None};
-ghost use Rattle.std.specs.Prelude.{Some, Option, IfOk, IfErr, OnOk, nat_eq};
-ghost use Rattle.std.specs.Prelude.{if◌then◌else◌};
+ghost use Rattle.std.specs.Prelude.{Some, Option, IfOk, IfErr, OnOk, nat_eq, if◌then◌else◌, ◌<◌};
+ghost use Rattle.std.specs.Prelude.{◌/◌};
 ghost use Rattle.std.specs.{List.list_all, Option.option_map_or};
 ghost use Rattle.std.specs.Str.{bytes_eq};
 ghost use Rattle.std.specs.FinMap as map;
-ghost use Rattle.dnssec_key.specs.{Inner.Bits.is_set, Key.KeyParts};
+ghost use Rattle.dnssec_key.specs.Key.{KeyParts};
+ghost use Rattle.dnssec_zone.specs.Inner.Bits.{is_set};
 ghost use Rattle.dnssec_zone.specs.Inner.Counts.{count_in, listed_passes};
 ghost use Rattle.dnssec_zone.specs.Inner.NewKeys.{AreOf, freshness_fault, some_serves};
 ghost use Rattle.dnssec_zone.specs.Inner.Tags.{HasListed};
@@ -18,9 +19,40 @@ ghost use Rattle.dnssec_zone.specs.Refusals.{AnswersExactly};
 
 use crate::keys::Keys;
 use dnssec_key::{
-    AlgorithmSet, Column, Error, Key, KeyType, RollType, Side, TagSet, Want, is_kept_at_parent,
-    is_kept_present, is_set, set,
+    Column, Error, Key, KeyType, RollType, Side, Want, is_kept_at_parent, is_kept_present,
 };
+
+/// A bit for each key tag.
+pub(crate) type TagSet = [u64; 1024];
+
+/// A bit for each algorithm.
+pub type AlgorithmSet = [u64; 4];
+
+/// Whether a number is in a set.
+pub(crate) fn is_set(words: &[u64], number: u16) -> bool
+    ensures { result ≡ is_set words.now number }
+{
+    match words.get(usize::from(number / 64)) {
+        None => false,
+        Some(word) => (*word >> (number % 64)) & 1 == 1,
+    }
+}
+
+/// Puts a number into a set that has a bit for it, or takes it out.
+pub(crate) fn set(words: &mut [u64], number: u16, is_in: bool)
+    requires { number / 64 < length words.old }
+    ensures len { length words.new ≡ length words.old }
+    ensures put { (n : ℕ) → is_set words.new n
+        ≡ (if nat_eq number n then is_in else is_set words.old n) }
+{
+    let at = usize::from(number / 64);
+    let bit = 1u64 << (number % 64);
+    words[at] = if is_in {
+        words[at] | bit
+    } else {
+        words[at] & !bit
+    };
+}
 
 /// A list of more entries is long.
 const ENTRIES_OF_SHORT_LIST: usize = 4;
@@ -121,7 +153,7 @@ impl Keys {
         ensures fault { IfErr result (λ fault.
             old_entry_fault roll (map.get self.now reference.now) ≡ Some fault) }
     {
-        let Some(key) = self.get(reference) else {
+        let Some(key) = self.as_map().get(reference) else {
             return Err(Error::KeyNotFound);
         };
         match (roll.column().side, key.keytype()) {
@@ -138,7 +170,7 @@ impl Keys {
         ensures listed { (listed : List ℕ → Bool) → HasListed tags.old self.now listed
             → HasListed tags.new self.now (λ q. listed q || bytes_eq reference.now q) }
     {
-        if let Some(key) = self.get(reference) {
+        if let Some(key) = self.as_map().get(reference) {
             set(tags, key.key_tag(), true);
         }
     }
@@ -280,7 +312,7 @@ impl Keys {
             && not (is_listed (texts earlier.now) reference.now))
             (map.get self.now reference.now) false }
     {
-        match self.get(reference) {
+        match self.as_map().get(reference) {
             None => false,
             Some(key) => serves_as_kept(want, key.keytype()) && !is_listed(earlier, reference),
         }
@@ -291,7 +323,7 @@ impl Keys {
         ensures { result ≡ option_map_or (λ k. serves_as_kept want k.keytype
             && not (is_set earlier.now k.key_tag)) (map.get self.now reference.now) false }
     {
-        match self.get(reference) {
+        match self.as_map().get(reference) {
             None => false,
             Some(key) => { serves_as_kept(want, key.keytype()) && !is_set(earlier, key.key_tag()) }
         }

@@ -13,7 +13,7 @@ mod mark;
 mod rolls;
 mod wait_end;
 
-pub use check::{NewKeys, may_go_over};
+pub use check::{AlgorithmSet, NewKeys, may_go_over};
 pub use keys::Keys;
 pub use lists::{Lists, Part, same_part};
 pub use mark::KeyMark;

@@ -5,15 +5,16 @@ ghost use Rattle.std.specs.Option.{option_map};
 ghost use Rattle.std.specs.FinMap as map;
 ghost use Rattle.dnssec_base.specs.declared.error.Error.TheVariants.{OutOfMemory};
 ghost use Rattle.dnssec_key.specs.RollTable.{after_early_end};
-ghost use Rattle.dnssec_key.specs.Inner.Bits.{is_set};
+ghost use Rattle.dnssec_zone.specs.Inner.Bits.{is_set};
 ghost use Rattle.dnssec_zone.specs.{Lists.same_part, Start.texts};
 ghost use Rattle.dnssec_zone.specs.Inner.Entries.{is_of, is_of_roll, entries_after_report};
 ghost use Rattle.dnssec_zone.specs.Inner.Entries.{entries_at_start, entries_of};
 ghost use Rattle.dnssec_zone.specs.Inner.Entries.{has_entry, without_roll, without_tag};
 ghost use Rattle.dnssec_zone.specs.declared.lists.Part.TheVariants.{Old, New};
 
+use crate::check::{TagSet, set};
 use crate::keys::Keys;
-use dnssec_key::{Error, Half, RollType, TagSet, set};
+use dnssec_key::{Error, Half, RollType};
 use std::alloc::Global;
 
 /// The part that a key plays in a roll.
@@ -127,7 +128,7 @@ impl Lists {
         ensures capacity { vec_capacity self.new.entries ≡ vec_capacity self.old.entries }
     {
         for reference in references {
-            match keys.get(reference) {
+            match keys.as_map().get(*reference) {
                 Some(key) if key.is_kept() => {
                     let key_tag = key.key_tag();
                     self.entries.push_reserved(ListedKey {

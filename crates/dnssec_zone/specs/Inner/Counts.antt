@@ -1,5 +1,5 @@
 -- How many keys pass a test.
-use Rattle.std.specs.Prelude.{◌≡◌, ℕ, ◌+◌, Bool, true, false, not, ◌&&◌, Option, None}
+use Rattle.std.specs.Prelude.{◌≡◌, ℕ, ◌+◌, ◌-◌, min, Bool, true, false, not, ◌&&◌, Option, None}
 use Rattle.std.specs.Prelude.{Some, List, [], ◌∷◌, ◌≤◌}
 use Rattle.std.specs.FinMap.{entries}
 use Rattle.dnssec_key.specs.declared.kind.KeyType.{KeyType}
@@ -9,9 +9,12 @@ use Rattle.dnssec_key.specs.declared.roll.{Half.Half, RollType.RollType}
 use Rattle.dnssec_key.specs.{Key.KeyParts, Sides.wait_moves_kept}
 use Rattle.dnssec_key.specs.Setters.{Setting, Present, AtParent, Stale}
 use Rattle.dnssec_zone.specs.Keys.{Keys}
-use Rattle.dnssec_key.specs.declared.key.Counts.{Counts}
-pub use Rattle.dnssec_key.specs.Inner.Counts.{count_of, no_counts, with_key, without_key}
+use Rattle.dnssec_zone.specs.declared.keys.Counts.{Counts}
+use Rattle.dnssec_zone.specs.declared.keys.Counting.{Counting}
+use Rattle.dnssec_zone.specs.declared.keys.Counting.TheVariants.{OneMore, OneLess}
 use Rattle.dnssec_zone.specs.Start.{is_listed, serves_as_kept, Want}
+use Rattle.dnssec_zone.specs.Start.{PresentKsk, KskAtParent, PresentZsk, PresentKskRole}
+use Rattle.dnssec_zone.specs.Start.{PresentZskRole}
 
 abbrev pub bit : Bool → ℕ
 bit true = 1
@@ -44,6 +47,47 @@ module _ (p : KeyType → Bool) where
   passes q k = p k.keytype
 
 -- ---- the counts that are kept
+
+abbrev pub count_of : Counts → Want → ℕ
+count_of c PresentKsk = c.present_ksk
+count_of c KskAtParent = c.ksk_at_parent
+count_of c PresentZsk = c.present_zsk
+count_of c PresentKskRole = c.present_ksk_role
+count_of c PresentZskRole = c.present_zsk_role
+
+-- the counts that f gives
+abbrev pub counts_by : (Want → ℕ) → Counts
+counts_by f = record {
+  present_ksk = f PresentKsk;
+  ksk_at_parent = f KskAtParent;
+  present_zsk = f PresentZsk;
+  present_ksk_role = f PresentKskRole;
+  present_zsk_role = f PresentZskRole;
+}
+
+-- the counts of no keys
+abbrev pub no_counts : Counts
+no_counts = counts_by (λ w. 0)
+
+-- a key that serves adds one as it comes in, up to the greatest number that is kept, and takes one
+-- as it goes out
+abbrev pub count_after : Bool → Counting → ℕ → ℕ
+count_after false counting n = n
+count_after true OneMore n = min 18446744073709551615 (n + 1)
+count_after true OneLess n = n - 1
+
+-- the counts once a key has come in, or gone out
+abbrev pub counts_after : Counting → KeyType → Counts → Counts
+counts_after counting t c =
+    counts_by (λ w. count_after (serves_as_kept w t) counting (count_of c w))
+
+-- the counts with one key more
+abbrev pub with_key : KeyType → Counts → Counts
+with_key = counts_after OneMore
+
+-- the counts with one key less
+abbrev pub without_key : KeyType → Counts → Counts
+without_key = counts_after OneLess
 
 -- a setter may change the counts; none of them asks whether a key signs
 abbrev pub moves_counts : Setting → Bool

@@ -1,5 +1,5 @@
 -- What is derived of the keys agrees with them.
-use Rattle.dnssec_key.specs.Inner.TagIndex.{has}
+use Rattle.dnssec_zone.specs.Inner.TagIndex.{has}
 use Rattle.dnssec_zone.specs.declared.derived.Derived.{Derived}
 use Rattle.dnssec_zone.specs.Keys.{Keys}
 use Rattle.dnssec_zone.specs.Inner.Counts.{CountsAgree, AreCountable}

@@ -2,7 +2,7 @@
 use Rattle.std.specs.Prelude.{◌≡◌, ℕ, Bool, Option, Some, List, IfSome}
 use Rattle.std.specs.FinMap.{get}
 use Rattle.dnssec_key.specs.Key.{KeyParts}
-use Rattle.dnssec_key.specs.Inner.Bits.{is_set}
+use Rattle.dnssec_zone.specs.Inner.Bits.{is_set}
 use Rattle.dnssec_zone.specs.Keys.{Keys, TagsApart, has_tag}
 
 -- what an index says of a tag is whether some key has it, and no two keys have one tag

@@ -1,7 +1,7 @@
 -- The walk puts in the tag of each key.
 use Rattle.std.proofs.Common.{◌≡◌, Some, ap, rules, sym, ◌∙◌}
 use Rattle.std.specs.{Prelude.nat_eq, List.list_any, HashMap.values}
-use Rattle.dnssec_key.specs.Inner.TagIndex.{has}
+use Rattle.dnssec_zone.specs.Inner.TagIndex.{has}
 use Rattle.dnssec_zone.proofs.Walks.{some_key-shown}
 use Rattle.dnssec_zone.proofs.derived.index_of.Goals as goal
 

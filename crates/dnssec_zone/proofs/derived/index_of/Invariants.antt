@@ -1,7 +1,7 @@
 -- The index has the tags of the keys so far.
 use Rattle.std.proofs.Common.{◌≡◌, ℕ, Some, nat_eq, ◌||◌}
 use Rattle.std.specs.{List.list_any, HashMap.values, Option.option_map}
-use Rattle.dnssec_key.specs.Inner.TagIndex.{has}
+use Rattle.dnssec_zone.specs.Inner.TagIndex.{has}
 use Rattle.dnssec_zone.proofs.derived.index_of.Given as goal
 
 -- what the index has, and what the keys have that are left, is what all have

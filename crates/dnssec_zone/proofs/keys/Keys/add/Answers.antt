@@ -2,7 +2,7 @@
 use Rattle.std.proofs.Common.{◌≡◌, false, None, Some, string_bytes, rules, refl, ap, arith}
 use Rattle.std.proofs.Common.{true, ◌∙◌}
 use Rattle.std.specs.FinMap.{get}
-use Rattle.dnssec_key.specs.Inner.TagIndex.{has}
+use Rattle.dnssec_zone.specs.Inner.TagIndex.{has}
 use Rattle.dnssec_zone.specs.Keys.{keys_in_map, has_tag}
 use Rattle.dnssec_zone.specs.Inner.Counts.{AreCountable}
 use Rattle.dnssec_zone.proofs.{Counted.counts-added, Counted.count-changed, Walks.shown}

@@ -12,5 +12,5 @@ returns-in_default-clause-listed c =
 pub returns-in-Some-clause-listed : goal.returns-in-Some-clause-listed
 returns-in-Some-clause-listed c =
     let found : get c.args.self.now c.args.reference.now ≡ Some c.in-Some.key.now = search rules in
-    listed-put c.args.self.now c.get.ensures.apart c.args.tags.now _ c.args.reference.now
+    listed-put c.args.self.now c.as_map.ensures.apart c.args.tags.now _ c.args.reference.now
     c.in-Some.key.now found (λ t. search rules)

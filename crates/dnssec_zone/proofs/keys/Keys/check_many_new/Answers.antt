@@ -4,9 +4,10 @@ use Rattle.dnssec_zone.proofs.Marks.{any-more, fault-from, listed_more, new-faul
 use Rattle.dnssec_zone.proofs.Marks.{or_joined}
 use Rattle.std.proofs.{Math.Seq.take-length, Math.Bool.or-false}
 use Rattle.std.specs.{Prelude.◌||◌, Prelude.nat_eq, Option.option_map_or}
-use Rattle.dnssec_key.specs.{Inner.Bits.is_set, Key.KeyParts}
+use Rattle.dnssec_key.specs.Key.{KeyParts}
+use Rattle.dnssec_zone.specs.Inner.Bits.{is_set}
 use Rattle.dnssec_zone.specs.Start.{texts, is_listed, serves_as_new}
-use Rattle.dnssec_key.proofs.BitWords.{zeros}
+use Rattle.dnssec_zone.proofs.BitWords.{zeros}
 use Rattle.dnssec_zone.proofs.keys.Keys.check_many_new.Goals as goal
 
 pub loop-entry-init : goal.loop-entry-init

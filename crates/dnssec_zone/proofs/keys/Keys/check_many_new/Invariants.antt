@@ -1,7 +1,7 @@
 -- No entry so far has a fault, and the set has the tags of the keys before.
 use Rattle.std.proofs.Common.{◌≡◌, ℕ, length, take, drop, []}
 use Rattle.std.specs.{Prelude.◌||◌, FinMap.get}
-use Rattle.dnssec_key.specs.Inner.Bits.{is_set}
+use Rattle.dnssec_zone.specs.Inner.Bits.{is_set}
 use Rattle.dnssec_zone.specs.Inner.{NewKeys.AreOf, Tags.HasListed}
 use Rattle.dnssec_zone.specs.Start.{texts, is_listed, has_algorithm, new_fault}
 use Rattle.dnssec_zone.proofs.keys.Keys.check_many_new.Given as goal

@@ -1,7 +1,7 @@
 -- No entry so far has a fault.
 use Rattle.std.proofs.Common.{◌≡◌, ℕ, take, drop, []}
 use Rattle.std.specs.FinMap.{get}
-use Rattle.dnssec_key.specs.Inner.Bits.{is_set}
+use Rattle.dnssec_zone.specs.Inner.Bits.{is_set}
 use Rattle.dnssec_zone.specs.Inner.NewKeys.{AreOf}
 use Rattle.dnssec_zone.specs.Start.{texts, has_algorithm, new_fault}
 use Rattle.dnssec_zone.proofs.keys.Keys.check_new.Given as goal

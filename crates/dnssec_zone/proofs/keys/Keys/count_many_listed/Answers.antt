@@ -3,7 +3,7 @@ use Rattle.std.proofs.Common.{◌+◌, refl, rules, arith, sym, ap, ◌∙◌, t
 use Rattle.dnssec_zone.specs.{Inner.Counts.bit, Start.serves_as_kept, Start.texts, Start.is_listed}
 use Rattle.dnssec_zone.proofs.Counted.{count-listed, from_bool-bit, none_listed}
 use Rattle.dnssec_zone.proofs.Marks.{first-listed, listed_more}
-use Rattle.dnssec_key.proofs.BitWords.{zeros}
+use Rattle.dnssec_zone.proofs.BitWords.{zeros}
 use Rattle.dnssec_zone.proofs.keys.Keys.count_many_listed.Goals as goal
 
 pub loop-reference-init : goal.loop-reference-init

@@ -2,7 +2,8 @@
 use Rattle.std.proofs.Common.{◌≡◌, true, None, Some, rules, ap, arith, ◌∙◌}
 use Rattle.std.proofs.lemmas.Map.Text.{hash_map_updates_text}
 use Rattle.std.specs.FinMap.{get}
-use Rattle.dnssec_key.specs.{Inner.TagIndex.has, State.is_stale, Key.all_states}
+use Rattle.dnssec_key.specs.{State.is_stale, Key.all_states}
+use Rattle.dnssec_zone.specs.Inner.TagIndex.{has}
 use Rattle.dnssec_zone.specs.{Inner.Counts.bit, Inner.Counts.passes, Inner.Counts.share}
 use Rattle.dnssec_zone.specs.{Keys.keys_in_map, Start.serves_as_kept}
 use Rattle.dnssec_zone.proofs.{Latest.known-removed, Counted.counts-alike, Counted.stale-serves}

@@ -1,7 +1,8 @@
 -- A key that a setter doesn't suit is written back as it was; else one key is changed.
 use Rattle.std.proofs.Common.{◌≡◌, ℕ, List, Some, rules, sym, subst, ◌∙◌}
 use Rattle.std.specs.{Prelude.if◌then◌else◌, Str.bytes_eq, Option.option_map}
-use Rattle.dnssec_key.specs.{Inner.TagIndex.has, Setters.setting_of, Setters.set_by}
+use Rattle.dnssec_key.specs.Setters.{setting_of, set_by}
+use Rattle.dnssec_zone.specs.Inner.TagIndex.{has}
 use Rattle.dnssec_zone.specs.{Inner.Derived.IsDerived, Keys.keys_in_map}
 use Rattle.dnssec_zone.proofs.{Walks.put-changed, Walks.same-written, Walks.shown}
 use Rattle.dnssec_zone.proofs.{Counted.counts-set, Counted.countable-exchanged, Latest.known-after}

@@ -1,6 +1,7 @@
 -- The walk undoes the start on each key that is listed; all are counted again.
 use Rattle.std.proofs.Common.{rules}
-use Rattle.dnssec_key.specs.{RollTable.after_early_end, Inner.Bits.is_set}
+use Rattle.dnssec_key.specs.RollTable.{after_early_end}
+use Rattle.dnssec_zone.specs.Inner.Bits.{is_set}
 use Rattle.dnssec_zone.proofs.Walks.{IsWalked, get-walked, retained}
 use Rattle.dnssec_zone.proofs.Counted.{countable-kept}
 use Rattle.dnssec_zone.proofs.Tags.{tags-walked, kept_unmarked}

@@ -1,6 +1,6 @@
 -- No tag is in the set at first.
 use Rattle.std.proofs.Common.{refl}
-use Rattle.dnssec_key.proofs.BitWords.{zeros}
+use Rattle.dnssec_zone.proofs.BitWords.{zeros}
 use Rattle.dnssec_zone.proofs.lists.Lists.tags.Goals as goal
 
 pub loop-entry-init : goal.loop-entry-init

@@ -1,6 +1,6 @@
 -- The tags that have been put in so far.
 use Rattle.std.proofs.Common.{◌≡◌, ℕ, length, take}
-use Rattle.dnssec_key.specs.Inner.Bits.{is_set}
+use Rattle.dnssec_zone.specs.Inner.Bits.{is_set}
 use Rattle.dnssec_zone.specs.Inner.Entries.{has_entry}
 use Rattle.dnssec_zone.proofs.lists.Lists.tags.Given as goal
 
