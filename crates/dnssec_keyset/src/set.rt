@@ -1,4 +1,4 @@
-//! The key set: its keys and its rolls in progress.
+//! The key set: its keys and its rolls in progress, and how a roll starts.
 ghost use Rattle.std.specs.Prelude.{◌≡◌, ℕ, List, IfOk, IsOkUnless};
 ghost use Rattle.std.specs.FinMap as map;
 ghost use Rattle.std.specs.HashMap as hash;
@@ -6,11 +6,13 @@ ghost use Rattle.dnssec_base.specs.declared.error.Error.TheVariants.{OutOfMemory
 ghost use Rattle.dnssec_key.specs.declared.roll.RollType.{RollType as AnyRoll};
 ghost use Rattle.dnssec_zone.specs.Keys.{keys_in_map};
 ghost use Rattle.dnssec_zone.specs.Rolls.{rolls_in_map, phase_of};
+ghost use Rattle.dnssec_zone.specs.{Refusals.AnswersExactly, Start.texts};
 ghost use Rattle.dnssec_keyset.specs.KeySet.{new_set};
+ghost use Rattle.dnssec_keyset.specs.Step.{Step, StartRoll, reply_list, start_refusal};
 
 use dnssec_base::Name;
-use dnssec_key::{Error, Key, RollState, RollType};
-use dnssec_zone::{Keys, Lists, Rolls};
+use dnssec_key::{Action, Error, Key, RollState, RollType, UnixTime};
+use dnssec_zone::{KeyMark, Keys, Lists, Rolls, may_go_over};
 use std::alloc::Global;
 use std::collections::HashMap;
 use std::marker::Model;
@@ -124,6 +126,69 @@ impl KeySet {
             ≡ phase_of self.now.rolls roll }
     {
         self.rolls.as_map()
+    }
+
+    /// Starts a roll from the keys of `old` to those of `new`, at the moment `now`.
+    ///
+    /// Both lists are of public references. Answers the actions that are due now. An old key may
+    /// have left already, or not have come in yet, and may be listed twice.
+    ///
+    /// # Errors
+    ///
+    /// The first that applies, in this order. Nothing is then changed.
+    ///
+    /// - `WrongStateForRollOperation` if this roll is in progress.
+    /// - `ConflictingRollInProgress` if another roll is that doesn't go with it. Only a roll of
+    ///   KSKs and one of ZSKs go together.
+    /// - `KeyNotFound`, or `WrongKeyType` for a key that the roll doesn't change: for each old key
+    ///   in turn, then for each new one. `WrongKeyState` for a new key that isn't available, was
+    ///   used before, is listed as old too, or is listed twice.
+    /// - `AlgorithmSetsMismatch` if old and new keys differ in their algorithms. Only an algorithm
+    ///   roll allows that.
+    /// - `NoSuitableKeyPresent` if the roll would leave no KSK that is present and not old. A roll
+    ///   of ZSKs asks this of ZSKs, `CskRoll` and `AlgorithmRoll` of both roles. `KskDoubleDsRoll`
+    ///   asks for a DS at the parent in place of present.
+    /// - `OutOfMemory` if memory runs out.
+    ///
+    /// ```rust
+    /// // The actions: publish the DNSKEY set with Z2, and report when all servers have it.
+    /// let actions = set.start_roll(RollType::ZskRoll, &["Z1"], &["Z2"], &now)?;
+    /// ```
+    pub fn start_roll(
+        &mut self,
+        rolltype: RollType,
+        old: &[&str],
+        new: &[&str],
+        now: &UnixTime,
+    ) -> Result<Vec<Action>, Error>
+        // Causes: `start_refusal`, and memory.
+        ensures { Step self.old (StartRoll rolltype (texts old.now) (texts new.now) now.now)
+            (reply_list result) self.new }
+    {
+        self.check_start(rolltype, old, new)?;
+        let actions = Vec::from_slice(self.alloc, rolltype.actions_in(RollState::Propagation1))?;
+        self.lists.make_room(old, new)?;
+        // The last request for memory comes before the first write: nothing after it can fail.
+        self.rolls.put_in(rolltype, RollState::Propagation1)?;
+        self.lists.start(&self.keys, rolltype, old, new);
+        self.keys.mark(old, &KeyMark::AsOld);
+        self.keys.mark(new, &KeyMark::AsNew(rolltype, *now));
+        Ok(actions)
+    }
+
+    /// Refuses a start for the first cause that applies, in the order of `start_roll`.
+    fn check_start(&self, rolltype: RollType, old: &[&str], new: &[&str]) -> Result<(), Error>
+        ensures { AnswersExactly (start_refusal rolltype self.now (texts old.now) (texts new.now))
+            result }
+    {
+        self.rolls.check_conflict(rolltype)?;
+        let of_old = self.keys.check_old(rolltype, old)?;
+        let of_new = self.keys.check_new(rolltype, old, new)?;
+        let column = rolltype.column();
+        if !may_go_over(column, &of_old, &of_new.algorithms) {
+            return Err(Error::AlgorithmSetsMismatch);
+        }
+        self.keys.check_suitability(column.wants, old, &of_new)
     }
 }
 
