@@ -1,12 +1,12 @@
 -- A text of ASCII characters is text: a reference, and the name of a zone, a word, a roll or an
 -- algorithm.
 use Rattle.std.proofs.Common.{◌≡◌, ℕ, ◌<◌, ◌≤◌, ◌∙◌, [], ◌∷◌, ◌&&◌, ◌==◌, Bool, true, false, not}
-use Rattle.std.proofs.Common.{List, ap, arith, codes, cond, length, ◌≢◌, refl, sym}
+use Rattle.std.proofs.Common.{List, ap, arith, codes, cond, length, ◌≢◌, refl, subst, sym}
 use Rattle.std.proofs.lemmas.{Grind.common_steps, Str.IsUtf8-from_ascii, Str.Ascii.IsAscii-from_all}
 use Rattle.std.proofs.lemmas.{List.Sums.AllPass-from_list_all, Bool.Decides.nat_tests}
-use Rattle.std.proofs.lemmas.Bool.{false_from_ne_true, false≢true}
+use Rattle.std.proofs.lemmas.Bool.{false_from_ne_true}
 use Rattle.std.specs.{Prelude.None, Prelude.Some, Prelude.find, Prelude.nat_le, List.list_all}
-use Rattle.std.specs.{Str.IsAscii, Str.IsUtf8, Str.bytes_eq}
+use Rattle.std.specs.{Str.IsAscii, Str.IsNotAscii, Str.IsUtf8, Str.bytes_eq}
 use Rattle.std.specs.{Cmp.Lexicographic.bytes_decides, Option.option_map}
 use Rattle.dnssec_base.{specs.AlgorithmNames.algorithm_named, proofs.AlgorithmNames.no_name}
 use Rattle.dnssec_zone.specs.Rolls.{all_rolls}
@@ -38,6 +38,9 @@ one_below b after le rest =
     let below : is_below b ≡ true = grind (arith, nat_tests) in
     ap (λ x. x && list_all is_below after) below ∙ rest
 
+pub not_ascii : (text : List ℕ) → IsNotAscii text → ¬ IsAscii text
+not_ascii text wide ascii = let below = ascii wide.0 in let above = wide.1 in absurd (omega arith)
+
 -- ---- a reference
 
 last_of_three : (x y z : Bool) → (x && y && z) ≡ true → z ≡ true
@@ -68,13 +71,13 @@ unnamed name text (r ∷ rs) other =
     ap (λ b. cond b (Some r) (find (λ r. bytes_eq (name r) text) rs)) differs
     ∙ unnamed name text rs other.1
 
--- what is no reference isn't the name of any, if all of these are references
-differs : {A : Type 0} (name : A → List ℕ) (text : List ℕ) → false ≡ is_reference text
-    → (rows : List A) → list_all (λ r. is_reference (name r)) rows ≡ true → Differs name text rows
-differs name text other [] are = tt
-differs name text other (r ∷ rs) are =
-    let b = and_both (is_reference (name r)) _ are in (
-      λ same. false≢true (other ∙ ap is_reference same ∙ b.0),
+-- what isn't ASCII isn't the name of any
+differs : {A : Type 0} (name : A → List ℕ) (text : List ℕ) → ¬ IsAscii text → (rows : List A)
+    → list_all (λ r. list_all is_below (name r)) rows ≡ true → Differs name text rows
+differs name text other [] below = tt
+differs name text other (r ∷ rs) below =
+    let b = and_both (list_all is_below (name r)) _ below in (
+      λ same. other (subst IsAscii (sym same) (below_ascii (name r) b.0)),
       differs name text other rs b.1,
     )
   where
@@ -109,29 +112,28 @@ pub no_word_at : (fields : List (List ℕ)) (name : List ℕ) (rest : List (List
 no_word_at fields name rest are none =
     ap (option_map (λ (w : Word). (w, rest))) none ∙ sym (ap word_at are)
 
-pub no_word : (text : List ℕ) → false ≡ is_reference text → None ≡ word_named text
-unfolding is_reference
+pub no_word : (text : List ℕ) → ¬ IsAscii text → None ≡ word_named text
 no_word text other = no_such_word text (differs name_of text other words refl)
 
-pub no_roll : (text : List ℕ) → false ≡ is_reference text → None ≡ roll_named text
-unfolding is_reference roll_named
+pub no_roll : (text : List ℕ) → ¬ IsAscii text → None ≡ roll_named text
+unfolding roll_named
 no_roll text other = sym (unnamed roll_name text all_rolls
     (differs roll_name text other all_rolls refl))
 
-pub no_algorithm : (text : List ℕ) → false ≡ is_reference text → None ≡ algorithm_named text
-unfolding is_reference
+pub no_algorithm : (text : List ℕ) → ¬ IsAscii text → None ≡ algorithm_named text
 no_algorithm text other =
     no_name text (apart (codes "RSASHA256") refl) (apart (codes "RSASHA512") refl)
     (apart (codes "ECDSAP256SHA256") refl) (apart (codes "ECDSAP384SHA384") refl)
     (apart (codes "ED25519") refl) (apart (codes "ED448") refl)
   where
-    apart : (name : List ℕ) → is_reference name ≡ true → text ≢ name
-    apart name is same = false≢true (other ∙ ap is_reference same ∙ is)
+    apart : (name : List ℕ) → list_all is_below name ≡ true → text ≢ name
+    apart name below same = other (subst IsAscii (sym same) (below_ascii name below))
 
 pub ruleset steps = (
   common_steps,
   reference_utf8,
   IsUtf8-from_ascii,
+  not_ascii,
   no_word,
   no_roll,
   no_algorithm,

@@ -3,7 +3,8 @@
 ghost use Rattle.std.specs.Prelude.{◌≡◌, ◌≤◌, ◌==◌, ◌∷◌, if◌then◌else◌, List, [], map};
 ghost use Rattle.std.specs.Prelude.{IfOk};
 ghost use Rattle.std.specs.List.{slice_split};
-ghost use Rattle.std.specs.Prelude.{Option, Some, None, is_some, IfSome};
+ghost use Rattle.std.specs.Prelude.{Option, Some, None, is_some, IfSome, IfNone};
+ghost use Rattle.std.specs.Str.{IsAscii};
 ghost use denote.Bor.{now};
 ghost use Rattle.std.specs.Option.{option_map};
 ghost use Rattle.dnssec_script.specs.Script.{Value, Reference, Private, References, Flag, Roll};
@@ -77,6 +78,18 @@ fn yes_no(text: &[u8]) -> Option<bool>
     }
 }
 
+/// The text, if it is ASCII.
+#[tactic(auto, using(crate::proofs::Ascii::steps))]
+fn ascii(text: &[u8]) -> Option<&str>
+    ensures same { IfSome result (λ ascii. ascii.now ≡ text.now) }
+    ensures none { IfNone result (¬ IsAscii text.now) }
+{
+    if !text.is_ascii() {
+        return None;
+    }
+    Some(unsafe { str::from_utf8_unchecked(text) })
+}
+
 /// A number up to `most`.
 #[tactic(auto, unfolding(crate::specs::Script::is_number))]
 fn number(most: u64, text: &[u8]) -> Option<u64>
@@ -98,7 +111,7 @@ fn number(most: u64, text: &[u8]) -> Option<u64>
     if number <= most { Some(number) } else { None }
 }
 
-/// A key's reference. Each name of a word, of a roll and of an algorithm is read as one too.
+/// A key's reference.
 #[tactic(auto, using(crate::proofs::Ascii::steps), unfolding(crate::specs::Script::as_reference))]
 fn reference(text: &[u8]) -> Option<&str>
     ensures read { option_map (λ q. Reference q.now) result ≡ as_reference text.now }
@@ -131,7 +144,7 @@ fn algorithm(text: &[u8]) -> Option<SecurityAlgorithm>
 {
     match number(255, text) {
         Some(number) => Some(SecurityAlgorithm::from_int(number as u8)),
-        None => SecurityAlgorithm::from_name(reference(text)?),
+        None => SecurityAlgorithm::from_name(ascii(text)?),
     }
 }
 
@@ -195,7 +208,7 @@ impl<'a> Fields<'a> {
         ensures { option_map (λ x. (x.0, x.1)) result ≡ word_at (fields_of line.now) }
     {
         let (name, rest) = split_once(line, b' ');
-        let word = match reference(name)? {
+        let word = match ascii(name)? {
             "add-ksk" => Word::AddKsk,
             "add-zsk" => Word::AddZsk,
             "add-csk" => Word::AddCsk,
@@ -254,7 +267,7 @@ impl<'a> Fields<'a> {
         ensures { option_map (λ x. (Roll x.0, x.1)) result ≡ value_at as_roll self.entry }
     {
         let (text, fields) = self.next()?;
-        Some((reference(text)?.parse().ok()?, fields))
+        Some((ascii(text)?.parse().ok()?, fields))
     }
 
     /// The next field as an algorithm.
