@@ -6,7 +6,6 @@
 -- | `number`                | `too_great`                    | Digits            |
 -- | `Fields::roll`          | `no_roll`, `roll_read`         | Rolls, Ascii      |
 -- | `Fields::after_word`    | `no_word`                      | Ascii             |
--- | `ReferenceList::references`   | `each_reference`, `parts_of`   | Lists             |
 -- | `algorithm`             | `no_algorithm`                 | Ascii             |
 -- | `reference`             | `reference_utf8`               | Ascii             |
 -- | `read_zone`             | `zone_none`, `spelled_utf8`    | Zone              |
@@ -18,7 +17,6 @@ pub mod Digits
 pub mod Cuts
 pub mod Zone
 pub mod Rolls
-pub mod Lists
 pub mod Texts
 pub mod Judging
 pub mod Added

@@ -148,17 +148,6 @@ fn algorithm(text: &[u8]) -> Option<SecurityAlgorithm>
     }
 }
 
-/// Whether the text is references with single commas between them, or `-` for none.
-#[tactic(auto, unfolding(crate::specs::Script::is_list))]
-fn is_list(text: &[u8]) -> bool
-    ensures { result ≡ is_list text.now }
-{
-    text == b"-".as_slice()
-        || text
-            .split(|byte| *byte == b',')
-            .all(|part| is_reference(part))
-}
-
 /// The fields of a line that haven't been read yet, each between single spaces.
 #[derive(Drop)]
 pub struct Fields<'a> {
@@ -326,47 +315,57 @@ impl<'a> Fields<'a> {
         Some(time)
     }
 
-    /// The next field as a list of references.
+    /// The next field as a list: references with single commas between them, or `-` for none.
     #[tactic(auto, unfolding(crate::specs::Script::as_list))]
     pub(crate) fn list(self) -> Option<(ReferenceList<'a>, Fields<'a>)>
         ensures { option_map (λ x. (References x.0, x.1)) result ≡ value_at as_list self.entry }
     {
         let (text, fields) = self.next()?;
-        if !is_list(text) {
+        if text == b"-".as_slice() {
+            return Some((ReferenceList { text: None }, fields));
+        }
+        if !text
+            .split(|byte| *byte == b',')
+            .all(|part| is_reference(part))
+        {
             return None;
         }
-        Some((ReferenceList { text }, fields))
+        Some((ReferenceList { text: Some(text) }, fields))
     }
 }
 
 /// A list of references that is still a part of its line, and takes no memory.
 #[derive(Drop)]
 pub(crate) struct ReferenceList<'a> {
-    text: &'a [u8],
+    /// The references with single commas between them; none for an empty list.
+    text: Option<&'a [u8]>,
 }
 
 impl<'a> Model for ReferenceList<'a> {
-    ghost use Rattle.std.specs.Prelude.{◌≡◌, ℕ, List, true};
-    ghost use Rattle.dnssec_script.specs.Script.{is_list, references_of};
+    ghost use Rattle.std.specs.Prelude.{◌≡◌, ◌==◌, ℕ, List, [], true, IfSome};
+    ghost use Rattle.std.specs.List.{list_all, slice_split};
+    ghost use Rattle.std.specs.Option.{option_map_or};
+    ghost use Rattle.dnssec_script.specs.Script.{is_reference};
 
     ghost Value = { List (List ℕ) };
 
-    ghost view = { λ list. references_of list.text.now };
+    ghost view = { λ list.
+        option_map_or (λ text. slice_split (λ b. b == 44) text.now) list.text [] };
 
-    ghost invariant = { λ list. is_list list.text.now ≡ true };
+    ghost invariant = { λ list. IfSome list.text (λ text.
+        list_all is_reference (slice_split (λ b. b == 44) text.now) ≡ true) };
 }
 
 impl<'a> ReferenceList<'a> {
     /// Its references.
-    #[tactic(auto, unfolding(crate::specs::Script::references_of))]
     pub(crate) fn references(self, alloc: Global) -> Result<Vec<&'a str>, AllocError>
         ensures { IfOk result (λ references. map now references.items ≡ self.entry) }
     {
         let mut references = Vec::new(alloc);
-        if self.text == b"-".as_slice() {
+        let Some(text) = self.text else {
             return Ok(references);
-        }
-        for part in self.text.split(|byte| *byte == b',') {
+        };
+        for part in text.split(|byte| *byte == b',') {
             // Each is a reference, and so it is text.
             references.push(unsafe { str::from_utf8_unchecked(part) })?;
         }
