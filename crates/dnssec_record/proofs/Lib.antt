@@ -3,7 +3,7 @@
 -- | Function and clause         | Lemma                             | Files         |
 -- |-----------------------------|-----------------------------------|---------------|
 -- | `record_script`, `resume`   | `none_made`, `one_made`           | Made          |
--- | `answer_lines`              | `one_more`, `all_answered`        | Running, Made |
+-- | `answer_to`                 | `one_more`, `all_answered`        | Running, Made |
 -- | `ZoneState::make`           | `goes_on`                         | Running       |
 -- | `Session::call`, `accept`   | `answered`, `script_more`         | Sessions      |
 -- | `run_script`, `well_formed` | `of_input`, `never_fault`         | Answering     |

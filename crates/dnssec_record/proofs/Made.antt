@@ -74,34 +74,11 @@ fault_made P {script = script} fault h r gives next =
     let p = err_from_is_err_and r gives in
     rw (p.1, p.2) (answer_fault script fault (next script h.name h.calls h.read))
 
--- ---- a loop whose lines are handed in, with what they are made on
-
--- these are the lines of a script that has made no call yet, on this
-abbrev pub ForEach : Lines → (List ℕ → Type 0) → (List ℕ → Type 0) → Type 0
-ForEach lines On P = (script name : List ℕ) → HasRead script name [] lines → On name → P script
-
--- the fault of the next line
-pub fault_made_on : {lines left : Lines} {On : List ℕ → Type 0}
-    {P : List ℕ → List Call → List Entry → Type 0} {T : Type 0} (fault : ReadFault)
-    (r : Result T ScriptFault) → IsErrAnd r (λ e. e ≡ fault_of_reading fault)
-    → ForEach lines On (λ script. HasMade script left P)
-    → ((s name : List ℕ) (calls : List Call) → HasRead s name calls left → IsReadFault s fault)
-    → IfErr r (λ e. ForEach lines On (λ script. AnswerFault script e))
-fault_made_on fault r gives made next =
-    let p = err_from_is_err_and r gives in
-    rw (p.1, p.2) (λ script name read so.
-    let h = made script name read so in
-    answer_fault script fault (next script h.name h.calls h.read))
-
--- memory that runs out isn't missing, since the first line names a zone
-pub memory_made_on : {lines left : Lines} {On : List ℕ → Type 0}
-    {P : List ℕ → List Call → List Entry → Type 0} {T : Type 0}
-    (r : Result T ScriptFault) → IsErrAnd r (λ e. e ≡ OutOfMemory)
-    → ForEach lines On (λ script. HasMade script left P)
-    → IfErr r (λ e. ForEach lines On (λ script. AnswerFault script e))
-memory_made_on r gives made =
-    let p = err_from_is_err_and r gives in
-    rw (p.1, p.2) (λ script name read so. begins (made script name read so).read)
+-- and so is memory that runs out, since the first line names a zone
+pub memory_made : {P : List ℕ → List Call → List Entry → Type 0} {T : Type 0} {script : List ℕ}
+    {left : Lines} → HasMade script left P → (r : Result T ScriptFault)
+    → IsErrAnd r (λ e. e ≡ OutOfMemory) → IfErr r (AnswerFault script)
+memory_made h r gives = let p = err_from_is_err_and r gives in rw (p.1, p.2) (begins h.read)
 
 -- ---- the call of a statement
 

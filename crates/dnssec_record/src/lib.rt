@@ -2,7 +2,6 @@
 //! the verdict on a record; and scripts, which are lists of calls as text.
 #![tactic(auto)]
 
-mod answers;
 mod courses;
 mod device;
 mod fault;
@@ -10,7 +9,6 @@ mod script;
 mod session;
 mod zone;
 
-pub use answers::action_name;
 pub use courses::Listing;
 pub use device::{DeviceFault, Sink, Source, Std};
 pub use dnssec_judge::{
@@ -25,3 +23,4 @@ pub use dnssec_zone::Part;
 pub use fault::{CallFault, ScriptFault};
 pub use script::{record_script, run_script};
 pub use session::{Attempt, Response, Session};
+pub use zone::action_name;

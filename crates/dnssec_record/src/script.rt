@@ -1,21 +1,18 @@
 //! Scripts: calls in a text, and the answers to them.
-ghost use Rattle.std.specs.Prelude.{◌≡◌, ◌≢◌, ◌⊎◌, ◌↔◌, ℕ, ◌<◌, List, [], IfOk, IfErr, IfSome};
+ghost use Rattle.std.specs.Prelude.{◌≡◌, ◌≢◌, ◌⊎◌, ◌↔◌, ℕ, ◌<◌, List, IfOk, IfErr, IfSome};
 ghost use Rattle.std.specs.Prelude.{OnOk, OnErr, Err, string_bytes};
 ghost use Rattle.std.specs.Io.KnownBytes.{Appends, IsAtEnd, Keeps};
 ghost use Rattle.dnssec_record.specs.Answer.{IsAnswerOf, AnswerFault, EndsSafe, IsRunOf};
 ghost use Rattle.dnssec_record.specs.Answer.{IsSafeAnswer, TakesAnswer, TakesAtMost};
 ghost use Rattle.dnssec_record.specs.Device.{Counts};
 ghost use Rattle.dnssec_record.specs.Inner.Devices.{FaultOfInput, TakesFront};
-ghost use Rattle.dnssec_record.specs.Session.{Follows};
-ghost use Rattle.dnssec_script.specs.Inner.Reading.{HasRead};
 ghost use Rattle.dnssec_script.specs.Script.{IsFirstMalformed, IsScript};
 ghost use Rattle.dnssec_run.specs.declared.call.Call.{Call};
 ghost use Rattle.dnssec_record.specs.declared.fault.ScriptFault.TheVariants.{Device, OutOfMemory};
 
-use crate::answers::push_answer;
 use crate::device::{DeviceFault, Sink, Source};
 use crate::fault::ScriptFault;
-use crate::zone::ZoneState;
+use crate::zone::{ZoneState, push_answer};
 use dnssec_run::{Recorder, Run};
 use dnssec_script::Lines;
 use std::alloc::Global;
@@ -119,30 +116,15 @@ fn read_to_end<R: Source>(alloc: Global, input: &mut R) -> Result<Vec<u8>, Scrip
     }
 }
 
-/// The answers to a script.
+/// The answers to a script: what each call is answered, then which sets are published, and last the
+/// verdict on the record. At any time it keeps only one call, and of the record only what the zone
+/// keeps.
 fn answer_to(alloc: Global, script: &[u8]) -> Result<String, ScriptFault>
     ensures ok { IfOk result (λ text. IsAnswerOf script.now (string_bytes text)) }
     ensures err { IfErr result (AnswerFault script.now) }
 {
     let (name, mut lines) = Lines::begin(alloc, script)?;
     let mut zone = ZoneState::new(alloc, name)?;
-    answer_lines(alloc, &mut lines, &mut zone)
-}
-
-/// Makes the calls of the lines that are left in turn, of a zone that has made none yet. Says what
-/// each is answered, then which sets are published, and last the verdict on the record. At any time
-/// it keeps only one call, and of the record only what the zone keeps.
-fn answer_lines(
-    alloc: Global,
-    lines: &mut Lines<'_>,
-    zone: &mut ZoneState,
-) -> Result<String, ScriptFault>
-    ensures ok { IfOk result (λ text. (script name : List ℕ) → HasRead script name [] lines.old →
-        Follows name [] [] zone.old → IsAnswerOf script (string_bytes text)) }
-    ensures err { IfErr result (λ fault. (script name : List ℕ) →
-        HasRead script name [] lines.old → Follows name [] [] zone.old →
-        AnswerFault script fault) }
-{
     let mut text = String::new(alloc);
     while let Some(statement) = lines.next(alloc)? {
         let made = zone.run(alloc, statement)?;

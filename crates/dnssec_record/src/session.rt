@@ -1,7 +1,6 @@
 //! A zone's calls as they come: one at a time, each answered at once.
 ghost use Rattle.std.specs.Prelude.{◌≡◌, ◌∷◌, ℕ, List, [], length, map, IfOk, IfErr};
-ghost use Rattle.std.specs.Prelude.{string_bytes, ◌≢◌, IsSome, OnOk};
-ghost use Rattle.dnssec_script.specs.Inner.Reading.{HasRead};
+ghost use Rattle.std.specs.Prelude.{string_bytes, ◌≢◌, IsSome};
 ghost use Rattle.dnssec_script.specs.Script.{says};
 ghost use Rattle.dnssec_base.specs.declared.error.Error.TheVariants.{OutOfMemory};
 ghost use Rattle.dnssec_judge.specs.Verdict.{IsVerdict};
@@ -16,10 +15,9 @@ ghost use Rattle.dnssec_run.specs.declared.call.Call.{Call};
 ghost use Rattle.dnssec_run.specs.declared.record.Entry.{Entry};
 ghost use Rattle.dnssec_run.specs.declared.record.Reply.TheVariants.{Refused};
 
-use crate::answers::{is_accepted, push_answer};
 use crate::courses::Listing;
 use crate::fault::{CallFault, ScriptFault};
-use crate::zone::{TimedReply, ZoneState};
+use crate::zone::{TimedReply, ZoneState, is_accepted, push_answer};
 use dnssec_base::Name;
 use dnssec_judge::Broken;
 use dnssec_keyset::{Error, KeySet, RollType};
@@ -106,25 +104,12 @@ impl Session {
     {
         let (name, mut lines) = Lines::begin(alloc, script)?;
         let mut session = Session::new(alloc, name)?;
-        session.take_lines(alloc, &mut lines)?;
-        Ok(session)
-    }
-
-    /// Makes the calls of the lines that are left. The session has made none yet, and is of no more
-    /// use after an error.
-    fn take_lines(&mut self, alloc: Global, lines: &mut Lines<'_>) -> Result<(), ScriptFault>
-        ensures ok { OnOk result ((script name : List ℕ) → HasRead script name [] lines.old →
-            StandsAfter name [] [] self.old → Resumes script self.new) }
-        ensures err { IfErr result (λ fault. (script name : List ℕ) →
-            HasRead script name [] lines.old → StandsAfter name [] [] self.old →
-            AnswerFault script fault) }
-    {
         while let Some(statement) = lines.next(alloc)? {
-            let made = self.zone.take(alloc, statement)?;
-            let reply = self.note(alloc, made)?;
+            let made = session.zone.take(alloc, statement)?;
+            let reply = session.note(alloc, made)?;
             check_memory(reply)?;
         }
-        Ok(())
+        Ok(session)
     }
 
     /// A new key set for the zone of this name.

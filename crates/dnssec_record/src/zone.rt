@@ -1,32 +1,27 @@
-//! The zone of a session or of a script, as the calls so far have left it.
+//! The zone of a session or of a script, as the calls so far have left it, and the answers to them
+//! as text.
 ghost use Rattle.std.specs.Prelude.{◌≡◌, ◌++◌, ℕ, List, [], IfOk, OnOk};
-ghost use Rattle.std.specs.Prelude.{codes, string_bytes};
+ghost use Rattle.std.specs.Prelude.{codes, decimal, string_bytes};
+ghost use Rattle.dnssec_base.specs.ErrorTexts.{error_text};
+ghost use Rattle.dnssec_run.specs.Record.{is_accepted};
 ghost use Rattle.dnssec_record.specs.Inner.Zone.{Comes, IsZoneAfter, TakesOn};
-ghost use Rattle.dnssec_record.specs.Output.{reply_text};
+ghost use Rattle.dnssec_record.specs.Output.{action_name, broken_text, chain_line};
+ghost use Rattle.dnssec_record.specs.Output.{published_text, reply_text, set_text};
 ghost use Rattle.dnssec_record.specs.Session.{Closes, Follows};
 ghost use Rattle.dnssec_run.specs.declared.call.Call.{Call};
 ghost use Rattle.dnssec_run.specs.declared.record.Entry.{Entry};
 ghost use Rattle.dnssec_script.specs.declared.statement.Statement.TheVariants as statement;
 
-use crate::answers::{answer_line, push_chain_line, push_published};
 use crate::courses::{Courses, Turn};
 use dnssec_base::Name;
-use dnssec_judge::Judge;
-use dnssec_keyset::{Error, KeySet, UnixTime};
-use dnssec_run::{Call, Recorder, Reply};
+use dnssec_judge::{Broken, Judge};
+use dnssec_keyset::{Action, Error, KeySet, UnixTime};
+use dnssec_run::{Call, Published, PublishedKey, Recorder, Reply};
 use dnssec_script::{Start, Statement};
 use std::alloc::{AllocError, Global};
 
 /// A zone of at most this many keys is fitted to them. So no call costs more for that than another.
 const FITTED_KEYS: usize = 4;
-
-/// What a call came to.
-#[derive(Drop)]
-pub(crate) struct TimedReply {
-    pub(crate) reply: Reply,
-    /// The moment that the call was given, if any.
-    pub(crate) moment: Option<UnixTime>,
-}
 
 /// What the calls so far have made of a zone: the key set with what is published, what the judge
 /// needs, and the rolls. Its size follows the keys and what is open, and not how many calls there
@@ -36,6 +31,14 @@ pub(crate) struct ZoneState {
     pub(crate) recorder: Recorder,
     pub(crate) judge: Judge,
     pub(crate) courses: Courses,
+}
+
+/// What a call came to.
+#[derive(Drop)]
+pub(crate) struct TimedReply {
+    pub(crate) reply: Reply,
+    /// The moment that the call was given, if any.
+    pub(crate) moment: Option<UnixTime>,
 }
 
 impl ZoneState {
@@ -170,7 +173,8 @@ impl ZoneState {
         if let Reply::Refused(Error::OutOfMemory) = &made.reply {
             return Err(AllocError);
         }
-        let answer = answer_line(alloc, &made.reply)?;
+        let mut answer = String::new(alloc);
+        push_answer(&mut answer, &made.reply)?;
         Ok((made, answer))
     }
 
@@ -215,4 +219,129 @@ impl ZoneState {
         push_chain_line(text, self.judge.verdict())?;
         Ok(())
     }
+}
+
+/// Writes the line of an answer.
+pub(crate) fn push_answer(text: &mut String, reply: &Reply) -> Result<(), AllocError>
+    ensures { OnOk result (string_bytes text.new
+        ≡ string_bytes text.old ++ reply_text reply.now ++ codes "\n") }
+{
+    match reply {
+        Reply::Done => text.push_str("ok\n"),
+        Reply::Actions(actions) => {
+            text.push_str("ok")?;
+            for action in actions {
+                text.push_str(" ")?;
+                text.push_str(action_name(*action))?;
+            }
+            text.push_str("\n")
+        }
+        Reply::Refused(error) => push_refusal(text, error),
+    }
+}
+
+/// Writes the line of a refusal. It isn't inlined, so that an accepted call needs no room for it.
+#[inline(never)]
+fn push_refusal(text: &mut String, error: &Error) -> Result<(), AllocError>
+    ensures { OnOk result (string_bytes text.new
+        ≡ string_bytes text.old ++ codes "refused: " ++ error_text error.now ++ codes "\n") }
+{
+    write!(text, "refused: {error}\n")
+}
+
+/// Whether a call with this reply was accepted.
+pub(crate) fn is_accepted(reply: &Reply) -> bool
+    ensures { result ≡ is_accepted reply.now }
+{
+    match reply {
+        Reply::Done | Reply::Actions(_) => true,
+        Reply::Refused(_) => false,
+    }
+}
+
+/// The name of an action, as answers have it.
+#[tactic(auto, using(std::proofs::lemmas::Grind::common_steps))]
+pub fn action_name(action: Action) -> &'static str
+    ensures { result.now ≡ action_name action }
+{
+    match action {
+        Action::UpdateDnskeyRrset => "UpdateDnskeyRrset",
+        Action::CreateCdsRrset => "CreateCdsRrset",
+        Action::RemoveCdsRrset => "RemoveCdsRrset",
+        Action::UpdateDsRrset => "UpdateDsRrset",
+        Action::UpdateRrsig => "UpdateRrsig",
+        Action::ReportDnskeyPropagated => "ReportDnskeyPropagated",
+        Action::WaitDnskeyPropagated => "WaitDnskeyPropagated",
+        Action::ReportDsPropagated => "ReportDsPropagated",
+        Action::WaitDsPropagated => "WaitDsPropagated",
+        Action::ReportRrsigPropagated => "ReportRrsigPropagated",
+        Action::WaitRrsigPropagated => "WaitRrsigPropagated",
+    }
+}
+
+/// Writes the sets that are published after the last call.
+#[tactic(auto, using(std::proofs::lemmas::Grind::common_steps))]
+fn push_published(text: &mut String, published: &Published) -> Result<(), AllocError>
+    ensures { OnOk result (string_bytes text.new
+        ≡ string_bytes text.old ++ published_text published.now) }
+{
+    text.push_str("ds=")?;
+    push_set(text, &published.ds)?;
+    text.push_str(" dnskey=")?;
+    push_set(text, &published.dnskey)?;
+    text.push_str(" signers=")?;
+    push_set(text, &published.dnskey_signers)?;
+    text.push_str(" zone=")?;
+    push_set(text, &published.zone_signers)?;
+    text.push_str("\n")
+}
+
+/// Writes a set: its references with commas between them, or `-` for none.
+fn push_set(text: &mut String, keys: &[PublishedKey]) -> Result<(), AllocError>
+    ensures { OnOk result (string_bytes text.new ≡ string_bytes text.old ++ set_text keys.now) }
+{
+    let Some((first, others)) = keys.split_first() else {
+        return text.push_str("-");
+    };
+    text.push_str(first.reference.as_str())?;
+    for key in others {
+        text.push_str(",")?;
+        text.push_str(key.reference.as_str())?;
+    }
+    Ok(())
+}
+
+/// Writes the verdict on the record.
+fn push_chain_line(text: &mut String, verdict: Option<Broken>) -> Result<(), AllocError>
+    ensures { OnOk result (string_bytes text.new ≡ string_bytes text.old ++ chain_line verdict) }
+{
+    match verdict {
+        None => text.push_str("chain safe\n"),
+        Some(broken) => {
+            text.push_str("chain broken ")?;
+            push_broken(text, broken)?;
+            text.push_str("\n")
+        }
+    }
+}
+
+/// Writes the positions of the first sets without a chain.
+fn push_broken(text: &mut String, broken: Broken) -> Result<(), AllocError>
+    ensures { OnOk result (string_bytes text.new ≡ string_bytes text.old ++ broken_text broken) }
+{
+    text.push_str("at=")?;
+    push_number(text, broken.at)?;
+    text.push_str(" ds=")?;
+    push_number(text, broken.ds)?;
+    text.push_str(" dnskey=")?;
+    push_number(text, broken.dnskey)?;
+    text.push_str(" zone=")?;
+    push_number(text, broken.zone)
+}
+
+/// Writes a number in decimal.
+fn push_number(text: &mut String, number: usize) -> Result<(), AllocError>
+    ensures { OnOk result (string_bytes text.new ≡ string_bytes text.old ++ decimal number) }
+{
+    write!(text, "{number}")
 }

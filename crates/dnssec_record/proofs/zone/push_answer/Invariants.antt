@@ -1,7 +1,7 @@
 -- What was written so far.
 use Rattle.std.proofs.Common.{◌≡◌, ◌++◌, take, codes, string_bytes}
 use Rattle.dnssec_record.specs.Output.{actions_text}
-use Rattle.dnssec_record.proofs.answers.push_answer.Given as goal
+use Rattle.dnssec_record.proofs.zone.push_answer.Given as goal
 
 abbrev pub invariant-loop-action : goal.invariant-loop-action
 invariant-loop-action l =

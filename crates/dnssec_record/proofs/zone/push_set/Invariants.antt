@@ -1,7 +1,7 @@
 -- What was written so far.
 use Rattle.std.proofs.Common.{◌≡◌, ◌++◌, take, codes, string_bytes}
 use Rattle.std.specs.List.{flat_map}
-use Rattle.dnssec_record.proofs.answers.push_set.Given as goal
+use Rattle.dnssec_record.proofs.zone.push_set.Given as goal
 
 abbrev pub invariant-loop-key : goal.invariant-loop-key
 invariant-loop-key l =
