@@ -10,14 +10,13 @@ ghost use Rattle.dnssec_record.specs.Output.{published_text, reply_text, set_tex
 ghost use Rattle.dnssec_record.specs.Session.{Closes, Follows};
 ghost use Rattle.dnssec_run.specs.declared.call.Call.{Call};
 ghost use Rattle.dnssec_run.specs.declared.record.Entry.{Entry};
-ghost use Rattle.dnssec_script.specs.declared.statement.Statement.TheVariants as statement;
 
 use crate::courses::{Courses, Turn};
 use dnssec_base::Name;
 use dnssec_judge::{Broken, Judge};
 use dnssec_keyset::{Action, Error, KeySet, UnixTime};
 use dnssec_run::{Call, Published, PublishedKey, Recorder, Reply};
-use dnssec_script::{Start, Statement};
+use dnssec_script::Statement;
 use std::alloc::{AllocError, Global};
 
 /// A zone of at most this many keys is fitted to them. So no call costs more for that than another.
@@ -102,16 +101,8 @@ impl ZoneState {
     {
         match statement {
             Statement::Call(call) => self.advance(alloc, call),
-            Statement::Start(start) => self.start(alloc, &start),
+            Statement::Start(start) => self.advance(alloc, start.call()),
         }
-    }
-
-    /// Makes the call of a start. It isn't inlined, so that other lines need no room for its call.
-    #[inline(never)]
-    fn start(&mut self, alloc: Global, start: &Start<'_>) -> Result<TimedReply, AllocError>
-        ensures { IfOk result (TakesOn Follows (statement.Start start.now) self.old self.new) }
-    {
-        self.advance(alloc, start.call())
     }
 
     /// Makes the call, and keeps what the rolls listed. A refused call counts in the record too,
