@@ -97,18 +97,6 @@ impl NewKeys {
         set(&mut self.algorithms, algorithm, true);
         Ok(())
     }
-
-    /// Whether one of them serves, as soon as it comes in.
-    fn serve(&self, want: Want) -> bool
-        ensures { result ≡ some_serves self.now want }
-    {
-        match want {
-            Want::PresentKsk | Want::KskAtParent => self.ksk,
-            Want::PresentZsk => self.zsk,
-            Want::PresentKskRole => self.ksk || self.csk,
-            Want::PresentZskRole => self.zsk || self.csk,
-        }
-    }
 }
 
 /// Whether a key serves in its state, if it isn't listed as old.
@@ -249,10 +237,17 @@ impl Keys {
             → AnswersExactly (if list_all (is_met self.now (texts old.now) news) wants.now
             then None else Some NoSuitableKeyPresent) result }
     {
-        if wants
-            .iter()
-            .all(|want| new.serve(*want) || self.has_kept(*want, old))
-        {
+        let are_met = wants.iter().all(|want| {
+            // A new key serves as soon as it comes in.
+            let new_serves = match want {
+                Want::PresentKsk | Want::KskAtParent => new.ksk,
+                Want::PresentZsk => new.zsk,
+                Want::PresentKskRole => new.ksk || new.csk,
+                Want::PresentZskRole => new.zsk || new.csk,
+            };
+            new_serves || self.has_kept(*want, old)
+        });
+        if are_met {
             Ok(())
         } else {
             Err(Error::NoSuitableKeyPresent)
