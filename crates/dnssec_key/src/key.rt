@@ -27,11 +27,16 @@ pub enum Available {
 /// left, stale.
 #[derive(Clone, Copy, Debug, Default, PartialEq)]
 pub struct KeyState {
-    pub(crate) available: bool,
-    pub(crate) old: bool,
-    pub(crate) signer: bool,
-    pub(crate) present: bool,
-    pub(crate) at_parent: bool,
+    /// Whether a roll may take the role in.
+    pub available: bool,
+    /// Whether the role is on its way out.
+    pub old: bool,
+    /// Whether the key signs in this role: the DNSKEY set as a KSK, the zone as a ZSK.
+    pub signer: bool,
+    /// Whether the key is in the DNSKEY set.
+    pub present: bool,
+    /// Whether the parent has to have a DS record for the key.
+    pub at_parent: bool,
 }
 
 impl Model for KeyState {

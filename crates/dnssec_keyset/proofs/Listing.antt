@@ -18,9 +18,9 @@ use Rattle.dnssec_key.specs.{RollTable.after_early_end, RollTable.old_at_start}
 use Rattle.dnssec_key.specs.{RollTable.new_at_start, declared.roll.RollType.RollType, Key.KeyParts}
 use Rattle.dnssec_key.specs.{Setters.Setting, Setters.set_by}
 use Rattle.dnssec_zone.specs.Lists.{nothing_listed, lists_after_report}
-use Rattle.dnssec_zone.specs.declared.lists.Part.TheVariants.{Old, New}
+use Rattle.dnssec_zone.specs.declared.rolls.Part.TheVariants.{Old, New}
 use Rattle.dnssec_zone.specs.Inner.Entries.{is_of, is_of_roll}
-use Rattle.dnssec_zone.specs.{declared.lists.ListedKey.ListedKey, Keys.Keys}
+use Rattle.dnssec_zone.specs.{declared.rolls.ListedKey.ListedKey, Keys.Keys}
 use Rattle.dnssec_zone.specs.{Refusals.Answers, Refusals.add_refusal, Start.is_listed}
 use Rattle.dnssec_zone.proofs.Listing.Starts.{lists_of-reported, lists_of-taken_out}
 use Rattle.dnssec_zone.proofs.Tags.{kept_at, kept_set, kept_unmarked}

@@ -166,7 +166,7 @@ impl KeySet {
             (reply_list result) self.new }
     {
         self.check_start(rolltype, old, new)?;
-        let actions = Vec::from_slice(self.alloc, rolltype.actions_in(RollState::Propagation1))?;
+        let actions = Vec::from_slice(self.alloc, rolltype.column().asks)?;
         self.lists.make_room(old, new)?;
         // The last request for memory comes before the first write: nothing after it can fail.
         self.rolls.put_in(rolltype, RollState::Propagation1)?;

@@ -13,8 +13,8 @@ use Rattle.dnssec_run.specs.declared.record.Entry.{Entry}
 use Rattle.dnssec_run.specs.declared.record.Reply.{Reply}
 use Rattle.dnssec_run.specs.Record.{is_accepted}
 use Rattle.dnssec_record.specs.declared.courses.Listing as code
-use Rattle.dnssec_zone.specs.declared.lists.Part.{Part}
-use Rattle.dnssec_zone.specs.declared.lists.Part.TheVariants.{Old, New}
+use Rattle.dnssec_zone.specs.declared.rolls.Part.{Part}
+use Rattle.dnssec_zone.specs.declared.rolls.Part.TheVariants.{Old, New}
 use Rattle.dnssec_record.specs.declared.courses.Turn.{Turn}
 use Rattle.dnssec_record.specs.declared.courses.Turn.TheVariants.{Starts, Ends, EndsEarly, Deletes}
 use Rattle.dnssec_record.specs.declared.courses.Turn.TheVariants.{GoesOn}

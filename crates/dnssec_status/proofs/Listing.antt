@@ -18,7 +18,7 @@ use Rattle.std.specs.declared.cmp.Ordering.{Ordering, TheVariants.Equal, TheVari
 use Rattle.std.specs.declared.cmp.Ordering.TheVariants.{Less}
 use Rattle.dnssec_key.specs.declared.{kind.KeyType.KeyType}
 use Rattle.dnssec_record.specs.Courses.{Listing}
-use Rattle.dnssec_zone.specs.declared.lists.Part.{Part, TheVariants.New, TheVariants.Old}
+use Rattle.dnssec_zone.specs.declared.rolls.Part.{Part, TheVariants.New, TheVariants.Old}
 use Rattle.dnssec_run.specs.InOrder.{entry_of}
 use Rattle.dnssec_status.specs.Inner.Entries.{entry_json}
 use Rattle.dnssec_status.specs.Keys.{end_json, front_json, has_listed, rolls_of}

@@ -15,8 +15,8 @@ use Rattle.dnssec_zone.specs.Lists.{same_part}
 use Rattle.dnssec_zone.specs.Rolls.{all_rolls, same_roll}
 use Rattle.dnssec_zone.specs.Start.{lists_kind}
 use Rattle.dnssec_record.specs.Courses.{Listing}
-use Rattle.dnssec_zone.specs.declared.lists.Part.{Part}
-use Rattle.dnssec_zone.specs.declared.lists.Part.TheVariants.{Old, New}
+use Rattle.dnssec_zone.specs.declared.rolls.Part.{Part}
+use Rattle.dnssec_zone.specs.declared.rolls.Part.TheVariants.{Old, New}
 use Rattle.dnssec_status.specs.Json.{array_json, flag_json, option_json, text_json}
 use Rattle.dnssec_status.specs.Names.{roll_json}
 

@@ -4,7 +4,7 @@ ghost use Rattle.std.specs.List.{list_any};
 ghost use denote.Bor.{now};
 ghost use Rattle.dnssec_key.specs.declared.roll.RollType.{RollType as AnyRoll};
 ghost use Rattle.dnssec_record.specs.Courses.{as_listed};
-ghost use Rattle.dnssec_zone.specs.declared.lists.Part.{Part as AnyPart};
+ghost use Rattle.dnssec_zone.specs.declared.rolls.Part.{Part as AnyPart};
 ghost use Rattle.dnssec_status.specs.Inner.Entries.{lists, roll_if_listed};
 ghost use Rattle.dnssec_status.specs.Keys.{has_listed, rolls_of};
 

@@ -14,7 +14,7 @@ use Rattle.std.proofs.{lemmas.List.Sorted.sum_by-IsPermutation, lemmas.Map.Text.
 use Rattle.dnssec_zone.specs.Inner.Counts.{count_of, no_counts, with_key, without_key}
 use Rattle.dnssec_zone.specs.Keys.{Keys, keys_in_map, entries_by_bytes, some_key}
 use Rattle.dnssec_zone.specs.Start.{is_listed, some_kept, serves_as_kept, Want}
-use Rattle.dnssec_zone.specs.declared.keys.Counts.{Counts}
+use Rattle.dnssec_zone.specs.declared.index.Counts.{Counts}
 use Rattle.dnssec_zone.proofs.Walks.{values_by_bytes, same_keys, IsWalked}
 use Rattle.dnssec_zone.proofs.Tests.{some_or_none, alike}
 use Rattle.std.specs.Prelude.{Option, ◌&&◌, ◌||◌, T, nat_lt, if◌then◌else◌}

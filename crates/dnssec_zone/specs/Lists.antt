@@ -8,8 +8,8 @@ use Rattle.dnssec_key.specs.State.{is_kept}
 use Rattle.dnssec_key.specs.Key.{all_states}
 use Rattle.dnssec_key.specs.declared.roll.Half.{Half}
 use Rattle.dnssec_key.specs.declared.roll.Half.TheVariants.{First, Second}
-use Rattle.dnssec_zone.specs.declared.lists.Part.{Part}
-use Rattle.dnssec_zone.specs.declared.lists.Part.TheVariants.{Old, New}
+use Rattle.dnssec_zone.specs.declared.rolls.Part.{Part}
+use Rattle.dnssec_zone.specs.declared.rolls.Part.TheVariants.{Old, New}
 use Rattle.dnssec_zone.specs.Rolls.{same_roll}
 use Rattle.dnssec_zone.specs.Keys.{Keys}
 

@@ -1,7 +1,7 @@
 //! Why a start is refused for its keys. Nothing is changed here.
 ghost use Rattle.std.specs.Prelude.{◌≡◌, ℕ, Bool, List, [], false, not, ◌&&◌, ◌||◌, length, None};
-ghost use Rattle.std.specs.Prelude.{Some, Option, IfOk, IfErr, OnOk, nat_eq, if◌then◌else◌, ◌<◌};
-ghost use Rattle.std.specs.Prelude.{◌/◌};
+ghost use Rattle.std.specs.Prelude.{Some, Option, IfOk, IfErr, OnOk, nat_eq};
+ghost use Rattle.std.specs.Prelude.{if◌then◌else◌};
 ghost use Rattle.std.specs.{List.list_all, Option.option_map_or};
 ghost use Rattle.std.specs.Str.{bytes_eq};
 ghost use Rattle.std.specs.FinMap as map;
@@ -17,42 +17,11 @@ ghost use Rattle.dnssec_zone.specs.Start.{some_kept, is_met, Want as AnyWant};
 ghost use Rattle.dnssec_base.specs.declared.error.Error.TheVariants.{NoSuitableKeyPresent};
 ghost use Rattle.dnssec_zone.specs.Refusals.{AnswersExactly};
 
+use crate::index::{AlgorithmSet, TagSet, is_set, set};
 use crate::keys::Keys;
 use dnssec_key::{
     Column, Error, Key, KeyType, RollType, Side, Want, is_kept_at_parent, is_kept_present,
 };
-
-/// A bit for each key tag.
-pub(crate) type TagSet = [u64; 1024];
-
-/// A bit for each algorithm.
-pub type AlgorithmSet = [u64; 4];
-
-/// Whether a number is in a set.
-pub(crate) fn is_set(words: &[u64], number: u16) -> bool
-    ensures { result ≡ is_set words.now number }
-{
-    match words.get(usize::from(number / 64)) {
-        None => false,
-        Some(word) => (*word >> (number % 64)) & 1 == 1,
-    }
-}
-
-/// Puts a number into a set that has a bit for it, or takes it out.
-pub(crate) fn set(words: &mut [u64], number: u16, is_in: bool)
-    requires { number / 64 < length words.old }
-    ensures len { length words.new ≡ length words.old }
-    ensures put { (n : ℕ) → is_set words.new n
-        ≡ (if nat_eq number n then is_in else is_set words.old n) }
-{
-    let at = usize::from(number / 64);
-    let bit = 1u64 << (number % 64);
-    words[at] = if is_in {
-        words[at] | bit
-    } else {
-        words[at] & !bit
-    };
-}
 
 /// A list of more entries is long.
 const ENTRIES_OF_SHORT_LIST: usize = 4;
@@ -93,7 +62,7 @@ impl NewKeys {
             KeyType::Csk(_, _) => self.csk = true,
             KeyType::Include(_) => (),
         }
-        let algorithm = u16::from(key.algorithm().to_int());
+        let algorithm = u16::from(key.algorithm().number);
         set(&mut self.algorithms, algorithm, true);
         Ok(())
     }
@@ -173,7 +142,7 @@ impl Keys {
         let mut algorithms = [0; 4];
         for reference in old {
             let key = self.listed_key(roll, reference)?;
-            set(&mut algorithms, u16::from(key.algorithm().to_int()), true);
+            set(&mut algorithms, u16::from(key.algorithm().number), true);
         }
         Ok(algorithms)
     }

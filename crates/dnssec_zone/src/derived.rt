@@ -2,12 +2,12 @@
 //! many of them a start could go on with, and the waits in progress. Each change of the keys is
 //! followed here, and in no other place.
 ghost use Rattle.std.specs.Prelude.{◌≡◌, ℕ, None, Some, true, false, nat_eq, IfOk, OnOk, OnErr};
-ghost use Rattle.std.specs.Prelude.{IsOkUnless, if◌then◌else◌, is_none, length, ◌≤◌, ◌<◌, ◌^◌, IsSome};
+ghost use Rattle.std.specs.Prelude.{IsOkUnless, if◌then◌else◌, length, ◌≤◌, ◌<◌, ◌^◌, IsSome};
 ghost use Rattle.std.specs.{List.fold, Option.option_map, String.string_eq};
 ghost use Rattle.std.specs.HashMap as hash;
 ghost use Rattle.dnssec_base.specs.declared.error.Error.TheVariants.{OutOfMemory};
 ghost use Rattle.dnssec_key.specs.Setters.{setting_of, set_by};
-ghost use Rattle.dnssec_zone.specs.Inner.{Bits.is_set, TagIndex.has};
+ghost use Rattle.dnssec_zone.specs.Inner.TagIndex.{has};
 ghost use Rattle.dnssec_zone.specs.Inner.Counts.{CountsAgree, count_in};
 ghost use Rattle.dnssec_zone.specs.Inner.Counts.{end_moves_kept, moves_counts, no_counts, with_key};
 ghost use Rattle.dnssec_zone.specs.Inner.Counts.{without_key};
@@ -16,88 +16,13 @@ ghost use Rattle.dnssec_zone.specs.Inner.Tags.{TagsAgree};
 ghost use Rattle.dnssec_zone.specs.Keys.{Keys as AnyKeys, has_tag, keys_in_map};
 ghost use Rattle.dnssec_zone.specs.Refusals.{Answers, reference_refusal};
 
-use crate::check::{TagSet, is_set, set};
-use crate::keys::{Counting, Counts};
+use crate::index::{Counting, Counts, TagIndex};
 use crate::wait_end::{KeyMap, Waits};
 use dnssec_key::{Error, Half, Key, KeyType, PhaseEnd, RollType, Setting, wait_moves_kept};
 use std::alloc::Global;
 
 /// Up to this many keys we read each key's tag; more keys have an index of their tags.
 const KEYS_WITHOUT_INDEX: usize = 16;
-
-/// The tags in use, a bit for each; or no index, if there are so few keys that each is asked.
-#[derive(Drop)]
-pub(crate) struct TagIndex {
-    tags: Option<Box<TagSet>>,
-}
-
-impl TagIndex {
-    /// No index.
-    pub(crate) fn none() -> TagIndex
-        ensures { (t : ℕ) → has result t ≡ None }
-    {
-        TagIndex { tags: None }
-    }
-
-    /// An index in which no tag is.
-    // Out of line, as the next function, so that other calls need no stack for the bits.
-    #[inline(never)]
-    pub(crate) fn empty(alloc: Global) -> Result<TagIndex, Error>
-        ensures empty { IfOk result (λ index. (t : ℕ) → has index t ≡ Some false) }
-        ensures err { IsOkUnless result OutOfMemory }
-    {
-        boxed(alloc, [0; 1024])
-    }
-
-    /// A copy of the index, or of none.
-    #[inline(never)]
-    pub(crate) fn try_clone(&self, alloc: Global) -> Result<TagIndex, Error>
-        ensures same { IfOk result (λ index. (t : ℕ) → has index t ≡ has self.now t) }
-        ensures err { IsOkUnless result OutOfMemory }
-    {
-        match &self.tags {
-            None => Ok(TagIndex::none()),
-            Some(tags) => boxed(alloc, **tags),
-        }
-    }
-
-    /// Whether there is no index.
-    pub(crate) fn is_none(&self) -> bool
-        ensures { (t : ℕ) → result ≡ is_none (has self.now t) }
-    {
-        self.tags.is_none()
-    }
-
-    /// Whether a tag is in use; `None` if there is no index.
-    pub(crate) fn has(&self, key_tag: u16) -> Option<bool>
-        ensures { result ≡ has self.now key_tag }
-    {
-        match &self.tags {
-            None => None,
-            Some(tags) => Some(is_set(&**tags, key_tag)),
-        }
-    }
-
-    /// Notes that a tag is in use from now on, or no longer, if there is an index.
-    pub(crate) fn note(&mut self, key_tag: u16, in_use: bool)
-        ensures { (t : ℕ) → has self.new t ≡ option_map
-            (λ b. if nat_eq key_tag t then in_use else b) (has self.old t) }
-    {
-        match &mut self.tags {
-            None => {}
-            Some(tags) => set(&mut **tags, key_tag, in_use),
-        }
-    }
-}
-
-/// An index with these tags.
-fn boxed(alloc: Global, tags: TagSet) -> Result<TagIndex, Error>
-    ensures ok { IfOk result (λ index. (t : ℕ) → has index t ≡ Some (is_set tags t)) }
-    ensures err { IsOkUnless result OutOfMemory }
-{
-    let tags = Box::new(alloc, tags)?;
-    Ok(TagIndex { tags: Some(tags) })
-}
 
 /// Whether a setter may change the counts. None of them asks whether a key signs.
 fn moves_counts(setting: &Setting) -> bool

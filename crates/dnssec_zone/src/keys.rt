@@ -9,20 +9,19 @@ ghost use Rattle.dnssec_key.specs.RollTable.{after_end, after_early_end};
 ghost use Rattle.dnssec_key.specs.Setters.{setting_of, set_by};
 ghost use Rattle.dnssec_zone.specs.Inner.Bits.{is_set};
 ghost use Rattle.dnssec_zone.specs.Inner.{Counts.count_in, Counts.passes, KeyMark.marked};
-ghost use Rattle.dnssec_zone.specs.Inner.Counts.{count_after, count_of, counts_after, no_counts};
 ghost use Rattle.dnssec_zone.specs.Keys.{TagsApart, keys_in_map, has_tag};
 ghost use Rattle.dnssec_zone.specs.Start.{is_listed, serves_as_kept, texts};
 ghost use Rattle.dnssec_zone.specs.Refusals.{Answers, AnswersExactly, add_refusal};
 ghost use Rattle.dnssec_zone.specs.Refusals.{deletion_refusal, reference_refusal, setting_refusal};
 ghost use Rattle.dnssec_zone.specs.Wait.{IsOverFrom, LacksStamp};
 
-use crate::check::{TagSet, is_set};
 use crate::derived::Derived;
+use crate::index::{Counting, TagSet, is_set};
 use crate::mark::KeyMark;
 use crate::wait_end::{KeyMap, over_from};
 use dnssec_key::{
-    Error, Half, Key, KeyType, PhaseEnd, RollType, Setting, UnixTime, Want, end_phase,
-    is_kept_at_parent, is_kept_present, mark_new, mark_old, unmark_new, unmark_old,
+    Error, Half, Key, PhaseEnd, RollType, Setting, UnixTime, Want, end_phase, mark_new, mark_old,
+    unmark_new, unmark_old,
 };
 use std::alloc::Global;
 use std::collections::HashMap;
@@ -48,91 +47,6 @@ impl Model for Keys {
     ghost view = { λ s. keys_in_map s.map };
 
     ghost invariant = { λ s. IsDerived s.derived (keys_in_map s.map) };
-}
-
-/// For each want, how many keys meet it by the states of their roles, whether a start lists them as
-/// old or not.
-#[derive(Clone, Copy)]
-pub(crate) struct Counts {
-    present_ksk: usize,
-    ksk_at_parent: usize,
-    present_zsk: usize,
-    present_ksk_role: usize,
-    present_zsk_role: usize,
-}
-
-/// Whether a key comes into the counts, or goes out of them.
-#[derive(Clone, Copy)]
-pub(crate) enum Counting {
-    OneMore,
-    OneLess,
-}
-
-impl Counting {
-    /// Changes a count, if the key serves.
-    fn change(self, count: &mut usize, serves: bool)
-        ensures { count.new ≡ count_after serves self count.old }
-    {
-        if serves {
-            *count = match self {
-                Counting::OneMore => count.saturating_add(1),
-                Counting::OneLess => count.saturating_sub(1),
-            };
-        }
-    }
-}
-
-impl Counts {
-    /// The counts of no keys.
-    pub(crate) fn none() -> Counts
-        ensures { result ≡ no_counts }
-    {
-        Counts {
-            present_ksk: 0,
-            ksk_at_parent: 0,
-            present_zsk: 0,
-            present_ksk_role: 0,
-            present_zsk_role: 0,
-        }
-    }
-
-    /// How many keys meet a want.
-    pub(crate) fn of(&self, want: Want) -> usize
-        ensures { result ≡ count_of self.now want }
-    {
-        match want {
-            Want::PresentKsk => self.present_ksk,
-            Want::KskAtParent => self.ksk_at_parent,
-            Want::PresentZsk => self.present_zsk,
-            Want::PresentKskRole => self.present_ksk_role,
-            Want::PresentZskRole => self.present_zsk_role,
-        }
-    }
-
-    /// Counts a key, or counts it no longer.
-    pub(crate) fn count(&mut self, keytype: &KeyType, counting: Counting)
-        ensures { self.new ≡ counts_after counting keytype.now self.old }
-    {
-        match *keytype {
-            KeyType::Ksk(ksk) => {
-                let present = is_kept_present(Some(ksk));
-                let at_parent = is_kept_at_parent(Some(ksk));
-                counting.change(&mut self.present_ksk, present);
-                counting.change(&mut self.present_ksk_role, present);
-                counting.change(&mut self.ksk_at_parent, at_parent);
-            }
-            KeyType::Zsk(zsk) => {
-                let present = is_kept_present(Some(zsk));
-                counting.change(&mut self.present_zsk, present);
-                counting.change(&mut self.present_zsk_role, present);
-            }
-            KeyType::Csk(ksk, zsk) => {
-                counting.change(&mut self.present_ksk_role, is_kept_present(Some(ksk)));
-                counting.change(&mut self.present_zsk_role, is_kept_present(Some(zsk)));
-            }
-            KeyType::Include(_) => {}
-        }
-    }
 }
 
 /// Whether some key has the tag, by a walk over the keys.

@@ -7,14 +7,14 @@
 
 mod check;
 mod derived;
+mod index;
 mod keys;
-mod lists;
 mod mark;
 mod rolls;
 mod wait_end;
 
-pub use check::{AlgorithmSet, NewKeys, may_go_over};
+pub use check::{NewKeys, may_go_over};
+pub use index::AlgorithmSet;
 pub use keys::Keys;
-pub use lists::{Lists, Part, same_part};
 pub use mark::KeyMark;
-pub use rolls::{Rolls, all_rolls, go_together};
+pub use rolls::{Lists, Part, Rolls, all_rolls, go_together, same_part};

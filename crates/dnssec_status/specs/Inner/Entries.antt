@@ -8,7 +8,7 @@ use Rattle.dnssec_key.specs.declared.roll.RollType.{RollType}
 use Rattle.dnssec_run.specs.InOrder.{entry_of}
 use Rattle.dnssec_record.specs.Courses.{Listing, as_listed}
 use Rattle.dnssec_record.specs.declared.courses.Listing as code
-use Rattle.dnssec_zone.specs.declared.lists.Part.{Part}
+use Rattle.dnssec_zone.specs.declared.rolls.Part.{Part}
 use Rattle.dnssec_status.specs.Keys.{has_listed, key_json}
 
 -- the text of an entry

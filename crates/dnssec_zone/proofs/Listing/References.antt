@@ -14,8 +14,8 @@ use Rattle.std.specs.List.{list_any}
 use Rattle.dnssec_key.specs.{declared.roll.RollType.RollType, Key.KeyParts}
 use Rattle.dnssec_zone.specs.Inner.Entries.{IsThere, AreThere, EntriesAgree}
 use Rattle.dnssec_zone.specs.{Keys.Keys, Keys.TagsApart, Keys.has_tag, Lists.without, Lists.others}
-use Rattle.dnssec_zone.specs.declared.lists.{ListedKey.ListedKey, Part.Part, Part.TheVariants.Old}
-use Rattle.dnssec_zone.specs.declared.lists.Part.TheVariants.{New}
+use Rattle.dnssec_zone.specs.declared.rolls.{ListedKey.ListedKey, Part.Part, Part.TheVariants.Old}
+use Rattle.dnssec_zone.specs.declared.rolls.Part.TheVariants.{New}
 use Rattle.dnssec_zone.specs.{Start.is_listed, Start.texts}
 use Rattle.dnssec_zone.proofs.{Tags.there-removed, Quantified.here-found, Quantified.later-found}
 use Rattle.dnssec_zone.proofs.{Quantified.same_key, Quantified.second, Marks.texts-more}

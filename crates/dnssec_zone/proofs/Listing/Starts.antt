@@ -14,8 +14,8 @@ use Rattle.dnssec_zone.specs.Inner.Entries.{entries_of, entries_at_start, entrie
 use Rattle.dnssec_zone.specs.Inner.Entries.{references_of, lists_of, AreThere}
 use Rattle.dnssec_zone.specs.Lists.{Listed, with_listed, others, nothing_listed, has_kept_key}
 use Rattle.dnssec_zone.specs.Lists.{listed_at_start, lists_after_report, same_part}
-use Rattle.dnssec_zone.specs.declared.lists.{ListedKey.ListedKey, Part.Part, Part.TheVariants.Old}
-use Rattle.dnssec_zone.specs.{declared.lists.Part.TheVariants.New, Keys.Keys, Keys.TagsApart}
+use Rattle.dnssec_zone.specs.declared.rolls.{ListedKey.ListedKey, Part.Part, Part.TheVariants.Old}
+use Rattle.dnssec_zone.specs.{declared.rolls.Part.TheVariants.New, Keys.Keys, Keys.TagsApart}
 use Rattle.dnssec_zone.specs.{Rolls.same_roll, Start.new_entry_fault, Start.new_fault}
 use Rattle.dnssec_zone.proofs.Listing.References.{names, reference_of-is, there-append}
 use Rattle.dnssec_zone.proofs.Listing.References.{there-filter}

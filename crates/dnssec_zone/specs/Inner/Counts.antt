@@ -9,9 +9,9 @@ use Rattle.dnssec_key.specs.declared.roll.{Half.Half, RollType.RollType}
 use Rattle.dnssec_key.specs.{Key.KeyParts, Sides.wait_moves_kept}
 use Rattle.dnssec_key.specs.Setters.{Setting, Present, AtParent, Stale}
 use Rattle.dnssec_zone.specs.Keys.{Keys}
-use Rattle.dnssec_zone.specs.declared.keys.Counts.{Counts}
-use Rattle.dnssec_zone.specs.declared.keys.Counting.{Counting}
-use Rattle.dnssec_zone.specs.declared.keys.Counting.TheVariants.{OneMore, OneLess}
+use Rattle.dnssec_zone.specs.declared.index.Counts.{Counts}
+use Rattle.dnssec_zone.specs.declared.index.Counting.{Counting}
+use Rattle.dnssec_zone.specs.declared.index.Counting.TheVariants.{OneMore, OneLess}
 use Rattle.dnssec_zone.specs.Start.{is_listed, serves_as_kept, Want}
 use Rattle.dnssec_zone.specs.Start.{PresentKsk, KskAtParent, PresentZsk, PresentKskRole}
 use Rattle.dnssec_zone.specs.Start.{PresentZskRole}

@@ -9,9 +9,9 @@ use Rattle.dnssec_key.specs.State.{is_kept}
 use Rattle.dnssec_key.specs.Key.{KeyParts, all_states}
 use Rattle.dnssec_key.specs.declared.roll.Half.{Half}
 use Rattle.dnssec_key.specs.declared.roll.Half.TheVariants.{First, Second}
-use Rattle.dnssec_zone.specs.declared.lists.ListedKey.{ListedKey}
-use Rattle.dnssec_zone.specs.declared.lists.Part.{Part}
-use Rattle.dnssec_zone.specs.declared.lists.Part.TheVariants.{Old, New}
+use Rattle.dnssec_zone.specs.declared.rolls.ListedKey.{ListedKey}
+use Rattle.dnssec_zone.specs.declared.rolls.Part.{Part}
+use Rattle.dnssec_zone.specs.declared.rolls.Part.TheVariants.{Old, New}
 use Rattle.dnssec_zone.specs.Keys.{Keys, TagsApart}
 use Rattle.dnssec_zone.specs.Lists.{Lists, same_part}
 use Rattle.dnssec_zone.specs.Rolls.{same_roll}

@@ -31,7 +31,7 @@ pub returns : goal.returns
 returns c = accepted-step c.args.self.now _
     (StartRoll c.args.rolltype (texts c.args.old.now) (texts c.args.new.now) c.args.now.now) _
     (ap barred_by (clear c))
-    (ap Actions (c.in_ok-actions.ensures.items ∙ c.actions_in.ensures))
+    (ap Actions (c.in_ok-actions.ensures.items ∙ c.column.ensures.asks))
     (rw (← c.self.view_is) record {
       name = refl;
       rolls = c.in_ok-put_in.ensures.ok;

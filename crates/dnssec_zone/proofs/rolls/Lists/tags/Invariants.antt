@@ -2,7 +2,7 @@
 use Rattle.std.proofs.Common.{◌≡◌, ℕ, length, take}
 use Rattle.dnssec_zone.specs.Inner.Bits.{is_set}
 use Rattle.dnssec_zone.specs.Inner.Entries.{has_entry}
-use Rattle.dnssec_zone.proofs.lists.Lists.tags.Given as goal
+use Rattle.dnssec_zone.proofs.rolls.Lists.tags.Given as goal
 
 -- the tags of the entries so far
 abbrev pub invariant-loop-entry : goal.invariant-loop-entry

@@ -4,7 +4,7 @@ use Rattle.std.specs.Prelude.{get_or, ◌/◌}
 use Rattle.std.proofs.lemmas.Nat.Bits.{bit_at_set_same, bit_at_set_other}
 use Rattle.std.proofs.lemmas.Nat.Bits.{bit_at_clear_same, bit_at_clear_other}
 use Rattle.std.proofs.lemmas.{Bool.Decides.nat_tests, List.get_or-set_same, List.get_or-set_other}
-use Rattle.dnssec_zone.proofs.check.set.Goals as goal
+use Rattle.dnssec_zone.proofs.index.set.Goals as goal
 
 pub returns-clause-put : goal.returns-clause-put
 returns-clause-put c = λ n.

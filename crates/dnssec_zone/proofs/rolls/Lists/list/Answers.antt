@@ -7,7 +7,7 @@ use Rattle.std.proofs.lemmas.List.{append-nil, append_assoc, take_all}
 use Rattle.std.specs.Option.{option_map}
 use Rattle.dnssec_zone.specs.{Start.texts, Inner.Entries.entries_of, Inner.Entries.entry_of}
 use Rattle.dnssec_zone.proofs.Listing.References.{entries_of-at}
-use Rattle.dnssec_zone.proofs.lists.Lists.list.Goals as goal
+use Rattle.dnssec_zone.proofs.rolls.Lists.list.Goals as goal
 
 pub loop-reference-init : goal.loop-reference-init
 loop-reference-init c = (

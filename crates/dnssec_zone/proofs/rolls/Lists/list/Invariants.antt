@@ -2,7 +2,7 @@
 use Rattle.std.proofs.Common.{◌≡◌, ◌++◌, ◌+◌, ◌≤◌, take}
 use Rattle.std.specs.Prelude.{vec_len, vec_capacity}
 use Rattle.dnssec_zone.specs.{Start.texts, Inner.Entries.entries_of}
-use Rattle.dnssec_zone.proofs.lists.Lists.list.Given as goal
+use Rattle.dnssec_zone.proofs.rolls.Lists.list.Given as goal
 
 -- the references so far are looked at, and each took one place at most
 abbrev pub invariant-loop-reference : goal.invariant-loop-reference
