@@ -5,7 +5,7 @@ use Rattle.std.proofs.Common.{insert, remove, append-nil, append_assoc, get_or, 
 use Rattle.std.proofs.Common.{Global, Some, Vec, length-append}
 use Rattle.std.proofs.lemmas.List.{length-drop, length-map, length-take-le, map-append}
 use Rattle.std.proofs.lemmas.List.{take-append-drop}
-use Rattle.std.specs.Prelude.{Option}
+use Rattle.std.specs.Prelude.{Option, unwrap_or}
 use Rattle.dnssec_run.specs.declared.record.{Frame.Frame, Frames.Frames, Published.Published}
 use Rattle.dnssec_run.specs.declared.record.PublishedKey.{PublishedKey}
 use Rattle.dnssec_run.specs.declared.sets.Renewal.{Renewal}
@@ -197,6 +197,13 @@ keeps-both x y z f g one other fronts backs =
       back_len = other.back_len;
     }
 
+-- the front of the first change stays
+pub around-with : (o : Option Frame) (at n : ℕ) (f : Frame)
+    → f ≡ unwrap_or o (record { front = at; back = 0 })
+    → record { front = f.front; back = n } ≡ frame_with o at n
+around-with None at n f is = ap (λ (f : Frame). record { front = f.front; back = n }) is
+around-with (Some g) at n f is = ap (λ (f : Frame). record { front = f.front; back = n }) is
+
 -- a set has kept what stands around its changes, after one more change at the next key
 abbrev Kept : List PublishedKey → Vec PublishedKey Global → ℕ → Frame → Type 0
 Kept before keys read frame = KeepsFrame frame (ids before) (ids keys.items)
@@ -223,6 +230,16 @@ kept-more before old keys read n frame kept step fits is further long =
       omega (arith, k.1, further),
       long,
     )
+
+-- the changes that are left don't matter
+pub kept-counted : (before : List PublishedKey) (set : Renewal) (left : ℕ) → HasKept before set
+    → HasKept before (record (set) { changes_left = left })
+kept-counted before set left = by set.around
+  where
+    by : (o : Option Frame) → KeptBy o before set
+        → KeptBy o before (record (set) { changes_left = left })
+    by None k = k
+    by (Some f) k = k
 
 -- a set without a change is whole
 pub kept-whole : (before : List PublishedKey) (set : Renewal) (frame : Frame) → set.around ≡ None

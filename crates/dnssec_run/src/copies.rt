@@ -4,7 +4,7 @@ ghost use Rattle.dnssec_base.specs.declared.error.Error.TheVariants.{OutOfMemory
 ghost use Rattle.dnssec_run.specs.Published.{id_of};
 ghost use Rattle.dnssec_run.specs.Recorder.{HasSameKeys};
 
-use crate::record::{Published, PublishedKey, published_key};
+use crate::record::{Published, PublishedKey};
 use dnssec_keyset::Error;
 use std::alloc::Global;
 
@@ -15,7 +15,10 @@ fn copy_keys(alloc: Global, keys: &[PublishedKey]) -> Result<Vec<PublishedKey>, 
 {
     let mut copies = Vec::with_capacity(alloc, keys.len())?;
     for key in keys {
-        copies.push(published_key(alloc, &key.reference, key.added)?)?;
+        copies.push(PublishedKey {
+            added: key.added,
+            reference: String::from_str(alloc, &key.reference)?,
+        })?;
     }
     Ok(copies)
 }

@@ -11,7 +11,7 @@ ghost use Rattle.dnssec_run.specs.Recorder.{Agrees, ChangesAt, HasSameKeys, Leav
 ghost use Rattle.dnssec_run.specs.Recorder.{PlacesKey, SaysShownAt, at_list, passing, shows};
 
 use crate::lists::{ByList, Shown};
-use crate::record::{Frame, Frames, Published, PublishedKey, published_key};
+use crate::record::{Frame, Frames, Published, PublishedKey};
 use dnssec_keyset::{Error, KeySet, KeyType};
 use std::alloc::Global;
 use std::collections::BTreeMap;
@@ -178,8 +178,9 @@ fn place_key(
             let Some(added) = added.get(reference) else {
                 return Ok(false);
             };
-            let key = published_key(alloc, reference, *added)?;
-            keys.insert(place, key)?;
+            let added = *added;
+            let reference = String::from_str(alloc, reference)?;
+            keys.insert(place, PublishedKey { added, reference })?;
             Ok(true)
         }
     }

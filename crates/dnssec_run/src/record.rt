@@ -1,19 +1,18 @@
 //! What a run leaves: its entries, with what was published at each position. And which sets a call
 //! may have changed, and where.
-ghost use Rattle.std.specs.Prelude.{◌≡◌, ◌||◌, [], IfErr, IfOk, map, true, false};
+ghost use Rattle.std.specs.Prelude.{◌≡◌, ◌||◌, [], map};
 ghost use Rattle.std.specs.List.{list_any};
-ghost use Rattle.dnssec_base.specs.declared.error.Error.TheVariants.{OutOfMemory};
 ghost use Rattle.dnssec_run.specs.Asked.{asked_by, kind_shown, updates};
 ghost use Rattle.dnssec_run.specs.Frames.{frames_in};
 ghost use Rattle.dnssec_run.specs.Origins.{set_in};
 ghost use Rattle.dnssec_run.specs.Published.{id_of};
-ghost use Rattle.dnssec_run.specs.Recorder.{at_list, shows};
+ghost use Rattle.dnssec_run.specs.Recorder.{at_list};
 ghost use Rattle.dnssec_run.specs.Safe.{kind_of};
 ghost use Rattle.dnssec_run.specs.declared.lists.Shown.{Shown};
 
 use crate::caches::SetKind;
 use crate::lists::{ByList, Shown};
-use dnssec_keyset::{Action, Error, KeySet, KeyType, RollType, UnixTime};
+use dnssec_keyset::{Action, Error, KeySet, RollType, UnixTime};
 use std::alloc::Global;
 
 /// What a call answered.
@@ -49,27 +48,6 @@ impl Reply {
     }
 }
 
-impl Shown {
-    /// Whether the set shows a key of this kind, in its state.
-    pub(crate) fn shows(self, keytype: KeyType) -> bool
-        ensures { result ≡ shows self keytype }
-    {
-        match (self, keytype) {
-            (Shown::Ds, KeyType::Ksk(state) | KeyType::Csk(state, _)) => state.at_parent(),
-            (
-                Shown::Dnskey,
-                KeyType::Ksk(state)
-                | KeyType::Zsk(state)
-                | KeyType::Csk(state, _)
-                | KeyType::Include(state),
-            ) => state.present(),
-            (Shown::DnskeySigners, KeyType::Ksk(state) | KeyType::Csk(state, _)) => state.signer(),
-            (Shown::ZoneSigners, KeyType::Zsk(state) | KeyType::Csk(_, state)) => state.signer(),
-            _ => false,
-        }
-    }
-}
-
 /// A key of a record: a reference, and the position of the call that added it. A reference that is
 /// used again after a deletion is another key.
 #[derive(Debug, Drop, PartialEq)]
@@ -78,19 +56,6 @@ pub struct PublishedKey {
     /// before their references.
     pub added: usize,
     pub reference: String,
-}
-
-/// A key of a record, with a copy of its reference.
-pub(crate) fn published_key(
-    alloc: Global,
-    reference: &str,
-    added: usize,
-) -> Result<PublishedKey, Error>
-    ensures ok { IfOk result (λ k. id_of k ≡ (reference.now, added)) }
-    ensures err { IfErr result (λ e. e ≡ OutOfMemory) }
-{
-    let reference = String::from_str(alloc, reference)?;
-    Ok(PublishedKey { added, reference })
 }
 
 /// What is published at a position. Each list is in the order of its references' bytes, and has no

@@ -1,7 +1,8 @@
 //! What is published of a key set, read in the order of its references. A set is read anew in
 //! place.
 ghost use Rattle.std.specs.Prelude.{◌≡◌, ◌≤◌, ◌++◌, ◌∷◌, [], List, IfOk, IfErr, OnOk, map, true};
-ghost use Rattle.std.specs.Prelude.{◌||◌, false, IsSome, None, Some, string_bytes, vec_len};
+ghost use Rattle.std.specs.Prelude.{◌||◌, false, IsSome, None, Some, if◌then◌else◌};
+ghost use Rattle.std.specs.Prelude.{string_bytes, vec_len};
 ghost use Rattle.std.specs.BTreeMap as tree;
 ghost use Rattle.std.specs.HashMap as hash;
 ghost use Rattle.std.specs.Option.{option_map};
@@ -14,7 +15,7 @@ ghost use Rattle.dnssec_run.specs.declared.record.PublishedKey.{PublishedKey};
 
 use crate::lists::{ByList, Shown};
 use crate::places::renew_key;
-use crate::record::{Frame, Frames, Published, PublishedKey, published_key};
+use crate::record::{Frame, Frames, Published, PublishedKey};
 use dnssec_keyset::{Error, Key, KeySet, KeyType};
 use std::alloc::Global;
 use std::collections::{BTreeMap, HashMap};
@@ -22,6 +23,27 @@ use std::mem;
 
 /// Up to this many keys are put in or taken out in place. Each of them moves all keys after it.
 const MANY: usize = 16;
+
+impl Shown {
+    /// Whether the set shows a key of this kind, in its state.
+    pub(crate) fn shows(self, keytype: KeyType) -> bool
+        ensures { result ≡ shows self keytype }
+    {
+        match (self, keytype) {
+            (Shown::Ds, KeyType::Ksk(state) | KeyType::Csk(state, _)) => state.at_parent(),
+            (
+                Shown::Dnskey,
+                KeyType::Ksk(state)
+                | KeyType::Zsk(state)
+                | KeyType::Csk(state, _)
+                | KeyType::Include(state),
+            ) => state.present(),
+            (Shown::DnskeySigners, KeyType::Ksk(state) | KeyType::Csk(state, _)) => state.signer(),
+            (Shown::ZoneSigners, KeyType::Zsk(state) | KeyType::Csk(_, state)) => state.signer(),
+            _ => false,
+        }
+    }
+}
 
 /// A set while it is read anew in place: most keys of before stay where they stand.
 #[derive(Drop)]
@@ -86,65 +108,59 @@ impl Renewal {
             Some(next) if next.added == added && next.reference == *reference => {
                 if is_shown {
                     self.read += 1;
-                } else {
-                    self.take_next();
+                    return Ok(());
                 }
-                Ok(())
+                self.change(alloc, is_shown, reference, added)
             }
-            _ if is_shown => self.put(alloc, reference, added),
+            _ if is_shown => self.change(alloc, is_shown, reference, added),
             _ => Ok(()),
         }
     }
 
-    /// Puts a key in.
-    fn put(&mut self, alloc: Global, reference: &str, added: usize) -> Result<(), Error>
+    /// Puts a key in if the set shows it, or else takes the next key of before out. After many such
+    /// changes in place it drops what is left of before. So a set takes time for its keys, and not
+    /// for their square.
+    fn change(
+        &mut self,
+        alloc: Global,
+        is_shown: bool,
+        reference: &str,
+        added: usize,
+    ) -> Result<(), Error>
         requires { self.old.read ≤ vec_len self.old.keys }
-        ensures ok { OnOk result (ids_read self.new
-            ≡ ids_read self.old ++ (reference.now, added) ∷ []) }
+        ensures ok { OnOk result (ids_read self.new ≡ ids_read self.old
+            ++ (if is_shown then (reference.now, added) ∷ [] else [])) }
+        ensures touched { OnOk result (self.new.is_touched ≡ self.old.is_touched) }
         ensures fits { OnOk result (self.new.read ≤ vec_len self.new.keys) }
         ensures kept { OnOk result ((before : List PublishedKey) → HasKept before self.old →
             HasKept before self.new) }
-        ensures touched { OnOk result (self.new.is_touched ≡ self.old.is_touched) }
         ensures err { IfErr result (λ e. e ≡ OutOfMemory) }
-    {
-        let key = published_key(alloc, reference, added)?;
-        self.count_change();
-        self.around = Some(self.frame_to(self.keys.len() - self.read));
-        self.keys.insert(self.read, key)?;
-        self.read += 1;
-        Ok(())
-    }
-
-    /// Takes the next key of before out.
-    fn take_next(&mut self)
-        requires { self.old.read ≤ vec_len self.old.keys }
-        ensures same { ids_read self.new ≡ ids_read self.old }
-        ensures touched { self.new.is_touched ≡ self.old.is_touched }
-        ensures fits { self.new.read ≤ vec_len self.new.keys }
-        ensures kept { (before : List PublishedKey) → HasKept before self.old →
-            HasKept before self.new }
-    {
-        self.count_change();
-        if self.read < self.keys.len() {
-            self.around = Some(self.frame_to(self.keys.len() - self.read - 1));
-            self.keys.remove(self.read);
-        }
-    }
-
-    /// After many changes in place drops what is left of before. So a set takes time for its keys,
-    /// and not for their square.
-    fn count_change(&mut self)
-        requires { self.old.read ≤ vec_len self.old.keys }
-        ensures same { ids_read self.new ≡ ids_read self.old }
-        ensures touched { self.new.is_touched ≡ self.old.is_touched }
-        ensures fits { self.new.read ≤ vec_len self.new.keys }
-        ensures kept { (before : List PublishedKey) → HasKept before self.old →
-            HasKept before self.new }
     {
         match self.changes_left.checked_sub(1) {
             Some(left) => self.changes_left = left,
             None => self.drop_rest(),
         }
+        let around = self.around.unwrap_or(Frame {
+            front: self.read,
+            back: 0,
+        });
+        let back = self.keys.len() - self.read;
+        if is_shown {
+            self.around = Some(Frame { back, ..around });
+            let reference = String::from_str(alloc, reference)?;
+            self.keys
+                .insert(self.read, PublishedKey { added, reference })?;
+            self.read += 1;
+            return Ok(());
+        }
+        if back > 0 {
+            self.around = Some(Frame {
+                back: back - 1,
+                ..around
+            });
+            self.keys.remove(self.read);
+        }
+        Ok(())
     }
 
     /// Drops the keys of before that weren't met yet.
@@ -157,21 +173,12 @@ impl Renewal {
         ensures kept { (before : List PublishedKey) → HasKept before self.old →
             HasKept before self.new }
     {
-        self.around = Some(self.frame_to(0));
+        let around = self.around.unwrap_or(Frame {
+            front: self.read,
+            back: 0,
+        });
+        self.around = Some(Frame { back: 0, ..around });
         self.keys.truncate(self.read);
-    }
-
-    /// What stands around the changes so far and one at the next key, if so many keys come after.
-    fn frame_to(&self, back: usize) -> Frame
-        ensures { result ≡ frame_with self.now.around self.now.read back }
-    {
-        Frame {
-            front: match self.around {
-                Some(frame) => frame.front,
-                None => self.read,
-            },
-            back,
-        }
     }
 
     /// The set, after all keys were read. Notes what stands around its changes.
@@ -216,9 +223,9 @@ impl WalkOrder {
         }
     }
 
-    /// The keys of a set with their references, as a walk over the map lends them. Of few keys it
-    /// lends none. After a key came or went it brings them into order. Most of them stand where
-    /// they stood before, so the sort begins with the last order.
+    /// The keys of a set with their references, as a walk over the map lends them. After a key
+    /// came or went it brings them into order. Most of them stand where they stood before, so the
+    /// sort begins with the last order.
     fn walk<'a>(
         &mut self,
         alloc: Global,
@@ -228,9 +235,6 @@ impl WalkOrder {
             entries.items) }
         ensures err { IfErr result (λ e. e ≡ OutOfMemory) }
     {
-        if keys.len() <= FEW {
-            return Ok(Vec::new(alloc));
-        }
         let entries = keys.iter().collect::<Vec<_>>(alloc)?;
         if self.is_stale {
             let mut placed = Vec::with_capacity(alloc, entries.len())?;
@@ -252,20 +256,8 @@ impl WalkOrder {
     }
 }
 
-/// The key at a reference, of few keys. They are walked over, which costs less than a look-up.
-fn key_of_few<'a>(keys: &'a HashMap<String, Key>, reference: &String) -> Option<&'a Key>
-    ensures { option_map (λ k. k.now) result
-        ≡ hash.get_by_text keys.now (string_bytes reference.now) }
-{
-    for (found, key) in keys.iter() {
-        if *found == *reference {
-            return Some(key);
-        }
-    }
-    keys.get(reference.as_str())
-}
-
 /// The key at a reference: that of the entry at this place, if it is there. Else it is looked up.
+/// Few keys have no entries, and are walked over, which costs less than a look-up.
 fn key_at<'a>(
     keys: &'a HashMap<String, Key>,
     entries: &[(&'a String, &'a Key)],
@@ -277,10 +269,17 @@ fn key_at<'a>(
         ≡ hash.get_by_text keys.now (string_bytes reference.now) }
 {
     match entries.get(place) {
-        Some((found, key)) if **found == *reference => Some(*key),
-        None if entries.is_empty() => key_of_few(keys, reference),
-        _ => keys.get(reference.as_str()),
+        Some((found, key)) if **found == *reference => return Some(*key),
+        None if entries.is_empty() => {
+            for (found, key) in keys.iter() {
+                if *found == *reference {
+                    return Some(key);
+                }
+            }
+        }
+        _ => {}
     }
+    keys.get(reference.as_str())
 }
 
 /// Renews the sets that a call has touched, and says whether there are any. After a setter it looks
@@ -348,7 +347,11 @@ fn renew_all(
     let mut dnskey_signers = Renewal::new(alloc, signers, touched.dnskey_signers);
     let signers = &mut sets.zone_signers;
     let mut zone_signers = Renewal::new(alloc, signers, touched.zone_signers);
-    let entries = order.walk(alloc, keys)?;
+    let entries = if keys.len() > FEW {
+        order.walk(alloc, keys)?
+    } else {
+        Vec::new(alloc)
+    };
     let mut rank = 0usize;
     for (reference, position) in added.iter() {
         let place = order.places.get(rank).copied().unwrap_or(rank);

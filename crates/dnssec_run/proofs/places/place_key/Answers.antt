@@ -6,6 +6,7 @@ use Rattle.std.proofs.lemmas.Fn.{always_returns_same}
 use Rattle.dnssec_run.proofs.Around.{keeps-gap, keeps-there, keeps-with, keeps-without}
 use Rattle.dnssec_run.proofs.OneKey.{IsFound, IsMissed, leaves-gap, leaves-key, longer, puts-key}
 use Rattle.dnssec_run.proofs.OneKey.{shorter, stands, takes-key}
+use Rattle.dnssec_run.specs.{declared.record.PublishedKey.PublishedKey, Published.id_of}
 use Rattle.dnssec_run.proofs.places.place_key.Goals as goal
 
 pub returns-then-is_shown-clause-ok : goal.returns-then-is_shown-clause-ok
@@ -62,17 +63,20 @@ returns-in_ok-insert-in-Err-clause-ok c up there =
     let q = c.args.reference.now in
     let yes : c.args.is_shown ≡ true = search rules in
     let some : tree.get_by_text c.args.added.now q ≡ Some c.in-Some.added.now = search rules in
-    rw (yes, some) (puts-key q _ _ c.in-Err.place c.in-Some.added.now c.in_ok-key-in-Err.key
+    let key : PublishedKey =
+    record { added = c.in-Some.added.now; reference = c.in_ok-reference-in-Err.reference } in
+    let is : id_of key ≡ (q, c.in-Some.added.now) = search rules in
+    rw (yes, some) (puts-key q _ _ c.in-Err.place c.in-Some.added.now key
     (subst (λ keys. IsMissed q keys c.in-Err.place) c.deref.ensures.value (
       c.in-Err.ensures.bound,
       c.in-Err.ensures.position (stands q)
           (always_returns_same _ _ _ (λ a r f k. (search rules, search rules))),
     ))
-    c.in_ok-insert-in-Err.ensures.items c.in_ok-key-in-Err.ensures.ok up)
+    c.in_ok-insert-in-Err.ensures.items is up)
 
 pub returns-in_ok-insert-in-Err-clause-changed : goal.returns-in_ok-insert-in-Err-clause-changed
 returns-in_ok-insert-in-Err-clause-changed c = λ changed.
-    longer _ _ c.in-Err.place c.in_ok-key-in-Err.key
+    longer _ _ c.in-Err.place _
     (subst (λ keys. c.in-Err.place ≤ length keys) c.deref.ensures.value c.in-Err.ensures.bound)
     c.in_ok-insert-in-Err.ensures.items
 
@@ -112,6 +116,6 @@ pub returns-in_ok-insert-in-Err-clause-frame : goal.returns-in_ok-insert-in-Err-
 returns-in_ok-insert-in-Err-clause-frame c =
     let keys = c.args.keys.now.items in
     let long : c.len-in-Err.result ≡ length keys = search rules in
-    keeps-with keys c.insert.new.self.items c.in-Err.place _ c.in_ok-key-in-Err.key
+    keeps-with keys c.insert.new.self.items c.in-Err.place _ _
     (subst (λ keys. c.in-Err.place ≤ length keys) c.deref.ensures.value c.in-Err.ensures.bound)
     (omega (arith, long)) c.in_ok-insert-in-Err.ensures.items
