@@ -15,7 +15,6 @@ mod plain;
 mod record;
 mod running;
 mod sets;
-mod steps;
 
 pub use caches::{ByKind, SetKind, retires};
 pub use call::Call;
@@ -23,6 +22,8 @@ pub use in_order::keys_in_order;
 pub use lists::Shown;
 pub use moments::Moments;
 pub use plain::{each_chain_is_one, starts_suffice, whole_runs_stay_safe};
-pub use record::{Entry, Frame, Frames, Mark, Outcome, Published, PublishedKey, Reply, Run};
+pub use record::{
+    Entry, Frame, Frames, LastStep, Mark, Origins, Outcome, Published, PublishedKey, Reply, Run,
+    Steps,
+};
 pub use running::{Recorder, run};
-pub use steps::{LastStep, Origins, Steps};

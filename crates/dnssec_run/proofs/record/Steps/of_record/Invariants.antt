@@ -2,7 +2,7 @@
 use Rattle.std.proofs.Common.{◌≡◌, suc}
 use Rattle.dnssec_key.specs.declared.roll.RollType.{RollType}
 use Rattle.dnssec_run.specs.{Steps.last_step, Steps.origins_at, Steps.step_of}
-use Rattle.dnssec_run.proofs.steps.Steps.of_record.Given as goal
+use Rattle.dnssec_run.proofs.record.Steps.of_record.Given as goal
 
 abbrev pub invariant-loop-index : goal.invariant-loop-index
 invariant-loop-index l =

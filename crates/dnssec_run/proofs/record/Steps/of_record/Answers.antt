@@ -7,9 +7,9 @@ use Rattle.dnssec_key.specs.declared.roll.RollType.{RollType}
 use Rattle.dnssec_run.specs.Safe.{SetKind, base_below, is_step, position_at}
 use Rattle.dnssec_run.specs.Origins.{origin, same_set, set_at}
 use Rattle.dnssec_run.specs.Steps.{Origins, last_step, origin_in, origins_at, step_at, step_of}
-use Rattle.dnssec_run.specs.declared.{record.Entry.Entry, steps.LastStep.LastStep}
+use Rattle.dnssec_run.specs.declared.{record.Entry.Entry, record.LastStep.LastStep}
 use Rattle.dnssec_run.proofs.Since.{origin-of, same-origins, step-chosen}
-use Rattle.dnssec_run.proofs.steps.Steps.of_record.Goals as goal
+use Rattle.dnssec_run.proofs.record.Steps.of_record.Goals as goal
 
 -- one position more
 more : (entries : List Entry) (roll : RollType) (n at : ℕ) (e : Entry) (origins : Origins)

@@ -4,7 +4,7 @@ use Rattle.std.proofs.lemmas.List.{drop_all}
 use Rattle.std.specs.Prelude.{◌==◌}
 use Rattle.dnssec_run.specs.declared.record.PublishedKey.{PublishedKey}
 use Rattle.dnssec_run.specs.{Origins.same_ids, Published.id_of}
-use Rattle.dnssec_run.proofs.steps.are_same.Goals as goal
+use Rattle.dnssec_run.proofs.record.are_same.Goals as goal
 
 none-left : (keys : List PublishedKey) → (length keys == 0) ≡ same_ids (map id_of keys) []
 none-left [] = refl

@@ -3,7 +3,7 @@ use Rattle.std.proofs.Common.{◌∙◌, arith, refl}
 use Rattle.std.proofs.lemmas.Option.{slice_get_past, slice_get_read}
 use Rattle.dnssec_run.specs.Safe.{kind_of}
 use Rattle.dnssec_run.proofs.Since.{set-none, set-of, set-past}
-use Rattle.dnssec_run.proofs.steps.set_at.Goals as goal
+use Rattle.dnssec_run.proofs.record.set_at.Goals as goal
 
 pub returns-in_default : goal.returns-in_default
 returns-in_default c =
