@@ -5,7 +5,7 @@ use Rattle.dnssec_network.specs.Facts.{Before, AreTrue, news_of, ttl_before}
 use Rattle.dnssec_network.specs.Network.{Network, NeverGoesBack}
 use Rattle.dnssec_network.specs.{Reach.AllGive, Reach.reach_of, Spread.known}
 use Rattle.dnssec_network.specs.declared.{fact.Fact.Fact, spread.Spread.Spread}
-use Rattle.dnssec_network.{specs.declared.reach.Reach.TheVariants.Everywhere, proofs.Noted.noted}
+use Rattle.dnssec_network.{specs.declared.spread.Reach.TheVariants.Everywhere, proofs.Noted.noted}
 
 everywhere : (base : ℕ) (s : Spread) (now : ℕ) → reach_of base s now ≡ Everywhere
     → (base ≤ s.position) × (s.older ≡ None) × (s.seen ≤ now)

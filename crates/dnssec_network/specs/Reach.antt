@@ -1,9 +1,9 @@
 -- How far the sets of a position have come, by what is noted of their kind.
 use Rattle.std.specs.Prelude.{ℕ, ◌≤◌, ◌&&◌, nat_le, nat_lt, if◌then◌else◌, is_none}
 use Rattle.dnssec_run.specs.Safe.{SetKind}
-use Rattle.dnssec_network.specs.declared.reach.Reach.{Reach}
-use Rattle.dnssec_network.specs.declared.reach.Reach.TheVariants.{Unpublished, Spreading}
-use Rattle.dnssec_network.specs.declared.{reach.Reach.TheVariants.Everywhere, spread.Spread.Spread}
+use Rattle.dnssec_network.specs.declared.spread.Reach.{Reach}
+use Rattle.dnssec_network.specs.declared.spread.Reach.TheVariants.{Unpublished, Spreading}
+use Rattle.dnssec_network.specs.declared.spread.{Reach.TheVariants.Everywhere, Spread.Spread}
 use Rattle.dnssec_network.specs.Network.{IsGiven, Network}
 
 -- at this moment no version has them or later ones yet; or servers may still give older ones; or

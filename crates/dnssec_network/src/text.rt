@@ -1,6 +1,5 @@
 //! Notes of a zone as a text beside its script, and the reports that are due by them.
 
-mod answer;
 mod fault;
 mod line;
 mod questions;
@@ -9,10 +8,9 @@ mod reports;
 mod scripts;
 mod session;
 
-pub use answer::{answer_due, answer_questions};
 pub use fault::{DueFault, LineFault, NotesFault};
 pub use line::{either_named, kind_name, read_before, read_fact};
-pub use questions::{answer_lines, read_question};
+pub use questions::{answer_due, answer_lines, answer_questions, read_question};
 pub use reading::{read_notes, without_end};
 pub use reports::due_lines;
 pub use scripts::{answer_scripts, cut};

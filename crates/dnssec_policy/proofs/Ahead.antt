@@ -18,9 +18,9 @@ use Rattle.dnssec_keyset.specs.declared.wait.WaitEnd.{WaitEnd, TheVariants.At, T
 use Rattle.dnssec_run.specs.declared.caches.SetKind.{SetKind}
 use Rattle.dnssec_run.specs.{declared.record.LastStep.LastStep, Safe.kind_of}
 use Rattle.dnssec_run.specs.Steps.{Origins, origin_in}
-use Rattle.dnssec_network.specs.declared.reach.Reach.{Reach}
-use Rattle.dnssec_network.specs.declared.reach.Reach.TheVariants.{Unpublished, Spreading}
-use Rattle.dnssec_network.specs.{declared.reach.Reach.TheVariants.Everywhere, Reports.due}
+use Rattle.dnssec_network.specs.declared.spread.Reach.{Reach}
+use Rattle.dnssec_network.specs.declared.spread.Reach.TheVariants.{Unpublished, Spreading}
+use Rattle.dnssec_network.specs.{declared.spread.Reach.TheVariants.Everywhere, Reports.due}
 use Rattle.dnssec_policy.specs.declared.policy.{KeyRole.KeyRole, Policy.Policy, Scheme.Scheme}
 use Rattle.dnssec_policy.specs.declared.policy.Scheme.TheVariants.{Split, SingleType}
 use Rattle.dnssec_policy.specs.InProgress.{awaited, end_next, roll_next}

@@ -16,12 +16,12 @@ use Rattle.dnssec_run.specs.Safe.{SetKind, Ds, Dnskey, ZoneSigners, kind_of, ret
 use Rattle.dnssec_run.specs.{Steps.origin_in, WholeRolls.propagation}
 use Rattle.dnssec_network.specs.declared.fact.News.{News}
 use Rattle.dnssec_network.specs.declared.fact.News.TheVariants.{Published, Everywhere}
-use Rattle.dnssec_network.specs.declared.reach.Reach.{Reach}
+use Rattle.dnssec_network.specs.declared.spread.Reach.{Reach}
 use Rattle.dnssec_network.specs.{Facts.moment_of, Facts.news_of, Facts.ttl_before, Reach.reach_of}
 use Rattle.dnssec_network.specs.Reports.{due, due_of, higher}
 use Rattle.dnssec_network.specs.Spread.{after, due_for, end_of, expired_after, first_spread}
 use Rattle.dnssec_network.specs.Spread.{known, seconds_left, seconds_until}
-use Rattle.dnssec_network.specs.declared.reach.Reach.TheVariants as reach
+use Rattle.dnssec_network.specs.declared.spread.Reach.TheVariants as reach
 use Rattle.dnssec_policy.specs.InProgress.{end_next, once_there, later, report_next}
 use Rattle.dnssec_policy.specs.InProgress.{ends_with, once, report_or}
 use Rattle.dnssec_policy.specs.Laws.{EndsAreInTime, NoneLiesAheadOf, ReportsAreInTime}

@@ -7,7 +7,7 @@ use Rattle.dnssec_keyset.specs.KeySet.{KeySetParts}
 use Rattle.dnssec_keyset.specs.Step as keyset
 use Rattle.dnssec_run.specs.declared.{caches.SetKind.SetKind}
 use Rattle.dnssec_run.specs.{Record.call_of, Safe.kind_of}
-use Rattle.dnssec_network.specs.{declared.reach.Reach.TheVariants.Everywhere, Facts.AreTrue}
+use Rattle.dnssec_network.specs.{declared.spread.Reach.TheVariants.Everywhere, Facts.AreTrue}
 use Rattle.dnssec_network.specs.Network.{Network, NeverGoesBack}
 use Rattle.dnssec_network.{specs.Reach.AllGive, proofs.Reached.all-give}
 use Rattle.dnssec_policy.specs.Keys.{is_rolled}

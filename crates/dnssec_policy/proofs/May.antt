@@ -9,7 +9,7 @@ use Rattle.dnssec_keyset.specs.Step as keyset
 use Rattle.dnssec_keyset.specs.declared.wait.WaitEnd.TheVariants.{At}
 use Rattle.dnssec_run.specs.declared.{caches.SetKind.SetKind, record.LastStep.LastStep}
 use Rattle.dnssec_run.specs.{Steps.origin_in, WholeRolls.propagation}
-use Rattle.dnssec_network.specs.{declared.reach.Reach.TheVariants.Everywhere, Reports.due}
+use Rattle.dnssec_network.specs.{declared.spread.Reach.TheVariants.Everywhere, Reports.due}
 use Rattle.dnssec_policy.specs.{declared.policy.Policy.Policy, InProgress.ends_with}
 use Rattle.dnssec_policy.specs.Keys.{goes, has_left, is_unwanted, new_keys, references_where}
 use Rattle.dnssec_policy.specs.Keys.{role_of, roles_of, serves}

@@ -24,9 +24,9 @@ use Rattle.dnssec_run.specs.Record.{IsRun, world_at}
 use Rattle.dnssec_run.specs.{Safe.kind_of, Steps.Origins, Steps.origin_in, Steps.step_at}
 use Rattle.dnssec_run.proofs.Premise.{sets-nothing}
 use Rattle.dnssec_run.proofs.WholeRolls.Order.{by-time, in-order}
-use Rattle.dnssec_network.specs.declared.reach.Reach.{Reach}
-use Rattle.dnssec_network.specs.declared.reach.Reach.TheVariants.{Unpublished, Spreading}
-use Rattle.dnssec_network.specs.{declared.reach.Reach.TheVariants.Everywhere, Network.Network}
+use Rattle.dnssec_network.specs.declared.spread.Reach.{Reach}
+use Rattle.dnssec_network.specs.declared.spread.Reach.TheVariants.{Unpublished, Spreading}
+use Rattle.dnssec_network.specs.{declared.spread.Reach.TheVariants.Everywhere, Network.Network}
 use Rattle.dnssec_network.specs.Reports.{due}
 use Rattle.dnssec_policy.specs.declared.policy.Policy.{Policy}
 use Rattle.dnssec_policy.specs.Automatic.{IsAutomatic, IsViewAt}

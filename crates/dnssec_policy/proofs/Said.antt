@@ -23,9 +23,9 @@ use Rattle.dnssec_run.specs.declared.caches.SetKind.{SetKind}
 use Rattle.dnssec_run.specs.declared.caches.SetKind.TheVariants.{Ds, Dnskey, ZoneSigners}
 use Rattle.dnssec_run.specs.{declared.record.LastStep.LastStep, Safe.kind_of, Steps.origin_in}
 use Rattle.dnssec_run.specs.WholeRolls.{propagation}
-use Rattle.dnssec_network.specs.declared.reach.Reach.{Reach}
-use Rattle.dnssec_network.specs.declared.reach.Reach.TheVariants.{Unpublished, Spreading}
-use Rattle.dnssec_network.specs.{declared.reach.Reach.TheVariants.Everywhere, Reports.due}
+use Rattle.dnssec_network.specs.declared.spread.Reach.{Reach}
+use Rattle.dnssec_network.specs.declared.spread.Reach.TheVariants.{Unpublished, Spreading}
+use Rattle.dnssec_network.specs.{declared.spread.Reach.TheVariants.Everywhere, Reports.due}
 use Rattle.dnssec_policy.specs.declared.policy.{KeyRole.KeyRole, KskMethod.KskMethod, Policy.Policy}
 use Rattle.dnssec_policy.specs.declared.policy.{Term.Term, Scheme.Scheme}
 use Rattle.dnssec_policy.specs.declared.policy.Scheme.TheVariants.{Split, SingleType}

@@ -14,7 +14,7 @@ use Rattle.dnssec_run.specs.{declared.record.LastStep.LastStep, Plain.DoesAt, Pl
 use Rattle.dnssec_run.specs.{Record.IsRun, Record.call_of, Record.world_at, Steps.origin_in}
 use Rattle.dnssec_run.specs.WholeRolls.{HasLeft, IsAccepted, end_of, propagation}
 use Rattle.dnssec_run.specs.Safe.{SetKind as AnyKind, kind_of, retires}
-use Rattle.dnssec_network.specs.{declared.reach.Reach.TheVariants.Everywhere, Network.Network}
+use Rattle.dnssec_network.specs.{declared.spread.Reach.TheVariants.Everywhere, Network.Network}
 use Rattle.dnssec_policy.specs.{declared.policy.Policy.Policy, Automatic.IsViewAt, Automatic.is_add}
 use Rattle.dnssec_policy.specs.InProgress.{ends_with}
 use Rattle.dnssec_policy.specs.Keys.{is_unwanted, new_keys, renewal_of, role_of, rolls_of, serves}

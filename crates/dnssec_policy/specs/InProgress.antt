@@ -17,9 +17,9 @@ use Rattle.dnssec_run.specs.declared.caches.SetKind.{SetKind}
 use Rattle.dnssec_run.specs.declared.caches.SetKind.TheVariants.{Ds, Dnskey, ZoneSigners}
 use Rattle.dnssec_run.specs.{declared.record.LastStep.LastStep, Safe.kind_of}
 use Rattle.dnssec_run.specs.Steps.{Origins, origin_in}
-use Rattle.dnssec_network.specs.declared.reach.Reach.{Reach}
-use Rattle.dnssec_network.specs.declared.reach.Reach.TheVariants.{Unpublished, Spreading}
-use Rattle.dnssec_network.specs.{declared.reach.Reach.TheVariants.Everywhere, Reports.due}
+use Rattle.dnssec_network.specs.declared.spread.Reach.{Reach}
+use Rattle.dnssec_network.specs.declared.spread.Reach.TheVariants.{Unpublished, Spreading}
+use Rattle.dnssec_network.specs.{declared.spread.Reach.TheVariants.Everywhere, Reports.due}
 use Rattle.dnssec_policy.specs.Ttls.{lasting}
 use Rattle.dnssec_policy.specs.Todo.{Todo, Make, Publish, Watch, NotBefore, Stuck}
 use Rattle.dnssec_policy.specs.declared.why.Why.TheVariants.{NoStep, NoStamp, PastTime, NoLastWait}

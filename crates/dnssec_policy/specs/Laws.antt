@@ -21,7 +21,7 @@ use Rattle.dnssec_network.specs.ByAlgorithm.{FindChainByEach}
 use Rattle.dnssec_network.specs.Facts.{AreTrue, moment_of, news_of}
 use Rattle.dnssec_network.specs.Network.{FindChain, IsNetworkOf, Network, NeverGoesBack}
 use Rattle.dnssec_network.specs.{Network.NoneLiesAhead, Reach.AllGive}
-use Rattle.dnssec_network.specs.declared.reach.Reach.TheVariants.{Everywhere}
+use Rattle.dnssec_network.specs.declared.spread.Reach.TheVariants.{Everywhere}
 use Rattle.dnssec_network.specs.Reports.{NoneGoesBack, ReportsAreByNotes}
 use Rattle.dnssec_policy.specs.declared.by_hand.FirstByHand.{FirstByHand}
 use Rattle.dnssec_policy.specs.declared.{last_waits.LastWaits.LastWaits, policy.Policy.Policy}

@@ -67,11 +67,12 @@ impl fmt::Display for NotesFault {
 
     /// Writes what a program shows its user, as `line 3: seen before it was published`.
     fn fmt<W: fmt::Write>(&self, f: &mut fmt::Formatter<W>) -> fmt::Result {
-        match self {
-            NotesFault::Malformed(number) => write!(f, "line {number}: malformed"),
-            NotesFault::Refused(number, fault) => write!(f, "line {number}: {fault}"),
-            NotesFault::OutOfMemory => f.write_str("out of memory"),
-        }
+        let (number, fault) = match *self {
+            NotesFault::Malformed(number) => (number, LineFault::Malformed),
+            NotesFault::Refused(number, fault) => (number, LineFault::Refused(fault)),
+            NotesFault::OutOfMemory => return f.write_str("out of memory"),
+        };
+        write!(f, "line {number}: {fault}")
     }
 }
 

@@ -8,7 +8,14 @@ ghost use Rattle.dnssec_network.specs.Text.Lines.{kind_named, news_after, news_s
 
 use crate::fact::{Before, Fact, News};
 use dnssec_record::Fields;
-use dnssec_run::SetKind;
+use dnssec_run::{ByKind, SetKind};
+
+/// The names of the kinds of sets.
+const KIND_NAMES: ByKind<&str> = ByKind {
+    ds: "ds",
+    dnskey: "dnskey",
+    zone: "zone",
+};
 
 /// The words of facts.
 #[derive(Clone, Copy)]
@@ -36,11 +43,11 @@ pub fn either_named<T: Copy>(name: &[u8], one: (&[u8], T), other: (&[u8], T)) ->
 fn kind_named(name: &[u8]) -> Option<SetKind>
     ensures { result ≡ kind_named name.now }
 {
-    if name == b"ds".as_slice() {
+    if name == KIND_NAMES.ds.as_bytes() {
         Some(SetKind::Ds)
-    } else if name == b"dnskey".as_slice() {
+    } else if name == KIND_NAMES.dnskey.as_bytes() {
         Some(SetKind::Dnskey)
-    } else if name == b"zone".as_slice() {
+    } else if name == KIND_NAMES.zone.as_bytes() {
         Some(SetKind::ZoneSigners)
     } else {
         None
@@ -51,11 +58,7 @@ fn kind_named(name: &[u8]) -> Option<SetKind>
 pub fn kind_name(kind: SetKind) -> &'static str
     ensures { result.now ≡ kind_name kind }
 {
-    match kind {
-        SetKind::Ds => "ds",
-        SetKind::Dnskey => "dnskey",
-        SetKind::ZoneSigners => "zone",
-    }
+    KIND_NAMES.of(kind)
 }
 
 /// The first field as a word.

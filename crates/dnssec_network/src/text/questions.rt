@@ -1,4 +1,5 @@
-//! Questions among the lines of notes, and their answers.
+//! Which reports are due: questions beside a script or among the lines of its notes, and their
+//! answers.
 ghost use Rattle.std.specs.Prelude.{◌≡◌, ◌∷◌, ◌++◌, ℕ, List, [], Some, IfOk, IfErr, OnOk};
 ghost use Rattle.std.specs.Prelude.{◌<◌, IsSome, is_some, map, string_bytes, vec_len};
 ghost use Rattle.std.specs.Option.{option_map};
@@ -7,16 +8,19 @@ ghost use Rattle.dnssec_script.specs.Script.{Number, values_of};
 ghost use Rattle.dnssec_record.specs.Session.{Stands};
 ghost use Rattle.dnssec_run.specs.Moments.{moments_of};
 ghost use Rattle.dnssec_run.specs.declared.record.Entry.{Entry};
-ghost use Rattle.dnssec_network.specs.Text.Due.{AnswersDue};
-ghost use Rattle.dnssec_network.specs.Text.Questions.{AnswersAll, ComesOf, HasAnswered};
+ghost use Rattle.dnssec_network.specs.Text.Due.{AnswersDue, IsDueAnswer};
+ghost use Rattle.dnssec_network.specs.Text.Questions.{AnswersAll, AreAnswers, ComesOf, HasAnswered};
 ghost use Rattle.dnssec_network.specs.Text.Questions.{IsAnswerFault, IsAnswersFault};
 ghost use Rattle.dnssec_network.specs.Text.Questions.{IsQuestionFault, as_question, asked_by};
 ghost use Rattle.dnssec_network.specs.Text.Questions.{question_forms};
 ghost use Rattle.dnssec_network.specs.Text.Reading.{HasTaken};
+ghost use Rattle.dnssec_network.specs.Text.Scripts.{IsFaultBeside};
 
-use super::fault::{LineFault, NotesFault};
+use super::fault::{DueFault, LineFault, NotesFault};
+use super::reading::read_notes;
+use super::reports::due_lines;
 use super::session::SessionNotes;
-use dnssec_record::{Fields, Session};
+use dnssec_record::{Fields, Session, all_lines};
 use std::alloc::{AllocError, Global};
 
 /// Answers the questions among lines of notes, each by the lines above it, after the calls that the
@@ -84,6 +88,59 @@ fn read_on(
             Err(_) => Err(LineFault::OutOfMemory),
         },
     }
+}
+
+/// Runs a script, reads the notes beside it, and answers which reports are due at this second since
+/// 1970, as `due_lines` writes them.
+///
+/// # Errors
+///
+/// - `Script` with the fault of the script, or if memory runs out, for one of its calls too.
+/// - `Notes` with the fault of the notes, or if memory runs out.
+///
+/// ```rust
+/// let lines = answer_due(alloc, script.as_bytes(), notes.as_bytes(), 1_700_000_000)?;
+/// ```
+pub fn answer_due(
+    alloc: Global,
+    script: &[u8],
+    notes: &[u8],
+    seconds: u64,
+) -> Result<String, DueFault>
+    ensures { IfOk result (λ text.
+        IsDueAnswer script.now notes.now seconds (string_bytes text)) }
+{
+    let ran = Session::resume(alloc, script)?;
+    let noted = read_notes(alloc, ran.moments(), notes)?;
+    let (keyset, steps) = (ran.keyset(), ran.steps());
+    let lines = due_lines(alloc, keyset, steps, ran.moments(), &noted, seconds)?;
+    Ok(lines)
+}
+
+/// Runs a script once, and answers the questions among the notes beside it, as `answer_lines` does:
+/// each as `answer_due` would by the notes above it.
+///
+/// # Errors
+///
+/// - `Script` with the fault of the script, or if memory runs out, for one of its calls too.
+/// - `Notes` with the fault of the notes or of a question, or if memory runs out.
+///
+/// ```rust
+/// let notes = b"before 3600 3600 3600\npublished dnskey 12 3600 100\ndue 120\n";
+/// let answers = answer_questions(alloc, script.as_bytes(), notes)?;
+/// ```
+pub fn answer_questions(alloc: Global, script: &[u8], notes: &[u8]) -> Result<Vec<String>, DueFault>
+    ensures ok { IfOk result (λ texts.
+        AreAnswers script.now notes.now (map string_bytes texts.items)) }
+    ensures asked { IfOk result (λ texts. 0 < vec_len texts) }
+    ensures err { IfErr result (IsFaultBeside script.now notes.now) }
+{
+    let session = Session::resume(alloc, script)?;
+    let Ok(lines) = all_lines(alloc, notes) else {
+        return Err(DueFault::Notes(NotesFault::OutOfMemory));
+    };
+    let answers = answer_lines(alloc, &session, &lines)?;
+    Ok(answers)
 }
 
 impl SessionNotes {

@@ -6,8 +6,8 @@ ghost use Rattle.dnssec_network.specs.Text.Scripts.{IsFaultAmong};
 ghost use Rattle.dnssec_network.specs.Text.Scripts.{as_noted, parts_of, scripts_among};
 ghost use denote.Bor.{now};
 
-use super::answer::answer_questions;
 use super::fault::DueFault;
+use super::questions::answer_questions;
 use std::alloc::{AllocError, Global};
 
 /// A script, and the notes beside it.

@@ -2,7 +2,7 @@
 use Rattle.std.proofs.Common.{◌≡◌, rules}
 use Rattle.dnssec_run.specs.Safe.{kind_of}
 use Rattle.dnssec_network.specs.{Facts.news_of, Facts.ttl_before, Reach.reach_of, Spread.known}
-use Rattle.dnssec_network.specs.declared.reach.Reach.TheVariants.{Everywhere}
+use Rattle.dnssec_network.specs.declared.spread.Reach.TheVariants.{Everywhere}
 use Rattle.dnssec_network.proofs.Reached.{all-give}
 use Rattle.dnssec_network.proofs.notes.Notes.reach.Goals as goal
 

@@ -2,7 +2,7 @@
 use Rattle.std.proofs.Common.{subst, sym, ◌∙◌}
 use Rattle.dnssec_script.specs.Script.{lines_of}
 use Rattle.dnssec_network.{proofs.Texts.Reporting.is_due_after, specs.Text.Reading.AreNotes}
-use Rattle.dnssec_network.proofs.text.answer.answer_due.Goals as goal
+use Rattle.dnssec_network.proofs.text.questions.answer_due.Goals as goal
 
 pub returns : goal.returns
 returns c =

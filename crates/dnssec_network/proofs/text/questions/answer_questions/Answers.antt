@@ -5,7 +5,7 @@ use Rattle.dnssec_script.specs.Script.{lines_of}
 use Rattle.dnssec_network.proofs.Texts.{Asking.zip_weaker, Parting.unanswered}
 use Rattle.dnssec_network.specs.Text.Questions.{AnswersAll}
 use denote.Bor.{now}
-use Rattle.dnssec_network.proofs.text.answer.answer_questions.Goals as goal
+use Rattle.dnssec_network.proofs.text.questions.answer_questions.Goals as goal
 
 pub returns-clause-ok : goal.returns-clause-ok
 returns-clause-ok c =
