@@ -1,7 +1,6 @@
 //! A zone that rolls by itself: each of its calls adds a key, or is what a policy said.
 
 mod answer;
-mod calls;
 mod fault;
 mod line;
 mod text;

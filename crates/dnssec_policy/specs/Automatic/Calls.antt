@@ -5,7 +5,7 @@ use Rattle.dnssec_script.specs.{Inner.Statement.statement_says, Script.IsScript,
 use Rattle.dnssec_script.specs.declared.statement.Statement.{Statement}
 use Rattle.dnssec_policy.specs.Laws.{AreLastsOf, IsFirstOf}
 use Rattle.dnssec_record.specs.Session.{HadMemory, StandsAfter}
-use Rattle.dnssec_policy.specs.declared.automatic.calls.Calls.{Calls}
+use Rattle.dnssec_policy.specs.declared.automatic.zone.Calls.{Calls}
 
 -- the session stands after these calls, whose record is this; their last second waits are kept, and
 -- the first call by hand

@@ -62,14 +62,6 @@ impl From<AllocError> for NextFault {
     }
 }
 
-impl From<PolicyFault> for NextFault {
-    ghost from_gives = { λ why given. given ≡ fault.Policy why };
-
-    fn from(fault: PolicyFault) -> Self {
-        NextFault::Policy(fault)
-    }
-}
-
 impl From<DueFault> for NextFault {
     ghost from_gives = { λ why given. given ≡ fault.Zone why };
 

@@ -1,27 +1,33 @@
 //! A zone that rolls by itself.
-ghost use Rattle.std.specs.Prelude.{◌≡◌, ◌++◌, ◌∷◌, ℕ, List, [], length, true, IfOk, IfErr, OnOk};
+ghost use Rattle.std.specs.Prelude.{◌≡◌, ◌≢◌, ◌++◌, ◌∷◌, ℕ, List, [], length, true, IfOk, IfErr};
+ghost use Rattle.std.specs.Prelude.{OnOk};
+ghost use Rattle.dnssec_base.specs.declared.error.Error.TheVariants.{OutOfMemory};
+ghost use Rattle.dnssec_record.specs.Answer.{AnswerFault};
 ghost use Rattle.dnssec_run.specs.declared.call.Call.{Call as AnyCall};
 ghost use Rattle.dnssec_run.specs.declared.record.Entry.{Entry};
+ghost use Rattle.dnssec_run.specs.declared.record.Reply.TheVariants.{Refused};
 ghost use Rattle.dnssec_policy.specs.Automatic.{is_add};
 ghost use Rattle.dnssec_policy.specs.Code.{todo_of};
 ghost use Rattle.dnssec_policy.specs.Text.Lint.{highest_of, too_short};
-ghost use Rattle.dnssec_policy.specs.Automatic.Calls.{GoesOn, IsAfter};
+ghost use Rattle.dnssec_policy.specs.Automatic.Calls.{GoesOn, IsAfter, Resumes, Takes};
 ghost use Rattle.dnssec_policy.specs.Automatic.ZoneNotes.{HasHighest};
 ghost use Rattle.dnssec_policy.specs.Automatic.Zone.{Adds, Advances, IsAutomaticAfter, Makes};
 ghost use Rattle.dnssec_policy.specs.Automatic.Zone.{ReachesResolvers, ResumesZone, Says};
 
-use super::calls::{Calls, check_memory};
 use super::zone_notes::ZoneNotes;
+use crate::by_hand::FirstByHand;
 use crate::choose::next;
+use crate::last_waits::LastWaits;
 use crate::laws::automatic_runs_reach_resolvers;
 use crate::policy::Policy;
 use crate::state::State;
 use crate::text::{TooShort, too_short};
 use crate::todo::Next;
 use dnssec_base::Name;
-use dnssec_keyset::UnixTime;
+use dnssec_keyset::{Error, UnixTime};
 use dnssec_network::{Before, DueFault, News, NoteFault, SetKind};
-use dnssec_record::{Call, Reply, Session};
+use dnssec_record::{Call, Reply, ScriptFault, Session};
+use dnssec_script::{Lines, Statement};
 use std::alloc::{AllocError, Global};
 
 /// A zone that rolls by itself: it makes exactly the calls that a policy says, each with the moment
@@ -42,6 +48,14 @@ use std::alloc::{AllocError, Global};
 pub struct AutomaticZone {
     calls: Calls,
     noted: ZoneNotes,
+}
+
+/// A session, the last second waits of its calls, and the first one by hand.
+#[derive(Drop)]
+pub(crate) struct Calls {
+    session: Session,
+    last_waits: LastWaits,
+    by_hand: FirstByHand,
 }
 
 /// The calls with one more, and the reply to it.
@@ -251,5 +265,80 @@ impl AutomaticZone {
         ensures { ReachesResolvers self.now }
     {
         automatic_runs_reach_resolvers();
+    }
+}
+
+impl Calls {
+    /// None yet.
+    fn new(alloc: Global, name: Name<Vec<u8>>) -> Result<Self, AllocError>
+        ensures { IfOk result (λ calls. IsAfter name [] [] calls) }
+    {
+        Ok(Calls {
+            session: Session::new(alloc, name)?,
+            last_waits: LastWaits::new(),
+            by_hand: FirstByHand::new(),
+        })
+    }
+
+    /// The same calls, which go on by themselves.
+    fn try_clone(&self, alloc: Global) -> Result<Self, AllocError>
+        ensures { IfOk result (λ copy. (name : List ℕ) (calls : List AnyCall)
+            (entries : List Entry) → IsAfter name calls entries self.now →
+            IsAfter name calls entries copy) }
+    {
+        Ok(Calls {
+            session: self.session.try_clone(alloc)?,
+            last_waits: self.last_waits,
+            by_hand: self.by_hand,
+        })
+    }
+
+    /// Makes one more call. Without memory to note it, the calls are of no more use.
+    fn make(&mut self, alloc: Global, call: Call<'_>) -> Result<Reply, AllocError>
+        ensures { IfOk result (λ reply. (name : List ℕ) (calls : List AnyCall)
+            (entries : List Entry) → IsAfter name calls entries self.old →
+            GoesOn name calls entries call.entry self.new reply) }
+    {
+        let wait = LastWaits::second_wait(&call);
+        let is_by_hand = FirstByHand::is_by_hand(self.session.keyset(), &call);
+        let reply = self.session.make(alloc, call)?;
+        let at = self.session.calls();
+        self.last_waits = self.last_waits.after(wait, &reply, at);
+        self.by_hand = self.by_hand.after(is_by_hand, &reply, at);
+        Ok(reply)
+    }
+
+    /// Makes the call of a line.
+    fn take(&mut self, alloc: Global, statement: Statement<'_>) -> Result<Reply, AllocError>
+        ensures { IfOk result (Takes statement.entry self.old self.new) }
+    {
+        match statement {
+            Statement::Call(call) => self.make(alloc, call),
+            Statement::Start(start) => self.make(alloc, start.call()),
+        }
+    }
+
+    /// The calls of the lines of a script. None is left out for lack of memory.
+    fn resume(alloc: Global, script: &[u8]) -> Result<Self, ScriptFault>
+        ensures { IfOk result (Resumes script.now) }
+    {
+        let (name, mut lines) = Lines::begin(alloc, script)?;
+        let mut calls = Calls::new(alloc, name)?;
+        while let Some(statement) = lines.next(alloc)? {
+            let reply = calls.take(alloc, statement)?;
+            check_memory(&reply)?;
+        }
+        Ok(calls)
+    }
+}
+
+/// An error if a call was refused for lack of memory, and only then.
+fn check_memory(reply: &Reply) -> Result<(), AllocError>
+    ensures ok { IfOk result (λ _. reply.now ≢ Refused OutOfMemory) }
+    ensures err { IfErr result (λ _. reply.now ≡ Refused OutOfMemory) }
+{
+    match reply {
+        Reply::Refused(Error::OutOfMemory) => Err(AllocError),
+        _ => Ok(()),
     }
 }

@@ -1,9 +1,7 @@
 //! Why a text is no policy.
-ghost use Rattle.std.specs.Prelude.{◌≡◌, Some};
+ghost use Rattle.std.specs.Prelude.{Some};
 ghost use Rattle.dnssec_policy.specs.Text.Faults.{fault_text};
-ghost use Rattle.dnssec_policy.specs.declared.text.fault.PolicyFault.TheVariants.{OutOfMemory};
 
-use std::alloc::AllocError;
 use std::fmt;
 
 /// Why a text was not read as a policy. Lines are counted from 1, and the first one with a fault is
@@ -25,23 +23,14 @@ impl fmt::Display for PolicyFault {
 
     /// Writes what a program shows its user, as `line 3: malformed`.
     fn fmt<W: fmt::Write>(&self, f: &mut fmt::Formatter<W>) -> fmt::Result {
-        match self {
-            PolicyFault::Malformed(number) => write!(f, "line {number}: malformed"),
-            PolicyFault::SaidTwice(number) => write!(f, "line {number}: said twice"),
-            PolicyFault::NoSuchKeys(number) => {
-                write!(f, "line {number}: no such keys by line 1")
-            }
-            PolicyFault::OutOfMemory => f.write_str("out of memory"),
-        }
+        let (number, what) = match self {
+            PolicyFault::Malformed(number) => (number, "malformed"),
+            PolicyFault::SaidTwice(number) => (number, "said twice"),
+            PolicyFault::NoSuchKeys(number) => (number, "no such keys by line 1"),
+            PolicyFault::OutOfMemory => return f.write_str("out of memory"),
+        };
+        write!(f, "line {number}: {what}")
     }
 }
 
 impl std::error::Error for PolicyFault {}
-
-impl From<AllocError> for PolicyFault {
-    ghost from_gives = { λ _ fault. fault ≡ OutOfMemory };
-
-    fn from(_: AllocError) -> Self {
-        PolicyFault::OutOfMemory
-    }
-}

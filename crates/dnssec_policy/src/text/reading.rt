@@ -64,6 +64,8 @@ pub fn read_policy(alloc: Global, text: &[u8]) -> Result<Policy, PolicyFault>
     ensures err { IfErr result (λ fault. fault ≢ OutOfMemory →
         policy_of (lines_of text.now) ≡ Err fault) }
 {
-    let lines = all_lines(alloc, text)?;
+    let Ok(lines) = all_lines(alloc, text) else {
+        return Err(PolicyFault::OutOfMemory);
+    };
     read_lines(&lines)
 }

@@ -2,7 +2,7 @@
 use Rattle.std.proofs.Common.{◌≡◌, ◌∙◌, ℕ, List, [], None, refl, sym}
 use Rattle.dnssec_key.specs.declared.roll.RollType.{RollType}
 use Rattle.dnssec_policy.specs.{Automatic.last_below, ByHand.first_by_hand}
-use Rattle.dnssec_policy.proofs.automatic.calls.Calls.new.Goals as goal
+use Rattle.dnssec_policy.proofs.automatic.zone.Calls.new.Goals as goal
 
 none_yet : (roll : RollType) → last_below [] [] roll 0 ≡ None
 unfolding last_below

@@ -3,7 +3,7 @@ use Rattle.std.proofs.Common.{◌+◌, ◌++◌, ◌∷◌, ◌≡◌, ◌∙◌
 use Rattle.dnssec_keyset.specs.KeySet.{KeySetParts}
 use Rattle.dnssec_run.specs.Record.{world_at}
 use Rattle.dnssec_policy.specs.ByHand.{is_by_hand}
-use Rattle.dnssec_policy.proofs.automatic.calls.Calls.make.Goals as goal
+use Rattle.dnssec_policy.proofs.automatic.zone.Calls.make.Goals as goal
 
 pub returns : goal.returns
 returns c name calls entries after =

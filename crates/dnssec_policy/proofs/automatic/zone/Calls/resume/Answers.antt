@@ -5,9 +5,9 @@ use Rattle.dnssec_base.specs.declared.error.Error.TheVariants.{OutOfMemory}
 use Rattle.dnssec_run.specs.declared.record.Reply.{Reply, TheVariants.Refused}
 use Rattle.dnssec_script.specs.declared.{lines.Lines.Lines, statement.Statement.Statement}
 use Rattle.dnssec_record.proofs.Made.{Finds, HasMade, all_made, one_made}
-use Rattle.dnssec_policy.specs.{Automatic.Calls.Takes, declared.automatic.calls.Calls.Calls}
-use Rattle.dnssec_policy.proofs.automatic.calls.Calls.resume.Invariants.{Stand}
-use Rattle.dnssec_policy.proofs.automatic.calls.Calls.resume.Goals as goal
+use Rattle.dnssec_policy.specs.{Automatic.Calls.Takes, declared.automatic.zone.Calls.Calls}
+use Rattle.dnssec_policy.proofs.automatic.zone.Calls.resume.Invariants.{Stand}
+use Rattle.dnssec_policy.proofs.automatic.zone.Calls.resume.Goals as goal
 
 -- one more line, whose call isn't refused for lack of memory
 made_more : {script : List ℕ} {before : Lines} {after : Lines} {found : Option Statement}

@@ -1,7 +1,7 @@
 -- The call of the statement is made.
 use Rattle.std.proofs.{Common.◌∙◌, Common.ap, Common.sym, lemmas.Result.IfOk-weaker}
 use Rattle.dnssec_script.specs.Inner.Statement.{statement_says}
-use Rattle.dnssec_policy.proofs.automatic.calls.Calls.take.Goals as goal
+use Rattle.dnssec_policy.proofs.automatic.zone.Calls.take.Goals as goal
 
 pub returns-in-Call : goal.returns-in-Call
 returns-in-Call c =
