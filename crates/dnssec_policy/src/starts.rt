@@ -204,20 +204,13 @@ fn over_on_demand(once: Option<UnixTime>, published: UnixTime) -> Option<u128>
     }
 }
 
-/// The start of 1970.
-fn start() -> UnixTime
-    ensures { result ≡ 0 }
-{
-    UnixTime::from(Duration::from_secs(0))
-}
-
 /// The moment from which a key's time is over, if ever. One without the stamp of its publication
-/// counts as old.
+/// counts as published at the start of 1970.
 fn over_from(renewal: &Term, published: Option<UnixTime>) -> Option<u128>
     ensures { result ≡ over_from renewal.now published }
 {
     let published = match published {
-        None => start(),
+        None => UnixTime::from(Duration::from_secs(0)),
         Some(moment) => moment,
     };
     let by_age = over_by_age(renewal.lifetime, published);

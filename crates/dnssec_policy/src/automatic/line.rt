@@ -7,7 +7,6 @@ ghost use Rattle.dnssec_network.specs.Text.Due.{first_second};
 ghost use Rattle.dnssec_policy.specs.Code.{todo_of};
 ghost use Rattle.dnssec_policy.specs.Automatic.Lines.{list_text, report_name, role_name};
 ghost use Rattle.dnssec_policy.specs.Automatic.Lines.{start_text, stuck_text, todo_line, wait_name};
-ghost use Rattle.dnssec_policy.specs.Automatic.Lines.{wanted_text};
 
 use crate::policy::KeyRole;
 use crate::todo::Next;
@@ -96,7 +95,7 @@ fn push_next(
             push_number(text, first_second(*moment))
         }
         Next::Stuck { why } => push_stuck(text, *why),
-        Next::Rest => push_as_wanted(text),
+        Next::Rest => text.push_str("nothing: the zone is as the policy wants it"),
     }
 }
 
@@ -106,13 +105,6 @@ fn push_stuck(text: &mut String, why: Why) -> Result<(), AllocError>
 {
     text.push_str("nothing: ")?;
     write!(text, "{why}")
-}
-
-/// Writes that the zone is as the policy wants it.
-fn push_as_wanted(text: &mut String) -> Result<(), AllocError>
-    ensures { OnOk result (string_bytes text.new ≡ string_bytes text.old ++ wanted_text) }
-{
-    text.push_str("nothing: the zone is as the policy wants it")
 }
 
 /// Writes the line of a start.

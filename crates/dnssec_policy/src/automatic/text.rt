@@ -71,19 +71,14 @@ fn unasked(alloc: Global, policy: &[u8], script: &[u8], notes: &[u8]) -> Result<
     ensures { IfOk result (λ _. ⊥) }
 {
     match read_policy(alloc, policy) {
-        Ok(_) => unasked_by(alloc, script, notes),
+        Ok(_) => {
+            AutomaticZone::resume(alloc, script, notes)?;
+            let lines = all_lines(alloc, notes)?;
+            let missing = NotesFault::Malformed(lines.len() + 1);
+            Err(NextFault::Zone(DueFault::Notes(missing)))
+        }
         Err(fault) => Err(NextFault::Policy(fault)),
     }
-}
-
-/// The fault of a script or of its notes, which ask nothing.
-fn unasked_by(alloc: Global, script: &[u8], notes: &[u8]) -> Result<String, NextFault>
-    ensures { IfOk result (λ _. ⊥) }
-{
-    AutomaticZone::resume(alloc, script, notes)?;
-    let lines = all_lines(alloc, notes)?;
-    let missing = NotesFault::Malformed(lines.len() + 1);
-    Err(NextFault::Zone(DueFault::Notes(missing)))
 }
 
 /// The lines above the last one, and the second that it asks about, if it asks.
