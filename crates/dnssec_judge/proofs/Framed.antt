@@ -8,7 +8,9 @@ use Rattle.std.proofs.lemmas.List.{nil_from_length}
 use Rattle.std.proofs.Math.Seq.{drop-append_seam, take-append_seam}
 use Rattle.std.{proofs.lemmas.Bool.false_from_ne_true, specs.List.insert, specs.List.remove}
 use Rattle.dnssec_run.specs.declared.record.Frame.{Frame}
-use Rattle.dnssec_run.specs.Origins.{CachedSet}
+use Rattle.dnssec_run.specs.{Origins.CachedSet, Published.id_of}
+use Rattle.dnssec_run.specs.declared.record.PublishedKey.{PublishedKey}
+use Rattle.std.proofs.lemmas.List.{length-map}
 use Rattle.dnssec_run.specs.{Published.Id, Frames.KeepsFrame, Origins.same_ids}
 use Rattle.dnssec_run.proofs.Since.{same-ids}
 use Rattle.dnssec_judge.proofs.Table.{stand-len, stand-on}
@@ -25,13 +27,26 @@ only-front front (id ∷ rest) all is len =
     absurd (omega (arith, ap length is, length-append front (id ∷ rest), len))
 
 -- so a list of the same length that keeps it is the same
-pub all-front : (frame : Frame) (old new : List Id) → KeepsFrame frame old new
+all-front : (frame : Frame) (old new : List Id) → KeepsFrame frame old new
     → frame.front ≡ length new → length old ≡ length new → old ≡ new
 all-front frame old new keeps whole len =
     only-front keeps.front (keeps.was ++ keeps.back) old keeps.splits_old
     (len ∙ sym whole ∙ sym keeps.front_len)
     ∙ sym (only-front keeps.front (keeps.is ++ keeps.back) new keeps.splits_new
     (sym whole ∙ sym keeps.front_len))
+
+-- and is read with no look at its keys
+pub read-left : (t : Numbers) (ns : List ℕ) (frame : Frame) (list : List PublishedKey)
+    → frame.front ≡ length list → length ns ≡ length list
+    → IsRead t t ns ns frame (map id_of list) false
+read-left t ns frame list whole len = record {
+  extends = λ t. (t, λ n k e. e);
+  read = λ was table h keeps.
+      (let ids = length-map list id_of in
+      let same : was ≡ map id_of list = all-front frame was (map id_of list) keeps (whole ∙ sym ids)
+      (sym (stand-len t ns was h) ∙ len ∙ sym ids) in
+      (subst (StandFor t ns) same h, (same-ids was (map id_of list)).1 same));
+}
 
 -- ---- a key more or less
 
@@ -106,7 +121,7 @@ inserted-image f xs i x =
     ∙ (λ j. sym (take-map f i xs) j ++ f x ∷ sym (drop-map f i xs) j)
 
 -- lists of other lengths are others
-other-len : (was list : List Id) → (length was ≡ length list → ⊥) → same_ids was list ≡ false
+pub other-len : (was list : List Id) → (length was ≡ length list → ⊥) → same_ids was list ≡ false
 other-len was list ne =
     false_from_ne_true (same_ids was list) (λ e. ne (ap length ((same-ids was list).0 e)))
 

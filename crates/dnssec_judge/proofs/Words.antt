@@ -12,7 +12,17 @@ use Rattle.std.specs.Prelude.{◌&&◌, ◌^◌, ◌*◌, ◌+◌, if◌then◌e
 use Rattle.std.specs.Int.{bit_at, w64, trailing_zeros, Bits.bit_and, Bits.bit_or}
 use Rattle.std.proofs.{Math.ListN.replicate, lemmas.Bool.true_from_ne_false, lemmas.Bool.true≢false}
 use Rattle.dnssec_judge.specs.Bits.{HasSome, Share, ShareAll, all_at, any_below, common_at, end_of}
-use Rattle.dnssec_judge.specs.Bits.{has_bit, has_none, meet, meet_three, word_at}
+use Rattle.dnssec_judge.specs.Bits.{has_bit, has_none, meet, meet_three, word_at, words_of}
+use Rattle.dnssec_judge.specs.declared.sets.held.Bits.{Bits}
+use Rattle.std.{specs.List.AllZip, specs.Prelude.vec_len}
+use Rattle.std.proofs.lemmas.List.Elements.{same_from_all_zip}
+
+-- a copy has the same words
+pub copied : (old new : Bits) → (new.first ≡ old.first)
+    × (AllZip (λ (p q : ℕ). q ≡ p) old.rest.items new.rest.items
+    × (vec_len new.rest ≡ vec_len old.rest)) → words_of new ≡ words_of old
+copied old new is = λ i. is.0 i ∷ same_from_all_zip (λ (p q : ℕ). q ≡ p) old.rest.items
+    new.rest.items is.1.0 (λ x y r. r) i
 
 -- ---- a search below the end of the words
 
@@ -112,9 +122,14 @@ all-apart words ones others none t =
 decided : {P : Type 0} (r b : Bool) → Decides b P → (r ≡ true → P) → (r ≡ false → P → ⊥) → r ≡ b
 decided r b d is lacks = same_from_decides r b (is, λ p. true_from_ne_false r (λ e. lacks e p)) d
 
-pub both_met : (words others : List ℕ) (r : Bool) → (r ≡ true → Share words others)
-    → (r ≡ false → Share words others → ⊥) → r ≡ meet words others
-both_met words others r = decided r _ (meet-decides words others)
+-- what is in the last two is in the last
+pub meet-twice : (words others : List ℕ) → meet_three words others others ≡ meet words others
+meet-twice words others = λ i.
+    any_below (λ n. has_bit words n && twice (has_bit others n) i) (end_of words)
+  where
+    twice : (b : Bool) → (b && b) ≡ b
+    twice true = refl
+    twice false = refl
 
 pub all_met : (words ones others : List ℕ) (r : Bool)
     → (r ≡ true → ShareAll words ones others)
@@ -126,6 +141,15 @@ pub none_set : (words : List ℕ) (r : Bool) → (r ≡ true → (n : ℕ) → h
 none_set words r is lacks =
     decided r _ (none-decides words) (λ e n b. true≢false (sym b ∙ is e n))
     (λ e f. f (lacks e).0 (lacks e).1)
+
+-- words that are all 0 have no number
+pub all-nought : (first : ℕ) (rest : List ℕ) → first ≡ 0 → ((i : ℕ) → get_or rest i 0 ≡ 0)
+    → (n : ℕ) → has_bit (first ∷ rest) n ≡ false
+all-nought first rest is none n = at (n / 64)
+  where
+    at : (i : ℕ) → nat_eq (bit_at (word_at (first ∷ rest) i) (n % 64)) 1 ≡ false
+    at zero = grind (arith, nat_tests, is, bit_at-zero)
+    at (suc i) = let e = none i in grind (arith, nat_tests, e, bit_at-zero)
 
 -- ---- words that are written
 

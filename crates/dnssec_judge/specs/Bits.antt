@@ -2,7 +2,7 @@
 use Rattle.std.specs.Prelude.{◌≡◌, ℕ, zero, suc, ◌<◌, ◌*◌, ◌^◌, ◌/◌, ◌%◌, Bool, true, false, ◌||◌}
 use Rattle.std.specs.Prelude.{◌&&◌, not, nat_eq, List, ◌∷◌, get_or, length}
 use Rattle.std.specs.Int.{bit_at, Bits.bit_and}
-use Rattle.dnssec_judge.specs.declared.sets.bits.Bits.{Bits}
+use Rattle.dnssec_judge.specs.declared.sets.held.Bits.{Bits}
 
 -- the words of a set
 abbrev pub words_of : Bits → List ℕ

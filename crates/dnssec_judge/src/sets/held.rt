@@ -1,12 +1,135 @@
-//! A set that caches may hold.
-ghost use Rattle.std.specs.Prelude.{◌≡◌, ◌&&◌, ◌||◌, ℕ, false, true, IfOk, IfErr};
+//! A set that caches may hold, by bits of the numbers of its keys.
+ghost use Rattle.std.specs.Prelude.{◌≡◌, ◌&&◌, ◌||◌, ℕ, false, true, nat_eq, if◌then◌else◌};
+ghost use Rattle.std.specs.Prelude.{IfErr, IfOk, OnOk};
 ghost use Rattle.dnssec_base.specs.declared.error.Error.TheVariants.{OutOfMemory};
-ghost use Rattle.dnssec_judge.specs.Bits.{has, has_none, meet_three, words_of};
+ghost use Rattle.dnssec_judge.specs.Bits.{HasSome, all_at, has, has_none, meet_three, word_at};
+ghost use Rattle.dnssec_judge.specs.Bits.{words_of};
 ghost use Rattle.dnssec_judge.specs.Sets.{keys_hold, parts_of, set_of, sets_have_chain, zone_holds};
 
-use super::bits::Bits;
 use dnssec_keyset::Error;
 use std::alloc::Global;
+
+/// How many numbers have their bits in one word.
+const WORD: usize = 64;
+
+/// A set of small numbers, as a bit for each. Numbers below 64 take no memory of the allocator. All
+/// sets are without words at the end that are 0, or two that are the same may be taken for two.
+#[derive(Clone, Debug, Drop, PartialEq)]
+pub(crate) struct Bits {
+    /// The numbers below 64.
+    first: u64,
+    /// The others, in words of 64 numbers.
+    rest: Vec<u64>,
+}
+
+impl Bits {
+    /// No numbers.
+    pub(crate) fn new(alloc: Global) -> Self
+        ensures { (n : ℕ) → has result n ≡ false }
+    {
+        Bits {
+            first: 0,
+            rest: Vec::new(alloc),
+        }
+    }
+
+    /// Puts a number in.
+    pub(crate) fn put(&mut self, number: usize) -> Result<(), Error>
+        ensures ok { OnOk result ((n : ℕ) → has self.new n
+            ≡ (if nat_eq number n then true else has self.old n)) }
+        ensures err { IfErr result (λ e. e ≡ OutOfMemory) }
+    {
+        let bit = 1u64 << (number % WORD);
+        let Some(index) = (number / WORD).checked_sub(1) else {
+            self.first |= bit;
+            return Ok(());
+        };
+        let len = self.rest.len().max(index + 1);
+        self.rest.reserve_exact(len - self.rest.len())?;
+        self.rest.resize(len, 0)?;
+        self.rest[index] |= bit;
+        Ok(())
+    }
+
+    /// Takes a number out.
+    pub(crate) fn take_out(&mut self, number: usize)
+        ensures { (n : ℕ) → has self.new n
+            ≡ (if nat_eq number n then false else has self.old n) }
+    {
+        let others = !(1u64 << (number % WORD));
+        let Some(index) = (number / WORD).checked_sub(1) else {
+            self.first &= others;
+            return;
+        };
+        if index < self.rest.len() {
+            self.rest[index] &= others;
+            self.trim();
+        }
+    }
+
+    /// Drops the last words, if they are 0.
+    fn trim(&mut self)
+        ensures { (i : ℕ) → word_at (words_of self.new) i ≡ word_at (words_of self.old) i }
+    {
+        while let Some(0) = self.rest.last() {
+            self.rest.pop();
+        }
+    }
+
+    /// Keeps only the numbers that are in another set too.
+    pub(crate) fn keep(&mut self, other: &Bits)
+        ensures { (n : ℕ) → has self.new n ≡ (has self.old n && has other.now n) }
+    {
+        self.first &= other.first;
+        for index in 0..self.rest.len() {
+            self.rest[index] &= other.rest.get(index).copied().unwrap_or(0);
+        }
+    }
+
+    /// Whether the number is in the set.
+    pub(crate) fn has(&self, number: usize) -> bool
+        ensures { result ≡ has self.now number }
+    {
+        let word = match (number / WORD).checked_sub(1) {
+            None => self.first,
+            Some(index) => self.rest.get(index).copied().unwrap_or(0),
+        };
+        (word >> (number % WORD)) & 1 == 1
+    }
+
+    /// Whether no number is in it.
+    #[inline(always)]
+    pub(crate) fn is_empty(&self) -> bool
+        ensures { result ≡ has_none (words_of self.now) }
+    {
+        if self.first != 0 {
+            return false;
+        }
+        for word in &self.rest {
+            if *word != 0 {
+                return false;
+            }
+        }
+        true
+    }
+
+    /// Whether the three sets have a number in common.
+    #[inline(always)]
+    pub(crate) fn meets_both(&self, one: &Bits, other: &Bits) -> bool
+        ensures { result ≡ meet_three (words_of self.now) (words_of one.now) (words_of other.now) }
+    {
+        self.first & one.first & other.first != 0 || do_all_meet(&self.rest, &one.rest, &other.rest)
+    }
+
+    /// A number that is the same for the same set, and for others mostly not.
+    pub(crate) fn digest(&self, seed: u64) -> u64 {
+        let mut digest = mix(seed, self.first);
+        for word in &self.rest {
+            digest = mix(digest, *word);
+        }
+        digest
+    }
+}
 
 /// A set that caches may hold, by the numbers of its keys. It is kept once for all positions that
 /// publish it, and known by the position at which it came.
@@ -16,9 +139,10 @@ pub(crate) struct OpenSet {
     pub(crate) since: usize,
     /// The last position at which it was published, but not at the one before.
     pub(crate) last: usize,
-    keys: Bits,
+    /// Its keys.
+    pub(crate) keys: Bits,
     /// The keys that sign it, if it is a DNSKEY set.
-    signers: Bits,
+    pub(crate) signers: Bits,
 }
 
 impl OpenSet {
@@ -29,18 +153,11 @@ impl OpenSet {
         ensures keys { (n : ℕ) → has result.keys n ≡ false }
         ensures signers { (n : ℕ) → has result.signers n ≡ false }
     {
-        OpenSet::new(0, Bits::new(alloc), Bits::new(alloc))
-    }
-
-    /// The set of a position, by its keys and signers.
-    pub(crate) fn new(at: usize, keys: Bits, signers: Bits) -> Self
-        ensures { parts_of result ≡ ((words_of keys, words_of signers), at, at) }
-    {
         OpenSet {
-            since: at,
-            last: at,
-            keys,
-            signers,
+            since: 0,
+            last: 0,
+            keys: Bits::new(alloc),
+            signers: Bits::new(alloc),
         }
     }
 
@@ -52,29 +169,14 @@ impl OpenSet {
         Ok(OpenSet {
             since: self.since,
             last: self.last,
-            keys: self.keys.try_clone()?,
-            signers: self.signers.try_clone()?,
+            keys: self.keys.clone()?,
+            signers: self.signers.clone()?,
         })
-    }
-
-    /// Whether it has these keys, and these keys sign it.
-    #[inline(always)]
-    pub(crate) fn is(&self, keys: &Bits, signers: &Bits) -> bool
-        ensures { result ≡ true → set_of self.now ≡ (words_of keys.now, words_of signers.now) }
-    {
-        self.keys == *keys && self.signers == *signers
     }
 
     /// Sets with other digests are other sets.
     pub(crate) fn digest(&self) -> u64 {
         digest_of(&self.keys, &self.signers)
-    }
-
-    /// Whether it has no keys.
-    pub(crate) fn is_empty(&self) -> bool
-        ensures { result ≡ has_none (words_of self.now.keys) }
-    {
-        self.keys.is_empty()
     }
 
     /// Keeps only the keys and signers that another set has too.
@@ -109,7 +211,7 @@ impl OpenSet {
     pub(crate) fn holds_with_keys(&self, dnskey: &OpenSet) -> bool
         ensures { result ≡ keys_hold (set_of self.now) (set_of dnskey.now) }
     {
-        self.is_empty() || self.names_key_of(dnskey)
+        self.keys.is_empty() || self.names_key_of(dnskey)
     }
 
     /// Whether one of its keys, as those of a DNSKEY set, signs the zone.
@@ -125,11 +227,32 @@ impl OpenSet {
     pub(crate) fn has_chain(&self, dnskey: &OpenSet, zone: &OpenSet) -> bool
         ensures { result ≡ sets_have_chain (set_of self.now) (set_of dnskey.now) (set_of zone.now) }
     {
-        self.is_empty() || (self.names_key_of(dnskey) && dnskey.holds_with_signers(zone))
+        self.keys.is_empty() || (self.names_key_of(dnskey) && dnskey.holds_with_signers(zone))
     }
 }
 
 /// The digest of the set with these keys and signers.
 pub(crate) fn digest_of(keys: &Bits, signers: &Bits) -> u64 {
     signers.digest(keys.digest(0))
+}
+
+/// Whether a bit is set in words at the same place of all three lists.
+fn do_all_meet(words: &[u64], ones: &[u64], others: &[u64]) -> bool
+    ensures yes { result ≡ true → (i : ℕ) × HasSome (all_at words.now ones.now others.now i) }
+    ensures no { result ≡ false → (i : ℕ) → all_at words.now ones.now others.now i ≡ 0 }
+{
+    for (index, word) in words.iter().enumerate() {
+        let one = ones.get(index).copied().unwrap_or(0);
+        let other = others.get(index).copied().unwrap_or(0);
+        if *word & one & other != 0 {
+            return true;
+        }
+    }
+    false
+}
+
+/// The next digest with a word more.
+fn mix(digest: u64, word: u64) -> u64 {
+    let mixed = (digest ^ word).wrapping_mul(0x9E37_79B9_7F4A_7C15);
+    mixed ^ (mixed >> 32)
 }

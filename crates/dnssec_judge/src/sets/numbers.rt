@@ -8,7 +8,7 @@ ghost use Rattle.dnssec_run.specs.Published.{id_of};
 ghost use Rattle.dnssec_judge.specs.Bits.{has};
 ghost use Rattle.dnssec_judge.specs.Numbers.{Extends, IsRead, IsTable, StandFor, key_at};
 
-use super::bits::Bits;
+use super::held::Bits;
 use dnssec_keyset::Error;
 use dnssec_run::{Frame, PublishedKey};
 use std::alloc::Global;
@@ -20,10 +20,10 @@ const FEW: usize = 8;
 /// A key of a record has the number of the place at which it stands here. Numbers of keys that have
 /// left are given to other keys, the least first.
 ///
-/// When its room is used up, the next entry with news first looks for keys that are in no set any
-/// more, and gives their numbers back with their references. The room is then for 8 keys, for twice
-/// as many as are in sets, or up to the last of those, whichever is most. So it follows what is in
-/// sets, not how many keys there were, and only an entry that itself brings many keys exceeds it.
+/// When its room is used up, the next entry first looks for keys that are in no set any more, and
+/// gives their numbers back with their references. The room is then for 8 keys, for twice as many
+/// as are in sets, or up to the last of those, whichever is most. So it follows what is in sets, not
+/// how many keys there were, and only an entry that itself brings many keys exceeds it.
 /// A look costs as much as the room is great, and at least half of that is free after it.
 #[derive(Debug, Drop)]
 pub(crate) struct Numbers {
@@ -33,7 +33,7 @@ pub(crate) struct Numbers {
     /// Each number below this one is some key's.
     least: usize,
     /// So many more numbers may be given before it is time to give some back.
-    left: usize,
+    pub(crate) left: usize,
 }
 
 impl Numbers {
@@ -59,7 +59,10 @@ impl Numbers {
         let mut keys = Vec::with_capacity(alloc, self.keys.len())?;
         for key in &self.keys {
             let copy = match key {
-                Some(key) => Some(copy_of(key)?),
+                Some(PublishedKey { added, reference }) => Some(PublishedKey {
+                    added: *added,
+                    reference: reference.clone()?,
+                }),
                 None => None,
             };
             keys.push(copy)?;
@@ -85,11 +88,11 @@ impl Numbers {
             known.new.numbers.items frame (map id_of list.now)) }
         ensures err { IfErr result (λ e. e ≡ OutOfMemory) }
     {
-        if is_left(list, frame, known) {
-            return Ok(false);
-        }
         let len = list.len();
         let old_len = known.numbers.len();
+        if frame.front == len && old_len == len {
+            return Ok(false);
+        }
         let around = frame.front.saturating_add(frame.back);
         if old_len.saturating_sub(len) == 1 && around == len {
             known.remove(frame.front);
@@ -100,15 +103,16 @@ impl Numbers {
             known.insert(frame.front, number)?;
             return Ok(true);
         }
-        if self.are(&known.numbers, list) {
+        if old_len == len && self.are(&known.numbers, list) {
             return Ok(false);
         }
         let mut numbers = Vec::with_capacity(alloc, len)?;
+        let mut bits = Bits::new(alloc);
         for key in list {
             let number = self.number_of(key)?;
+            bits.put(number)?;
             numbers.push(number)?;
         }
-        let bits = Bits::of(alloc, &numbers)?;
         *known = NumberList { numbers, bits };
         Ok(true)
     }
@@ -149,33 +153,28 @@ impl Numbers {
         ensures extends { OnOk result (Extends self.old self.new) }
         ensures err { IfErr result (λ e. e ≡ OutOfMemory) }
     {
-        if let Some(number) = self.find(key) {
-            return Ok(number);
+        if let Some(number) = self.by_added.get(&key.added).copied() {
+            if self.is(number, key) {
+                return Ok(number);
+            }
+            if let Some(number) = self.search(key) {
+                return Ok(number);
+            }
         }
-        let copy = copy_of(key)?;
+        let reference = key.reference.clone()?;
+        let added = key.added;
         let number = self.spare_number();
-        self.by_added.insert(key.added, number)?;
-        self.write(number, copy)?;
+        self.by_added.insert(added, number)?;
+        self.write(number, PublishedKey { added, reference })?;
         Ok(number)
     }
 
-    /// The number of a key that has one. In a run no two keys are added at one position; in another
-    /// record all are looked at.
-    fn find(&self, key: &PublishedKey) -> Option<usize>
+    /// The number of a key that has one, if another key was added at its position. In a run none is.
+    fn search(&self, key: &PublishedKey) -> Option<usize>
         ensures some { IfSome result (λ n. key_at self.now n ≡ Some (id_of key.now)) }
-        ensures none { result ≡ None → IsTable self.now → (n : ℕ) →
-            key_at self.now n ≡ Some (id_of key.now) → ⊥ }
+        ensures none { result ≡ None → (n : ℕ) → key_at self.now n ≡ Some (id_of key.now) → ⊥ }
     {
-        let number = *self.by_added.get(&key.added)?;
-        if self.is(number, key) {
-            return Some(number);
-        }
-        for number in 0..self.keys.len() {
-            if self.is(number, key) {
-                return Some(number);
-            }
-        }
-        None
+        (0..self.keys.len()).find(|number| self.is(*number, key))
     }
 
     /// The least number that no key has.
@@ -216,11 +215,6 @@ impl Numbers {
         self.least = number.saturating_add(1);
         self.left = self.left.saturating_sub(1);
         Ok(())
-    }
-
-    /// Whether it is time to give back the numbers of keys that have left.
-    pub(crate) fn are_enough(&self) -> bool {
-        self.left == 0
     }
 
     /// One more than the greatest number.
@@ -278,8 +272,8 @@ impl Numbers {
 /// A list of numbers, and the set of them: with one more, or one less, only that is written.
 #[derive(Debug, Drop)]
 pub(crate) struct NumberList {
-    numbers: Vec<usize>,
-    bits: Bits,
+    pub(crate) numbers: Vec<usize>,
+    pub(crate) bits: Bits,
     ghost same: { (n : ℕ) → has bits n ≡ list_any (λ number. nat_eq number n) numbers.items },
 }
 
@@ -301,16 +295,8 @@ impl NumberList {
     {
         Ok(NumberList {
             numbers: self.numbers.clone()?,
-            bits: self.bits.try_clone()?,
+            bits: self.bits.clone()?,
         })
-    }
-
-    /// The set of the numbers.
-    #[inline(always)]
-    pub(crate) fn bits(&self) -> &Bits
-        ensures { result.now ≡ self.now.bits }
-    {
-        &self.bits
     }
 
     /// Puts a number in at a place.
@@ -320,7 +306,7 @@ impl NumberList {
             ≡ insert self.old.numbers.items place number) }
         ensures err { IfErr result (λ e. e ≡ OutOfMemory) }
     {
-        let mut bits = self.bits.try_clone()?;
+        let mut bits = self.bits.clone()?;
         bits.put(number)?;
         self.numbers.insert(place, number)?;
         self.bits = bits;
@@ -337,25 +323,6 @@ impl NumberList {
             self.bits.take_out(number);
         }
     }
-}
-
-/// Whether a list that keeps its frame is the one of before: it keeps all of that, and is as long.
-#[inline(always)]
-pub(crate) fn is_left(list: &[PublishedKey], frame: Frame, known: &NumberList) -> bool
-    ensures { result ≡ true → (t : Numbers) → IsRead t t known.now.numbers.items
-        known.now.numbers.items frame (map id_of list.now) false }
-{
-    frame.front == list.len() && known.numbers.len() == list.len()
-}
-
-/// A copy of a key.
-fn copy_of(key: &PublishedKey) -> Result<PublishedKey, Error>
-    ensures ok { IfOk result (λ copy. id_of copy ≡ id_of key.now) }
-    ensures err { IfErr result (λ e. e ≡ OutOfMemory) }
-{
-    let reference = key.reference.clone()?;
-    let added = key.added;
-    Ok(PublishedKey { added, reference })
 }
 
 /// Whether a number stands in a list.

@@ -80,7 +80,7 @@ impl Window {
             result ≡ all_in self.now (λ p. holds link is_above (set_of set.now) p) }
     {
         if let Some(common) = self.common() {
-            if !common.is_empty() && link.holds(is_above, set, common) {
+            if !common.keys.is_empty() && link.holds(is_above, set, common) {
                 return true;
             }
         }

@@ -36,7 +36,7 @@ pub(crate) fn find_broken(
         let Some(first) = ds.span_at(place) else {
             return None;
         };
-        if first.set.is_empty() {
+        if first.set.keys.is_empty() {
             continue;
         }
         if are_signed && dnskey.all_hold(Link::Named, true, first.set) {

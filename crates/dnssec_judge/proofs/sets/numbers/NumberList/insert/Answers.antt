@@ -3,7 +3,7 @@ use Rattle.std.proofs.Common.{◌≡◌, ◌∙◌, ◌∷◌, Bool, List, ap, f
 use Rattle.std.specs.Prelude.{◌||◌, if◌then◌else◌, nat_eq}
 use Rattle.std.{specs.List.insert, specs.List.list_any, proofs.Common.ℕ}
 use Rattle.std.proofs.lemmas.List.Sorted.{IsPermutation-insert, list_any-IsPermutation}
-use Rattle.dnssec_judge.specs.Bits.{has_bit}
+use Rattle.dnssec_judge.{specs.Bits.has_bit, proofs.Words.copied}
 use Rattle.dnssec_judge.proofs.sets.numbers.NumberList.insert.Goals as goal
 
 -- a number of a list with one more is that one, or was there
@@ -25,7 +25,8 @@ invariant_of-self-2 c = record {
       search rules in
       c.in_ok-put.ensures.ok n
       ∙ ap (λ b. if nat_eq c.args.number n then true else b)
-      (ap (λ (ws : List ℕ). has_bit ws n) c.in_ok-bits.ensures.ok ∙ old.same n)
+      (ap (λ (ws : List ℕ). has_bit ws n) (copied old.bits c.in_ok-bits.bits
+      c.in_ok-bits.ensures.cases) ∙ old.same n)
       ∙ sym (any-inserted old.numbers.items c.args.place c.args.number n)
       ∙ ap (λ (ns : List ℕ). list_any (λ k. nat_eq k n) ns) (sym items));
 }

@@ -1,7 +1,7 @@
 -- The words so far have what both have.
 use Rattle.std.specs.Prelude.{get_or, if◌then◌else◌, nat_lt, vec_len}
 use Rattle.std.{specs.Int.Bits.bit_and, proofs.Common.◌≡◌, proofs.Common.ℕ}
-use Rattle.dnssec_judge.proofs.sets.bits.Bits.keep.Given as goal
+use Rattle.dnssec_judge.proofs.sets.held.Bits.keep.Given as goal
 
 abbrev pub invariant-loop-index : goal.invariant-loop-index
 invariant-loop-index l = (l.self.first ≡ l.initial.self.first)

@@ -1,7 +1,7 @@
 -- The words so far have no bit in common.
 use Rattle.std.proofs.Common.{◌≡◌, ℕ, ◌<◌}
 use Rattle.dnssec_judge.specs.Bits.{all_at}
-use Rattle.dnssec_judge.proofs.sets.bits.do_all_meet.Given as goal
+use Rattle.dnssec_judge.proofs.sets.held.do_all_meet.Given as goal
 
 abbrev pub invariant-loop-index : goal.invariant-loop-index
 invariant-loop-index l = (i : ℕ) → i < l.index → all_at l.words l.ones l.others i ≡ 0

@@ -8,7 +8,7 @@ use Rattle.std.proofs.lemmas.Bool.Decides.{nat_tests}
 use Rattle.std.specs.Int.{bit_not, w64, Bits.bit_and}
 use Rattle.dnssec_judge.proofs.Words.{bit-within, first-written, other-written}
 use Rattle.dnssec_judge.specs.Bits.{has_bit, word_at, words_of}
-use Rattle.dnssec_judge.proofs.sets.bits.Bits.take_out.Goals as goal
+use Rattle.dnssec_judge.proofs.sets.held.Bits.take_out.Goals as goal
 
 clear-bit : (old new : List ℕ) (number index : ℕ) → index ≡ number / 64
     → ((i : ℕ) → word_at new i ≡ (if nat_eq index i

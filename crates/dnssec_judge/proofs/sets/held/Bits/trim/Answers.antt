@@ -3,7 +3,7 @@ use Rattle.std.proofs.Common.{◌≡◌, ◌∙◌, List, ap, arith, length, ref
 use Rattle.std.specs.Prelude.{◌-◌, Some, slice_get, unwrap_or, vec_len}
 use Rattle.std.{proofs.lemmas.Option.unwrap_or-slice_get, specs.Option.option_copied}
 use Rattle.dnssec_judge.proofs.{Lists.without-last, Words.same-words}
-use Rattle.dnssec_judge.proofs.sets.bits.Bits.trim.Goals as goal
+use Rattle.dnssec_judge.proofs.sets.held.Bits.trim.Goals as goal
 
 pub loop-self-preserved : goal.loop-self-preserved
 loop-self-preserved c =

@@ -1,7 +1,7 @@
 -- The same words, except words at the end that are 0.
 use Rattle.dnssec_judge.specs.Bits.{word_at, words_of}
 use Rattle.std.{specs.Prelude.vec_len, proofs.Common.◌≡◌, proofs.Common.ℕ}
-use Rattle.dnssec_judge.proofs.sets.bits.Bits.trim.Given as goal
+use Rattle.dnssec_judge.proofs.sets.held.Bits.trim.Given as goal
 
 abbrev pub invariant-loop-self : goal.invariant-loop-self
 invariant-loop-self l =

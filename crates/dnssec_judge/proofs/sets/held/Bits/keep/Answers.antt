@@ -1,7 +1,7 @@
 -- Each word has what both have.
 use Rattle.std.proofs.Common.{arith, ◌≤◌, length}
 use Rattle.dnssec_judge.{proofs.Words.kept-bits, proofs.Words.kept-words, specs.Bits.words_of}
-use Rattle.dnssec_judge.proofs.sets.bits.Bits.keep.Goals as goal
+use Rattle.dnssec_judge.proofs.sets.held.Bits.keep.Goals as goal
 
 pub returns : goal.returns
 returns c =

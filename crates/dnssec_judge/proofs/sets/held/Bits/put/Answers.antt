@@ -6,7 +6,7 @@ use Rattle.std.{specs.Int.Bits.bit_or, proofs.Math.ListN.replicate}
 use Rattle.std.specs.Prelude.{◌^◌, ◌*◌, if◌then◌else◌, get_or, nat_eq, set, vec_len}
 use Rattle.dnssec_judge.specs.Bits.{word_at, words_of}
 use Rattle.dnssec_judge.proofs.Words.{filled, first-written, other-written, put-bit}
-use Rattle.dnssec_judge.proofs.sets.bits.Bits.put.Goals as goal
+use Rattle.dnssec_judge.proofs.sets.held.Bits.put.Goals as goal
 
 pub returns-in_default-clause-ok : goal.returns-in_default-clause-ok
 returns-in_default-clause-ok c =
