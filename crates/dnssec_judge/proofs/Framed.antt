@@ -26,25 +26,18 @@ only-front front [] all is len = is ∙ append-nil front
 only-front front (id ∷ rest) all is len =
     absurd (omega (arith, ap length is, length-append front (id ∷ rest), len))
 
--- so a list of the same length that keeps it is the same
-all-front : (frame : Frame) (old new : List Id) → KeepsFrame frame old new
-    → frame.front ≡ length new → length old ≡ length new → old ≡ new
-all-front frame old new keeps whole len =
-    only-front keeps.front (keeps.was ++ keeps.back) old keeps.splits_old
-    (len ∙ sym whole ∙ sym keeps.front_len)
-    ∙ sym (only-front keeps.front (keeps.is ++ keeps.back) new keeps.splits_new
-    (sym whole ∙ sym keeps.front_len))
-
--- and is read with no look at its keys
+-- so a list as long, of which all is kept, is read with no look at its keys
 pub read-left : (t : Numbers) (ns : List ℕ) (frame : Frame) (list : List PublishedKey)
     → frame.front ≡ length list → length ns ≡ length list
     → IsRead t t ns ns frame (map id_of list) false
 read-left t ns frame list whole len = record {
   extends = λ t. (t, λ n k e. e);
   read = λ was table h keeps.
-      (let ids = length-map list id_of in
-      let same : was ≡ map id_of list = all-front frame was (map id_of list) keeps (whole ∙ sym ids)
-      (sym (stand-len t ns was h) ∙ len ∙ sym ids) in
+      (let front = sym (keeps.front_len ∙ whole) in let ids = length-map list id_of in
+      let same : was ≡ map id_of list =
+      only-front keeps.front (keeps.was ++ keeps.back) was keeps.splits_old
+      (sym (stand-len t ns was h) ∙ len ∙ front)
+      ∙ sym (only-front keeps.front (keeps.is ++ keeps.back) _ keeps.splits_new (ids ∙ front)) in
       (subst (StandFor t ns) same h, (same-ids was (map id_of list)).1 same));
 }
 

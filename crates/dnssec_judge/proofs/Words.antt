@@ -1,6 +1,6 @@
 -- Words of bits: two sets of numbers meet if and only if they share a number.
 use Rattle.std.proofs.Common.{◌≡◌, ℕ, zero, suc, ◌<◌, ◌≤◌, ◌/◌, ◌%◌, Bool, true, false, refl, sym}
-use Rattle.std.proofs.Common.{◌∙◌, arith, List, ◌∷◌, ◌++◌, length, take}
+use Rattle.std.proofs.Common.{arith, List, ◌∷◌, ◌++◌, length, take}
 use Rattle.std.proofs.lemmas.Bool.Decides.{Decides-and, Decides-below_or, Decides-like, Decides-not}
 use Rattle.std.proofs.lemmas.Bool.Decides.{nat_tests, same_from_decides}
 use Rattle.std.proofs.lemmas.List.{get_or-set_other, get_or-set_same, get_or_past, take_all}
@@ -10,7 +10,7 @@ use Rattle.std.proofs.lemmas.Nat.Bits.{bit_at-lt, bit_at-zero, bit_at_and, bit_a
 use Rattle.std.proofs.lemmas.Nat.Bits.{bit_at_set_same, bit_at_set_other}
 use Rattle.std.specs.Prelude.{◌&&◌, ◌^◌, ◌*◌, ◌+◌, if◌then◌else◌, get_or, nat_eq, nat_lt, set}
 use Rattle.std.specs.Int.{bit_at, w64, trailing_zeros, Bits.bit_and, Bits.bit_or}
-use Rattle.std.proofs.{Math.ListN.replicate, lemmas.Bool.true_from_ne_false, lemmas.Bool.true≢false}
+use Rattle.std.proofs.{Math.ListN.replicate, lemmas.Bool.true_from_ne_false, lemmas.Bool.false_from_ne_true}
 use Rattle.dnssec_judge.specs.Bits.{HasSome, Share, ShareAll, all_at, any_below, common_at, end_of}
 use Rattle.dnssec_judge.specs.Bits.{has_bit, has_none, meet, meet_three, word_at, words_of}
 use Rattle.dnssec_judge.specs.declared.sets.held.Bits.{Bits}
@@ -81,12 +81,6 @@ both-set : (a b k : ℕ) → bit_at (bit_and a b) k ≡ 1 → (bit_at a k ≡ 1)
 both-set a b k e = let m = bit_at_and a b k in let l = bit_at-lt a k in let r = bit_at-lt b k in
     (omega (arith, e, m, l, r), omega (arith, e, m, l, r))
 
--- a word with some bit, as a number
-pub some-number : (words : List ℕ) (i : ℕ) → HasSome (word_at words i)
-    → (n : ℕ) × (has_bit words n ≡ true)
-some-number words i some =
-    let k = lowest (word_at words i) some in (64 * i + k.0, bit-of words i k.0 k.1 k.2)
-
 -- words that have a bit in common share a number
 pub all-shared : (words ones others : List ℕ) (i : ℕ) → HasSome (all_at words ones others i)
     → ShareAll words ones others
@@ -136,20 +130,21 @@ pub all_met : (words ones others : List ℕ) (r : Bool)
     → (r ≡ false → ShareAll words ones others → ⊥) → r ≡ meet_three words ones others
 all_met words ones others r = decided r _ (meet-three-decides words ones others)
 
-pub none_set : (words : List ℕ) (r : Bool) → (r ≡ true → (n : ℕ) → has_bit words n ≡ false)
-    → (r ≡ false → (n : ℕ) × (has_bit words n ≡ true)) → r ≡ has_none words
-none_set words r is lacks =
-    decided r _ (none-decides words) (λ e n b. true≢false (sym b ∙ is e n))
-    (λ e f. f (lacks e).0 (lacks e).1)
+-- there is a number if a word isn't 0
+pub some-there : (words : List ℕ) (i : ℕ) → HasSome (word_at words i) → false ≡ has_none words
+some-there words i some =
+    let k = lowest (word_at words i) some in
+    sym (false_from_ne_true (has_none words) (λ e. (none-decides words).0 e (64 * i + k.0)
+    (bit-of words i k.0 k.1 k.2)))
 
--- words that are all 0 have no number
-pub all-nought : (first : ℕ) (rest : List ℕ) → first ≡ 0 → ((i : ℕ) → get_or rest i 0 ≡ 0)
-    → (n : ℕ) → has_bit (first ∷ rest) n ≡ false
-all-nought first rest is none n = at (n / 64)
+-- and none if all are
+pub none-there : (first : ℕ) (rest : List ℕ) → first ≡ 0 → ((i : ℕ) → get_or rest i 0 ≡ 0)
+    → true ≡ has_none (first ∷ rest)
+none-there first rest is none = sym ((none-decides (first ∷ rest)).1 (λ n. at (n / 64) (n % 64)))
   where
-    at : (i : ℕ) → nat_eq (bit_at (word_at (first ∷ rest) i) (n % 64)) 1 ≡ false
-    at zero = grind (arith, nat_tests, is, bit_at-zero)
-    at (suc i) = let e = none i in grind (arith, nat_tests, e, bit_at-zero)
+    at : (i k : ℕ) → nat_eq (bit_at (word_at (first ∷ rest) i) k) 1 ≡ true → ⊥
+    at zero k e = grind (arith, nat_tests, is, e, bit_at-zero)
+    at (suc i) k e = let nought = none i in grind (arith, nat_tests, nought, e, bit_at-zero)
 
 -- ---- words that are written
 

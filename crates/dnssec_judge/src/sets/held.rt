@@ -1,6 +1,6 @@
 //! A set that caches may hold, by bits of the numbers of its keys.
 ghost use Rattle.std.specs.Prelude.{◌≡◌, ◌&&◌, ◌||◌, ℕ, false, true, nat_eq, if◌then◌else◌};
-ghost use Rattle.std.specs.Prelude.{IfErr, IfOk, OnOk};
+ghost use Rattle.std.specs.{List.list_any, Prelude.IfErr, Prelude.IfOk, Prelude.OnOk};
 ghost use Rattle.dnssec_base.specs.declared.error.Error.TheVariants.{OutOfMemory};
 ghost use Rattle.dnssec_judge.specs.Bits.{HasSome, all_at, has, has_none, meet_three, word_at};
 ghost use Rattle.dnssec_judge.specs.Bits.{words_of};
@@ -31,6 +31,22 @@ impl Bits {
             first: 0,
             rest: Vec::new(alloc),
         }
+    }
+
+    /// These numbers.
+    pub(crate) fn of(alloc: Global, numbers: &[usize]) -> Result<Self, Error>
+        ensures ok { IfOk result (λ bits. (n : ℕ) →
+            has bits n ≡ list_any (λ number. nat_eq number n) numbers.now) }
+        ensures err { IfErr result (λ e. e ≡ OutOfMemory) }
+    {
+        let mut bits = Bits {
+            first: 0,
+            rest: Vec::new(alloc),
+        };
+        for number in numbers {
+            bits.put(*number)?;
+        }
+        Ok(bits)
     }
 
     /// Puts a number in.
@@ -118,7 +134,10 @@ impl Bits {
     pub(crate) fn meets_both(&self, one: &Bits, other: &Bits) -> bool
         ensures { result ≡ meet_three (words_of self.now) (words_of one.now) (words_of other.now) }
     {
-        self.first & one.first & other.first != 0 || do_all_meet(&self.rest, &one.rest, &other.rest)
+        if self.first & one.first & other.first != 0 {
+            return true;
+        }
+        do_all_meet(&self.rest, &one.rest, &other.rest)
     }
 
     /// A number that is the same for the same set, and for others mostly not.

@@ -107,12 +107,11 @@ impl Numbers {
             return Ok(false);
         }
         let mut numbers = Vec::with_capacity(alloc, len)?;
-        let mut bits = Bits::new(alloc);
         for key in list {
             let number = self.number_of(key)?;
-            bits.put(number)?;
             numbers.push(number)?;
         }
+        let bits = Bits::of(alloc, &numbers)?;
         *known = NumberList { numbers, bits };
         Ok(true)
     }

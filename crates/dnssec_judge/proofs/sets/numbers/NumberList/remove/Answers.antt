@@ -1,5 +1,5 @@
 -- The set has one number less, unless it stands elsewhere too.
-use Rattle.std.proofs.Common.{◌≡◌, ◌∙◌, ◌∷◌, ◌<◌, Bool, List, ap, arith, false, length, refl}
+use Rattle.std.proofs.Common.{◌≡◌, ◌∙◌, ◌∷◌, ◌<◌, Bool, List, ap, arith, false, length}
 use Rattle.std.specs.Prelude.{◌||◌, get_or, if◌then◌else◌, nat_eq}
 use Rattle.std.proofs.Common.{sym, true, ℕ}
 use Rattle.std.{specs.List.list_any, specs.List.remove, proofs.lemmas.Bool.eqb-true}
@@ -7,15 +7,6 @@ use Rattle.std.proofs.Common.{subst}
 use Rattle.std.specs.List.Sorted.{IsPermutation}
 use Rattle.std.proofs.lemmas.List.Sorted.{IsPermutation-remove, list_any-IsPermutation}
 use Rattle.dnssec_judge.proofs.sets.numbers.NumberList.remove.Goals as goal
-
--- a number that is still there, and one that isn't
-still : (b c : Bool) → (b ≡ true → c ≡ true) → (b || c) ≡ c
-still true c is = sym (is refl)
-still false c is = refl
-
-gone : (b c : Bool) → (b ≡ true → c ≡ false) → (if b then false else (b || c)) ≡ c
-gone true c is = sym (is refl)
-gone false c is = refl
 
 -- what is left of a list without the number of a place
 module _ (xs rest : List ℕ) (i m : ℕ) (lt : i < length xs) (is : m ≡ get_or xs i m)
@@ -31,14 +22,13 @@ module _ (xs rest : List ℕ) (i m : ℕ) (lt : i < length xs) (is : m ≡ get_o
   -- the number stands elsewhere too
   stays : list_any (λ k. nat_eq k m) rest ≡ true → (n : ℕ)
       → list_any (λ k. nat_eq k n) xs ≡ list_any (λ k. nat_eq k n) rest
-  stays there n = any n ∙ still (nat_eq m n) _ (same-number true there n)
+  stays there n = let a = any n in let s = same-number true there n in grind (arith, a, s)
 
   -- or it is gone
   leaves : list_any (λ k. nat_eq k m) rest ≡ false → (n : ℕ)
       → (if nat_eq m n then false else list_any (λ k. nat_eq k n) xs)
       ≡ list_any (λ k. nat_eq k n) rest
-  leaves none n = ap (λ b. if nat_eq m n then false else b) (any n)
-      ∙ gone (nat_eq m n) _ (same-number false none n)
+  leaves none n = let a = any n in let s = same-number false none n in grind (arith, a, s)
 
 pub invariant_of-self-else-not-stands_in : goal.invariant_of-self-else-not-stands_in
 invariant_of-self-else-not-stands_in c = record {

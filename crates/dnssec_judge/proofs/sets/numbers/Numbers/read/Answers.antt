@@ -9,9 +9,6 @@ use Rattle.dnssec_judge.proofs.{Framed.read-less, Framed.read-more, Table.stand-
 use Rattle.dnssec_judge.proofs.Table.{stand-on, stand-push}
 use Rattle.dnssec_judge.specs.Numbers.{StandFor, key_at}
 use Rattle.dnssec_judge.proofs.{Framed.other-len, Framed.read-left, Table.stand-len}
-use Rattle.std.{specs.List.list_any, proofs.lemmas.List.Folds.list_any-append}
-use Rattle.std.specs.Prelude.{◌||◌, Bool, false, if◌then◌else◌, nat_eq, true}
-use Rattle.std.proofs.Common.{ℕ, refl}
 use Rattle.dnssec_judge.proofs.sets.numbers.Numbers.read.Goals as goal
 use Rattle.dnssec_judge.proofs.sets.numbers.Numbers.read.Goals.{else-old_len-len-2-via-else-old_len-len-2, else-old_len-len-2-via-then-old_len-len-2+else-are}
 
@@ -99,43 +96,27 @@ returns-then-are-clause-ok c = record {
 }
 
 pub loop-key-init : goal.loop-key-init
-loop-key-init c =
-    let none : c.in_ok-numbers.numbers.items ≡ [] = search rules in (
-      λ t. (t, λ n k e. e, ap (map (key_at c.args.self.now)) none),
-      λ n. c.new-bits.ensures n ∙ ap (λ (ns : List ℕ). list_any (λ m. nat_eq m n) ns) (sym none),
-    )
-
-added : (b c : Bool) → (if b then true else c) ≡ (c || (b || false))
-added true true = refl
-added true false = refl
-added false true = refl
-added false false = refl
+loop-key-init c t =
+    let none : c.in_ok-numbers.numbers.items ≡ [] = search rules in
+    (t, λ n k e. e, ap (map (key_at c.args.self.now)) none)
 
 pub loop-key-preserved : goal.loop-key-preserved
-loop-key-preserved c =
+loop-key-preserved c t =
+    let so = c.loop-key.invariant t in
     let list = c.args.list.now in let i = c.loop-key.key-index in let key = c.key-item.result in
+    let extends = c.in_ok-number-2.ensures.extends so.0 in
     let pushed : c.push.new.self.items ≡ c.loop-key.numbers.items ++ c.in_ok-number-2.number ∷ [] =
     search rules in
     let ids : map id_of (take (i + 1) list) ≡ map id_of (take i list) ++ id_of key ∷ [] =
     ap (λ (ks : List PublishedKey). map id_of ks)
     (take_more list i key c.loop-key-test.true ∙ (λ j. take i list ++ sym c.key-item.is j ∷ []))
     ∙ map-append id_of (take i list) (key ∷ []) in (
-      λ t. (let so = c.loop-key.invariant.0 t in
-          let extends = c.in_ok-number-2.ensures.extends so.0 in (
-            extends.0,
-            λ n k e. extends.1 n k (so.1 n k e),
-            rw (pushed, ids) (stand-push c.number_of-in-loop-key.new.self c.loop-key.numbers.items
-                (map id_of (take i list)) c.in_ok-number-2.number (id_of key)
-                (stand-on c.loop-key.self c.number_of-in-loop-key.new.self c.loop-key.numbers.items _
-                extends.1 so.2) c.in_ok-number-2.ensures.ok),
-          )),
-      λ n.
-          (let number = c.in_ok-number-2.number in
-          c.in_ok-put.ensures.ok n
-          ∙ ap (λ b. if nat_eq number n then true else b) (c.loop-key.invariant.1 n)
-          ∙ added (nat_eq number n) (list_any (λ m. nat_eq m n) c.loop-key.numbers.items)
-          ∙ sym (list_any-append (λ m. nat_eq m n) c.loop-key.numbers.items (number ∷ []))
-          ∙ ap (λ (ns : List ℕ). list_any (λ m. nat_eq m n) ns) (sym pushed)),
+      extends.0,
+      λ n k e. extends.1 n k (so.1 n k e),
+      rw (pushed, ids) (stand-push c.number_of-in-loop-key.new.self c.loop-key.numbers.items
+          (map id_of (take i list)) c.in_ok-number-2.number (id_of key)
+          (stand-on c.loop-key.self c.number_of-in-loop-key.new.self c.loop-key.numbers.items _
+          extends.1 so.2) c.in_ok-number-2.ensures.ok),
     )
 
 pub returns-then-old_len-len-clause-ok : goal.returns-then-old_len-len-clause-ok
@@ -146,13 +127,13 @@ returns-then-old_len-len-clause-ok c =
 
 pub returns-clause-ok : goal.returns-clause-ok
 returns-clause-ok c = record {
-  extends = λ t. (let so = c.loop-key.invariant.0 t in (so.0, so.1));
+  extends = λ t. (let so = c.loop-key.invariant t in (so.0, so.1));
   read = λ was t h keeps.
       (let list = c.args.list.now in let ids = map id_of list in
       let known = c.args.known.now.numbers in (
         subst (λ (ks : List PublishedKey). StandFor c.loop-key.self c.loop-key.numbers.items
             (map id_of ks)) (take_all c.loop-key.key-index list c.loop-key-test.false)
-            (c.loop-key.invariant.0 t).2,
+            (c.loop-key.invariant t).2,
         elim c.else-old_len-len-2.branch [
           | else-old_len-len-2-via-then-old_len-len-2+else-are w ↦
               false_from_ne_true (same_ids was ids) (λ e. w.are.ensures.no w.if-are.false
