@@ -10,7 +10,8 @@ use Rattle.std.proofs.lemmas.Nat.Bits.{bit_at-lt, bit_at-zero, bit_at_and, bit_a
 use Rattle.std.proofs.lemmas.Nat.Bits.{bit_at_set_same, bit_at_set_other}
 use Rattle.std.specs.Prelude.{◌&&◌, ◌^◌, ◌*◌, ◌+◌, if◌then◌else◌, get_or, nat_eq, nat_lt, set}
 use Rattle.std.specs.Int.{bit_at, w64, trailing_zeros, Bits.bit_and, Bits.bit_or}
-use Rattle.std.proofs.{Math.ListN.replicate, lemmas.Bool.true_from_ne_false, lemmas.Bool.false_from_ne_true}
+use Rattle.std.proofs.lemmas.Bool.{false_from_ne_true, true_from_ne_false}
+use Rattle.std.proofs.Math.ListN.{replicate}
 use Rattle.dnssec_judge.specs.Bits.{HasSome, Share, ShareAll, all_at, any_below, common_at, end_of}
 use Rattle.dnssec_judge.specs.Bits.{has_bit, has_none, meet, meet_three, word_at, words_of}
 use Rattle.dnssec_judge.specs.declared.sets.held.Bits.{Bits}
@@ -112,10 +113,6 @@ all-apart words ones others none t =
 
 -- ---- the tests of the code
 
--- a test that says yes only if it is so, and no only if it isn't
-decided : {P : Type 0} (r b : Bool) → Decides b P → (r ≡ true → P) → (r ≡ false → P → ⊥) → r ≡ b
-decided r b d is lacks = same_from_decides r b (is, λ p. true_from_ne_false r (λ e. lacks e p)) d
-
 -- what is in the last two is in the last
 pub meet-twice : (words others : List ℕ) → meet_three words others others ≡ meet words others
 meet-twice words others = λ i.
@@ -125,10 +122,12 @@ meet-twice words others = λ i.
     twice true = refl
     twice false = refl
 
+-- a test that says yes only if three meet, and no only if they don't
 pub all_met : (words ones others : List ℕ) (r : Bool)
     → (r ≡ true → ShareAll words ones others)
     → (r ≡ false → ShareAll words ones others → ⊥) → r ≡ meet_three words ones others
-all_met words ones others r = decided r _ (meet-three-decides words ones others)
+all_met words ones others r is lacks = same_from_decides r (meet_three words ones others)
+    (is, λ p. true_from_ne_false r (λ e. lacks e p)) (meet-three-decides words ones others)
 
 -- there is a number if a word isn't 0
 pub some-there : (words : List ℕ) (i : ℕ) → HasSome (word_at words i) → false ≡ has_none words

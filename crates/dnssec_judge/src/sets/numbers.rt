@@ -22,8 +22,8 @@ const FEW: usize = 8;
 ///
 /// When its room is used up, the next entry first looks for keys that are in no set any more, and
 /// gives their numbers back with their references. The room is then for 8 keys, for twice as many
-/// as are in sets, or up to the last of those, whichever is most. So it follows what is in sets, not
-/// how many keys there were, and only an entry that itself brings many keys exceeds it.
+/// as are in sets, or up to the last of those, whichever is most. So it follows what is in sets,
+/// not how many keys there were, and only an entry that itself brings many keys exceeds it.
 /// A look costs as much as the room is great, and at least half of that is free after it.
 #[derive(Debug, Drop)]
 pub(crate) struct Numbers {
@@ -168,7 +168,7 @@ impl Numbers {
         Ok(number)
     }
 
-    /// The number of a key that has one, if another key was added at its position. In a run none is.
+    /// The number of a key that has one, if another was added at its position. In a run none is.
     fn search(&self, key: &PublishedKey) -> Option<usize>
         ensures some { IfSome result (λ n. key_at self.now n ≡ Some (id_of key.now)) }
         ensures none { result ≡ None → (n : ℕ) → key_at self.now n ≡ Some (id_of key.now) → ⊥ }

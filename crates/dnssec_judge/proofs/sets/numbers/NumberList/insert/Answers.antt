@@ -1,5 +1,5 @@
 -- The set has one number more.
-use Rattle.std.proofs.Common.{◌≡◌, ◌∙◌, ◌∷◌, Bool, List, ap, false, refl, rules, sym, true}
+use Rattle.std.proofs.Common.{◌≡◌, ◌∙◌, ◌∷◌, List, ap, arith, rules, sym, true}
 use Rattle.std.specs.Prelude.{◌||◌, if◌then◌else◌, nat_eq}
 use Rattle.std.{specs.List.insert, specs.List.list_any, proofs.Common.ℕ}
 use Rattle.std.proofs.lemmas.List.Sorted.{IsPermutation-insert, list_any-IsPermutation}
@@ -10,12 +10,10 @@ use Rattle.dnssec_judge.proofs.sets.numbers.NumberList.insert.Goals as goal
 any-inserted : (xs : List ℕ) (i m n : ℕ) → list_any (λ k. nat_eq k n) (insert xs i m)
     ≡ (if nat_eq m n then true else list_any (λ k. nat_eq k n) xs)
 any-inserted xs i m n =
-    sym (list_any-IsPermutation (λ k. nat_eq k n) (m ∷ xs) (insert xs i m)
-    (IsPermutation-insert xs i m)) ∙ first (nat_eq m n) (list_any (λ k. nat_eq k n) xs)
-  where
-    first : (b c : Bool) → (b || c) ≡ (if b then true else c)
-    first true c = refl
-    first false c = refl
+    let same : (nat_eq m n || list_any (λ k. nat_eq k n) xs)
+    ≡ list_any (λ k. nat_eq k n) (insert xs i m) =
+    list_any-IsPermutation (λ k. nat_eq k n) (m ∷ xs) (insert xs i m)
+    (IsPermutation-insert xs i m) in grind (arith, same)
 
 pub invariant_of-self-2 : goal.invariant_of-self-2
 invariant_of-self-2 c = record {

@@ -7,8 +7,6 @@ use Rattle.dnssec_judge.proofs.Table.{grown, some-update, table-grown}
 use Rattle.dnssec_judge.specs.Numbers.{IsTable}
 use Rattle.std.{proofs.lemmas.Bool.false≢true, specs.Prelude.is_some, proofs.Common.rules}
 use Rattle.dnssec_judge.proofs.sets.numbers.Numbers.number_of.Goals as goal
-use Rattle.dnssec_judge.proofs.sets.numbers.Numbers.number_of.Goals.{in_default}
-use Rattle.dnssec_judge.proofs.sets.numbers.Numbers.number_of.Goals.{in-Some+else-is+in_default-search}
 
 pub returns : goal.returns
 returns c =
@@ -21,8 +19,8 @@ returns c =
     c.in_ok-write.ensures.ok ∙ ap (λ k. Some k) same in
     let lacks : IsTable old → (n : ℕ) → key_at old n ≡ Some key → ⊥ =
     (λ t n e. elim c.match-copied.branch [
-      | in-Some+else-is+in_default-search w ↦ w.search.ensures.none w.in_default-search.is n e
-      | in_default w ↦ false≢true (ap is_some (sym w.in_default.is ∙ c.copied.ensures
+      | goal.in-Some+else-is+in_default-search w ↦ w.search.ensures.none w.in_default-search.is n e
+      | goal.in_default w ↦ false≢true (ap is_some (sym w.in_default.is ∙ c.copied.ensures
           ∙ c.get.ensures.value) ∙ t.known n key e)
     ]) in
     let others : (n : ℕ) → (n ≡ number → ⊥) → key_at new n ≡ key_at old n =

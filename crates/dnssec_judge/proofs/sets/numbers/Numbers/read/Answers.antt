@@ -5,12 +5,10 @@ use Rattle.std.proofs.lemmas.{Bool.false_from_ne_true, List.get_or-map, List.len
 use Rattle.std.proofs.lemmas.List.{map-append, take_all, take_more}
 use Rattle.dnssec_run.{proofs.Since.same-ids, specs.Published.id_of}
 use Rattle.dnssec_run.specs.{declared.record.PublishedKey.PublishedKey, Origins.same_ids}
-use Rattle.dnssec_judge.proofs.{Framed.read-less, Framed.read-more, Table.stand-once}
-use Rattle.dnssec_judge.proofs.Table.{stand-on, stand-push}
+use Rattle.dnssec_judge.proofs.Framed.{other-len, read-left, read-less, read-more}
+use Rattle.dnssec_judge.proofs.Table.{stand-len, stand-on, stand-once, stand-push}
 use Rattle.dnssec_judge.specs.Numbers.{StandFor, key_at}
-use Rattle.dnssec_judge.proofs.{Framed.other-len, Framed.read-left, Table.stand-len}
 use Rattle.dnssec_judge.proofs.sets.numbers.Numbers.read.Goals as goal
-use Rattle.dnssec_judge.proofs.sets.numbers.Numbers.read.Goals.{else-old_len-len-2-via-else-old_len-len-2, else-old_len-len-2-via-then-old_len-len-2+else-are}
 
 pub remove-requires : goal.remove-requires
 remove-requires c = omega (
@@ -135,11 +133,11 @@ returns-clause-ok c = record {
             (map id_of ks)) (take_all c.loop-key.key-index list c.loop-key-test.false)
             (c.loop-key.invariant t).2,
         elim c.else-old_len-len-2.branch [
-          | else-old_len-len-2-via-then-old_len-len-2+else-are w ↦
+          | goal.else-old_len-len-2-via-then-old_len-len-2+else-are w ↦
               false_from_ne_true (same_ids was ids) (λ e. w.are.ensures.no w.if-are.false
               (rw w.deref.ensures.value (subst (StandFor c.args.self.now known.items)
               ((same-ids was ids).0 e) h)))
-          | else-old_len-len-2-via-else-old_len-len-2 w ↦
+          | goal.else-old_len-len-2-via-else-old_len-len-2 w ↦
               other-len was ids (λ e. w.if-old_len-len-2.false (omega (
                 arith,
                 e,
