@@ -117,13 +117,9 @@ stand-once t ns ks ls h g = same-some ks ls (sym h ∙ g)
         let more = same-some ks ls rest in
         λ i. one i ∷ more i
 
--- two lists after each other
-pub stand-both : (t : Numbers) (ns ms : List ℕ) (ks ls : List Id) → StandFor t ns ks
-    → StandFor t ms ls → StandFor t (ns ++ ms) (ks ++ ls)
-stand-both t ns ms ks ls h g =
-    map-append (key_at t) ns ms ∙ (λ i. h i ++ g i)
-    ∙ sym (map-append {A = Id} {B = Option Id} Some ks ls)
-
+-- one more after them
 pub stand-push : (t : Numbers) (ns : List ℕ) (ks : List Id) (n : ℕ) (k : Id) → StandFor t ns ks
     → key_at t n ≡ Some k → StandFor t (ns ++ n ∷ []) (ks ++ k ∷ [])
-stand-push t ns ks n k h e = stand-both t ns (n ∷ []) ks (k ∷ []) h (λ i. e i ∷ [])
+stand-push t ns ks n k h e =
+    map-append (key_at t) ns (n ∷ []) ∙ (λ i. h i ++ e i ∷ [])
+    ∙ sym (map-append {A = Id} {B = Option Id} Some ks (k ∷ []))

@@ -1,9 +1,8 @@
 -- The set has one number less, unless it stands elsewhere too.
 use Rattle.std.proofs.Common.{◌≡◌, ◌∙◌, ◌∷◌, ◌<◌, Bool, List, ap, arith, false, length}
 use Rattle.std.specs.Prelude.{◌||◌, get_or, if◌then◌else◌, nat_eq}
-use Rattle.std.proofs.Common.{sym, true, ℕ}
+use Rattle.std.proofs.Common.{subst, sym, true, ℕ}
 use Rattle.std.{specs.List.list_any, specs.List.remove, proofs.lemmas.Bool.eqb-true}
-use Rattle.std.proofs.Common.{subst}
 use Rattle.std.specs.List.Sorted.{IsPermutation}
 use Rattle.std.proofs.lemmas.List.Sorted.{IsPermutation-remove, list_any-IsPermutation}
 use Rattle.dnssec_judge.proofs.sets.numbers.NumberList.remove.Goals as goal

@@ -2,9 +2,8 @@
 use Rattle.std.proofs.Common.{◌≡◌, ◌∙◌, ap, sym, ℕ, subst, refl, None, Some}
 use Rattle.std.specs.{HashMap.get, Prelude.IsSome, Prelude.nat_eq, Prelude.if◌then◌else◌}
 use Rattle.dnssec_run.specs.Published.{id_of}
-use Rattle.dnssec_judge.specs.Numbers.{key_at}
+use Rattle.dnssec_judge.specs.Numbers.{IsTable, key_at}
 use Rattle.dnssec_judge.proofs.Table.{grown, some-update, table-grown}
-use Rattle.dnssec_judge.specs.Numbers.{IsTable}
 use Rattle.std.{proofs.lemmas.Bool.false≢true, specs.Prelude.is_some, proofs.Common.rules}
 use Rattle.dnssec_judge.proofs.sets.numbers.Numbers.number_of.Goals as goal
 
