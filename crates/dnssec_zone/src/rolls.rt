@@ -2,8 +2,9 @@
 //! the roll may be ended early. No other module opens the map that has the phases.
 ghost use Rattle.std.specs.Prelude.{◌≡◌, not, ◌&&◌, is_some, IsSome, None, Some, IfOk, ℕ, List, []};
 ghost use Rattle.std.specs.Prelude.{IsOkUnless, OnOk, OnErr, ◌++◌, ◌≤◌, ◌+◌, length, vec_len};
+ghost use Rattle.std.specs.FinMap as map;
+ghost use Rattle.std.specs.HashMap as hash;
 ghost use Rattle.std.specs.{Prelude.vec_capacity, Option.option_map};
-ghost use Rattle.std.specs.{FinMap as map, HashMap as hash};
 ghost use Rattle.dnssec_base.specs.declared.error.Error.TheVariants.{OutOfMemory};
 ghost use Rattle.dnssec_key.specs.declared.roll.RollType.{RollType as AnyRoll};
 ghost use Rattle.dnssec_key.specs.RollTable.{after_early_end, cache_expire};
@@ -11,10 +12,9 @@ ghost use Rattle.dnssec_zone.specs.Rolls.{all_rolls, phase_of, with_phase, no_ro
 ghost use Rattle.dnssec_zone.specs.Start.{has_conflict, conflict, texts, together};
 ghost use Rattle.dnssec_zone.specs.Refusals.{AnswersExactly, report_refusal, end_refusal};
 ghost use Rattle.dnssec_zone.specs.{Refusals.early_end_refusal, Wait.ttl_in, Lists.same_part};
-ghost use Rattle.dnssec_zone.specs.Inner.Bits.{is_set};
 ghost use Rattle.dnssec_zone.specs.Inner.Entries.{is_of, is_of_roll, entries_after_report};
 ghost use Rattle.dnssec_zone.specs.Inner.Entries.{entries_at_start, entries_of, has_entry};
-ghost use Rattle.dnssec_zone.specs.Inner.Entries.{without_roll, without_tag};
+ghost use Rattle.dnssec_zone.specs.Inner.{Bits.is_set, Entries.without_roll, Entries.without_tag};
 ghost use Rattle.dnssec_zone.specs.declared.rolls.Part.TheVariants.{Old, New};
 
 use crate::index::{TagSet, set};

@@ -2,7 +2,7 @@
 -- before. If there is no DS, or any two sets fit together, nothing is broken.
 use Rattle.std.proofs.Common.{◌≡◌, ◌≤◌, ℕ, suc, sym, ◌∙◌, ap, subst, arith, None, [], ◌∷◌, length}
 use Rattle.std.proofs.Common.{◌++◌, true, List, Option}
-use Rattle.std.specs.Prelude.{is_some, not}
+use Rattle.std.specs.Prelude.{is_some}
 use Rattle.dnssec_run.specs.Safe.{IsSafe, SetKind, position_at, position_of}
 use Rattle.dnssec_run.specs.{declared.record.Entry.Entry, Origins.set_at}
 use Rattle.dnssec_judge.proofs.OneByOne.Pairs.{none-where-held, none-without-ds, tested-held}
@@ -72,22 +72,22 @@ module _ (es : List Entry) (e : Entry) (j w : Judge) (h : Knows es j) (found-is 
 
 pub returns-then-is_some-clause-ok : goal.returns-then-is_some-clause-ok
 returns-then-is_some-clause-ok c es e next keep h =
-    let f = c.in_ok-follow.ensures in
-    some-found es e c.args.self.now c.follow.new.self h f.found (f.follows es e next keep h.follows)
+    let f = c.in_ok-is_other.ensures in
+    some-found es e c.args.self.now c.follow.new.self h f.found
+    (f.follows es e next keep h.follows).0
     (sym c.is_some.ensures ∙ c.if-is_some.true)
 
-pub returns-then-is_none-clause-ok : goal.returns-then-is_none-clause-ok
-returns-then-is_none-clause-ok c es e next keep h =
-    let f = c.in_ok-follow.ensures in
-    no-news es e c.args.self.now c.follow.new.self h f.found (f.follows es e next keep h.follows)
+pub returns-then-not-is_other-clause-ok : goal.returns-then-not-is_other-clause-ok
+returns-then-not-is_other-clause-ok c es e next keep h =
+    let f = c.in_ok-is_other.ensures in let g = f.follows es e next keep h.follows in
+    no-news es e c.args.self.now c.follow.new.self h f.found g.0
     (is-none _ (sym c.is_some.ensures ∙ c.if-is_some.false))
-    (λ kind. rw (is-none c.args.published (c.is_none.ensures ∙ ap not c.if-is_none.true))
-    at (next.publishes kind))
+    (g.1 c.if-not-is_other.true)
 
 pub returns-then-has_no_keys-clause-ok : goal.returns-then-has_no_keys-clause-ok
 returns-then-has_no_keys-clause-ok c es e next keep h =
-    let w = c.follow.new.self in let f = c.in_ok-follow.ensures in
-    let g = f.follows es e next keep h.follows in
+    let w = c.follow.new.self in let f = c.in_ok-is_other.ensures in
+    let g = (f.follows es e next keep h.follows).0 in
     let none = is-none w.found (sym c.is_some.ensures ∙ c.if-is_some.false) in
     searched es e c.args.self.now w h f.found g none w.tested w.found g.within g.tested
     (none ∙ sym (none-without-ds _ w.at w.ds w.dnskey w.zone g.ds.keeps g.dnskey.keeps g.zone.keeps
@@ -95,8 +95,8 @@ returns-then-has_no_keys-clause-ok c es e next keep h =
 
 pub returns-then-are_signed-clause-ok : goal.returns-then-are_signed-clause-ok
 returns-then-are_signed-clause-ok c es e next keep h =
-    let w = c.follow.new.self in let f = c.in_ok-follow.ensures in
-    let g = f.follows es e next keep h.follows in
+    let w = c.follow.new.self in let f = c.in_ok-is_other.ensures in
+    let g = (f.follows es e next keep h.follows).0 in
     let none = is-none w.found (sym c.is_some.ensures ∙ c.if-is_some.false) in
     held es e c.args.self.now w h f.found g none _
     (omega (arith, g.at, c.saturating_add-self.ensures)) (record {
@@ -108,8 +108,8 @@ returns-then-are_signed-clause-ok c es e next keep h =
 
 pub returns-clause-ok : goal.returns-clause-ok
 returns-clause-ok c es e next keep h =
-    let w = c.follow.new.self in let f = c.in_ok-follow.ensures in
-    let g = f.follows es e next keep h.follows in
+    let w = c.follow.new.self in let f = c.in_ok-is_other.ensures in
+    let g = (f.follows es e next keep h.follows).0 in
     searched es e c.args.self.now w h f.found g
     (is-none w.found (sym c.is_some.ensures ∙ c.if-is_some.false)) w.tested _ g.within g.tested
     (c.find_broken-self.ensures _ g.ds.keeps g.dnskey.keeps g.zone.keeps (λ signed.

@@ -5,8 +5,8 @@ use Rattle.std.specs.{Option.option_copied, Prelude.slice_get}
 use Rattle.dnssec_judge.{specs.declared.window.reports.Due.Due, proofs.OneByOne.Windows.first-late}
 use Rattle.dnssec_judge.proofs.window.Window.is_due.Goals as goal
 
-pub returns-in-Some : goal.returns-in-Some
-returns-in-Some c isnt order =
+pub returns-in-Some-clause-late : goal.returns-in-Some-clause-late
+returns-in-Some-clause-late c isnt order =
     let w = c.args.self.now in
     let there : slice_get w.dues.items 0 ≡ Some c.in-Some.first.now =
     ap (λ (xs : List Due). slice_get xs 0) (sym c.deref.ensures.value)
@@ -16,8 +16,8 @@ returns-in-Some c isnt order =
     (let same = ap (λ (x : Due). x.over) (same_Some c.in-Some.first.now d (sym there ∙ e)) in
     omega (arith, lt, same))) order
 
-pub returns-in-None : goal.returns-in-None
-returns-in-None c isnt order =
+pub returns-in-None-clause-late : goal.returns-in-None-clause-late
+returns-in-None-clause-late c isnt order =
     let w = c.args.self.now in
     let there : slice_get w.dues.items 0 ≡ None =
     ap (λ (xs : List Due). slice_get xs 0) (sym c.deref.ensures.value)

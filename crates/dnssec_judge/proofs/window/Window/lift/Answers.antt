@@ -1,25 +1,17 @@
 -- Nothing happens, or a report, then the time, and then what is below the floor goes.
-use Rattle.std.proofs.Common.{◌≡◌, ◌≤◌, ◌∙◌, ap, arith, List, refl, ℕ, subst, sym, None}
+use Rattle.std.proofs.Common.{◌≡◌, ◌≤◌, ◌∙◌, ap, arith, List, ℕ, subst, sym, None}
 use Rattle.std.specs.Prelude.{max, not}
 use Rattle.dnssec_judge.specs.Inner.Window.{AreInOrder, came, floor_with, over_any, stretches_of}
 use Rattle.dnssec_judge.specs.Inner.Window.{Tiles}
 use Rattle.dnssec_judge.proofs.OneByOne.{More.begins-noted, Sets.moved-as, Sets.rests-on}
-use Rattle.dnssec_judge.proofs.OneByOne.Followed.{is-none}
+use Rattle.dnssec_judge.proofs.OneByOne.Followed.{is-none, not-lifted}
 use Rattle.dnssec_judge.specs.declared.window.{Window.Window, reports.Due.Due}
 use Rattle.dnssec_judge.proofs.window.Window.lift.Goals as goal
 
 pub returns-then-not-is_due-clause-ok : goal.returns-then-not-is_due-clause-ok
 returns-then-not-is_due-clause-ok c =
-    let none = c.is_due.ensures c.if-not-is_due.true in
-    rw (is-none c.args.due (c.is_none.ensures ∙ ap not c.if-is_none.true)) (record {
-      floor = λ order. (let same = none order in omega (arith, same));
-      dues = λ t le. omega arith;
-      in_order = λ order. order;
-      spans = λ at n tiles begins above k. (tiles, begins, above);
-      keeps = λ n k. (k, λ tested h le r. (h, r, refl));
-      origin = refl;
-      last = refl;
-    })
+    rw (is-none c.args.due (c.is_none.ensures ∙ ap not c.if-is_none.true))
+    (not-lifted c.args.self.now c.args.time (c.is_due.ensures.late c.if-not-is_due.true))
 
 pub returns-clause-ok : goal.returns-clause-ok
 returns-clause-ok c =

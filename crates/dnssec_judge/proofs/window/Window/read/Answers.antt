@@ -1,7 +1,6 @@
 -- Two lists are read. If the set is another, it is put in, and a span of it stands last.
 use Rattle.std.proofs.Common.{◌≡◌, ◌∙◌, ◌++◌, ◌∷◌, [], ap, map, arith, refl, rules, subst, suc}
-use Rattle.std.proofs.Common.{sym, true}
-use Rattle.std.proofs.Common.{false}
+use Rattle.std.proofs.Common.{sym}
 use Rattle.dnssec_run.specs.Published.{id_of}
 use Rattle.dnssec_judge.specs.declared.window.{Span.Span, Window.Window, last.Last.Last}
 use Rattle.dnssec_judge.specs.Inner.Window.{IsPut, came, last_of}
@@ -14,7 +13,6 @@ returns-then-not-is_other-clause-ok c =
     let w = c.args.self.now in
     let last : Last = record { keys = c.read.new.known; signers = c.read-2.new.known } in
     record {
-      is_other = false;
       next = rw c.if-not-is_other.true at (set-read c.args.numbers.now c.read.new.self
           c.read-2.new.self w.last last c.args.keys c.args.signers (map id_of c.args.list.now)
           (map id_of c.args.signing.now) _ _ c.in_ok-has_others.ensures.ok
@@ -40,7 +38,6 @@ returns-clause-ok c =
     ∙ ap (λ (x : Window). x.spans.items ++ span ∷ []) put.kept in
     let at-last : new.last ≡ last = ap (λ (x : Window). x.last) put.kept in
     record {
-      is_other = true;
       next = rw at-last (rw c.if-not-is_other.false at (set-read c.args.numbers.now
           c.read.new.self c.read-2.new.self w.last last c.args.keys c.args.signers
           (map id_of c.args.list.now) (map id_of c.args.signing.now) _ _
