@@ -24,7 +24,7 @@ pub(crate) struct Many {
 
 impl Many {
     /// What helps with these sets.
-    fn of(alloc: Global, sets: &[OpenSet]) -> Result<Self, Error>
+    pub(super) fn of(alloc: Global, sets: &[OpenSet]) -> Result<Self, Error>
         ensures ok { IfOk result (λ many. All (IsIn many.common) sets.now) }
         ensures err { IfErr result (λ e. e ≡ OutOfMemory) }
     {
