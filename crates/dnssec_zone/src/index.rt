@@ -1,5 +1,5 @@
-//! What answers for the keys of a zone without a walk over them: the tags in use, and how many keys a
-//! start could go on with. Sets of numbers are bits in words of 64, which take no memory of the
+//! What answers for the keys of a zone without a walk over them: the tags in use, and how many keys
+//! a start could go on with. Sets of numbers are bits in words of 64, which take no memory of the
 //! allocator.
 ghost use Rattle.std.specs.Prelude.{◌≡◌, ◌<◌, ◌/◌, ℕ, length, nat_eq, false};
 ghost use Rattle.std.specs.Prelude.{None, Some, is_none, if◌then◌else◌, IfOk, IsOkUnless};
