@@ -10,6 +10,8 @@ from pathlib import Path
 COMMENT_OR_TEXT = re.compile(r'//[^\n]*|"(?:\\.|[^"\\])*"', re.DOTALL)
 # The head of a function, with its indent, as `rt fmt` lays it out.
 HEAD = re.compile(r"( *)(?:pub(?:\(\w+\))? )?fn (\w+)")
+# A match, or one function's answer to a match.
+MATCH = re.compile(r"(?:\w+\()?match ")
 
 
 def sources(crates: Path, ending: str, part: str) -> list[Path]:
@@ -31,10 +33,10 @@ class Body:
     lines: list[str]
 
     def is_one_match(self) -> bool:
-        """Whether it is a match, and nothing before and after it."""
+        """Whether it is a match, or one function's answer to a match, and nothing beside it."""
         at = len(self.indent) + 4
         first, *rest, last = (line[at:] for line in self.lines if line[:at].isspace())
-        return (first.startswith("match ") and last == "}"
+        return (MATCH.match(first) is not None and last in ("}", "})")
                 and all(not line or line[0] == " " for line in rest))
 
 

@@ -3,7 +3,7 @@ use Rattle.std.{proofs.Common.◌≡◌, proofs.Common.ap, specs.Bool.Decides, s
 use Rattle.std.proofs.lemmas.Bool.{false≢true, Decides.Decides-and, Decides.Decides-like}
 use Rattle.dnssec_key.specs.declared.kind.KeyType.TheVariants.{Ksk, Zsk, Csk, Include}
 use Rattle.dnssec_key.specs.{State.Flags, Key.first_state, declared.kind.KeyType.KeyType}
-use Rattle.dnssec_key.specs.contracts.key.KeyStatePartialEq.TheImpl as of_states
+use Rattle.dnssec_key.specs.contracts.kind.KeyStatePartialEq.TheImpl as of_states
 use Rattle.dnssec_key.specs.contracts.kind.KeyTypePartialEq.TheImpl as of_kinds
 
 -- two states are one if and only if all five flags are

@@ -4,8 +4,8 @@ use Rattle.std.specs.Prelude.{ℕ, List, Bool, true, false, ◌&&◌, ◌||◌, 
 use Rattle.std.specs.Option.{option_map_or}
 use Rattle.dnssec_key.specs.declared.kind.KeyType.{KeyType}
 use Rattle.dnssec_key.specs.declared.kind.KeyType.TheVariants.{Ksk, Zsk, Csk, Include}
-use Rattle.dnssec_key.specs.declared.key.Available.{Available as Availability}
-use Rattle.dnssec_key.specs.declared.key.Available.TheVariants.{Available, NotAvailable}
+use Rattle.dnssec_key.specs.declared.kind.Available.{Available as Availability}
+use Rattle.dnssec_key.specs.declared.kind.Available.TheVariants.{Available, NotAvailable}
 use Rattle.dnssec_key.specs.State.{Flags}
 use Rattle.dnssec_base.specs.Stamps.{Stamps, no_stamps}
 

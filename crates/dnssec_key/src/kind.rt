@@ -1,9 +1,173 @@
-//! The kinds of keys, and their roles.
-ghost use Rattle.std.specs.Prelude.{◌≡◌};
+//! The kinds of keys, their roles, and the state of a key in each of its roles.
+ghost use Rattle.std.specs.Prelude.{◌≡◌, Some, false};
+ghost use Rattle.std.specs.Option.{option_map_or};
+ghost use Rattle.dnssec_key.specs.State.{is_stale, kept_present, kept_at_parent};
+ghost use Rattle.dnssec_key.specs.Key.{is_available, new_state};
 ghost use Rattle.dnssec_key.specs.Key.{ksk_state, zsk_state, ksk_role_state, zsk_role_state};
 ghost use Rattle.dnssec_key.specs.Key.{key_state, zone_key_state};
+ghost use Rattle.dnssec_key.specs.Texts.{ending, state_text};
 
-use crate::key::KeyState;
+use std::fmt;
+use std::marker::Model;
+
+/// Whether a key may come in by a roll.
+#[derive(Clone, Copy, Debug, PartialEq, Eq)]
+pub enum Available {
+    Available,
+    NotAvailable,
+}
+
+/// The state of a key in one of its roles.
+///
+/// Before a roll takes it in, a role of an available key is fresh. Then it is in use: it signs, is
+/// in the DNSKEY set, or has to have a DS at the parent. Then it is old, and once nothing of it is
+/// left, stale.
+#[derive(Clone, Copy, Debug, Default, PartialEq)]
+pub struct KeyState {
+    /// Whether a roll may take the role in.
+    pub available: bool,
+    /// Whether the role is on its way out.
+    pub old: bool,
+    /// Whether the key signs in this role: the DNSKEY set as a KSK, the zone as a ZSK.
+    pub signer: bool,
+    /// Whether the key is in the DNSKEY set.
+    pub present: bool,
+    /// Whether the parent has to have a DS record for the key.
+    pub at_parent: bool,
+}
+
+impl Model for KeyState {
+    ghost use Rattle.dnssec_key.specs.State.{Flags};
+
+    ghost Value = { Flags };
+
+    ghost view = { λ s. record {
+      available = s.available;
+      old = s.old;
+      signer = s.signer;
+      present = s.present;
+      at_parent = s.at_parent;
+    } };
+
+    ghost inverse = { λ s. record {
+      available = s.available;
+      old = s.old;
+      signer = s.signer;
+      present = s.present;
+      at_parent = s.at_parent;
+    } };
+}
+
+/// The state of a role that may come in, and has not begun to.
+pub(crate) const FRESH: KeyState = KeyState {
+    available: true,
+    old: false,
+    signer: false,
+    present: false,
+    at_parent: false,
+};
+
+impl KeyState {
+    /// The state of a role that no roll has taken in yet.
+    pub fn new(available: Available) -> KeyState
+        ensures { result ≡ new_state (is_available available) }
+    {
+        KeyState {
+            available: available == Available::Available,
+            ..FRESH
+        }
+    }
+
+    /// Whether the role is on its way out.
+    pub fn old(&self) -> bool
+        ensures { result ≡ self.now.old }
+    {
+        self.old
+    }
+
+    /// Whether the key signs in this role: the DNSKEY set as a KSK, the zone as a ZSK.
+    pub fn signer(&self) -> bool
+        ensures { result ≡ self.now.signer }
+    {
+        self.signer
+    }
+
+    /// Whether the key is in the DNSKEY set.
+    pub fn present(&self) -> bool
+        ensures { result ≡ self.now.present }
+    {
+        self.present
+    }
+
+    /// Whether the parent has to have a DS record for the key.
+    pub fn at_parent(&self) -> bool
+        ensures { result ≡ self.now.at_parent }
+    {
+        self.at_parent
+    }
+
+    /// Whether the role has left: it is old, doesn't sign, isn't in the DNSKEY set and has no DS at
+    /// the parent.
+    pub fn stale(&self) -> bool
+        ensures { result ≡ is_stale self.now }
+    {
+        self.old && !self.signer && !self.present && !self.at_parent
+    }
+}
+
+/// Whether the role is there, in the DNSKEY set, and not old.
+pub fn is_kept_present(role: Option<KeyState>) -> bool
+    ensures { result ≡ option_map_or kept_present role false }
+{
+    role.is_some_and(|state| !state.old && state.present)
+}
+
+/// Whether the role is there, has to have a DS at the parent, and is not old.
+pub fn is_kept_at_parent(role: Option<KeyState>) -> bool
+    ensures { result ≡ option_map_or kept_at_parent role false }
+{
+    role.is_some_and(|state| !state.old && state.at_parent)
+}
+
+impl fmt::Display for KeyState {
+    ghost output = { λ s. Some (state_text s) };
+
+    /// Writes the flags that are set, and the part that such a key plays in a roll, as
+    /// `Signer, Present (Active)`.
+    fn fmt<W: fmt::Write>(&self, f: &mut fmt::Formatter<W>) -> fmt::Result {
+        let words = [
+            (self.old, "Old"),
+            (self.signer, "Signer"),
+            (self.present, "Present"),
+            (self.at_parent, "At Parent"),
+        ];
+        let mut separator = "";
+        for (is_set, word) in words {
+            if is_set {
+                write!(f, "{separator}{word}")?;
+                separator = ", ";
+            }
+        }
+        f.write_str(self.ending())
+    }
+}
+
+impl KeyState {
+    /// What stands at the end of the text: the part that a key in this state plays in a roll.
+    fn ending(&self) -> &'static str
+        ensures { result.now ≡ ending self.now.old self.now.signer self.now.present }
+    {
+        match (self.old, self.signer, self.present) {
+            (false, false, false) => "(Future)",
+            (false, false, true) => " (Incoming)",
+            (false, true, true) => " (Active)",
+            (true, true, true) => " (Leaving)",
+            (true, false, true) => " (Retired)",
+            (true, false, false) => " (Stale)",
+            (_, true, false) => "",
+        }
+    }
+}
 
 /// The kind of a key, with the state of each of its roles.
 #[derive(Clone, Copy, Debug, PartialEq)]

@@ -24,8 +24,8 @@ pub use dnssec_base::{
 pub use facts_for_proofs::{
     default_states_are_unused, equal_kinds_are_one, equal_phases_are_one, equal_states_are_one,
 };
-pub use key::{Available, Key, KeyState, is_kept_at_parent, is_kept_present, new_key};
-pub use kind::KeyType;
+pub use key::{Key, new_key};
+pub use kind::{Available, KeyState, KeyType, is_kept_at_parent, is_kept_present};
 pub use roll::{Action, Half, PhaseEnd, RollState, RollType, Side, Want};
 pub use setting::Setting;
 pub use table::{roll_name, side_of, stamp_read, wait_moves_kept};

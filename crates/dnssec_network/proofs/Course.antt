@@ -5,7 +5,7 @@ use Rattle.std.proofs.Common.{List, [], ◌∷◌, ◌++◌, map, length, take, 
 use Rattle.std.proofs.Common.{refl, arith, Global, String, Bor}
 use Rattle.std.specs.{FinMap.find, FinMap.is_sorted, List.list_any}
 use Rattle.dnssec_key.specs.declared.kind.KeyType.TheVariants.{Ksk, Zsk}
-use Rattle.dnssec_key.specs.declared.key.Available.TheVariants.{Available}
+use Rattle.dnssec_key.specs.declared.kind.Available.TheVariants.{Available}
 use Rattle.dnssec_key.specs.declared.roll.Action.TheVariants.{CreateCdsRrset, RemoveCdsRrset}
 use Rattle.dnssec_key.specs.declared.roll.Action.TheVariants.{ReportDnskeyPropagated}
 use Rattle.dnssec_key.specs.declared.roll.Action.TheVariants.{ReportDsPropagated}

@@ -9,7 +9,8 @@ use Rattle.dnssec_key.specs.declared.roll.RollType.{RollType}
 use Rattle.dnssec_run.specs.Safe.{SetKind, Ds, Dnskey, ZoneSigners, position_at, position_of}
 use Rattle.dnssec_run.proofs.Recorded.{last-ds, last-dnskey, last-signers, last-zone}
 use Rattle.dnssec_run.specs.declared.{call.Call.Call, record.Entry.Entry, record.Outcome.Outcome}
-use Rattle.dnssec_run.specs.declared.record.{Published.Published, PublishedKey.PublishedKey}
+use Rattle.dnssec_run.specs.declared.record.{Frames.Frames, Published.Published}
+use Rattle.dnssec_run.specs.declared.record.{PublishedKey.PublishedKey}
 use Rattle.dnssec_run.specs.declared.{record.Reply.Reply, running.Recorder.Recorder}
 use Rattle.dnssec_run.specs.{Published.Id, Published.id_of}
 use Rattle.dnssec_run.{specs.Recorder.HasSameKeys, specs.Recorder.Records, proofs.Grow.at_end}
@@ -161,24 +162,24 @@ next_comes name calls entries r s outcome news so kept handed = record {
 
 -- and keeps the frames of the changes
 next_keeps : (name : List ℕ) (calls : List Call) (entries : List Entry) (r s : Recorder)
-    (outcome : Outcome) (news : Option Published) → Records name calls entries r
-    → (outcome.may_publish ≡ true → KeepsFrames outcome.frames r.published s.published)
+    (outcome : Outcome) (news : Option Published) (frames : Frames) → Records name calls entries r
+    → (outcome.may_publish ≡ true → KeepsFrames frames r.published s.published)
     → news ≡ (if outcome.may_publish then Some s.published else None)
-    → KeepsLast entries outcome.frames news
-next_keeps name calls entries r s outcome news so keeps handed =
-    subst (KeepsLast entries outcome.frames) (sym handed) (by outcome.may_publish keeps)
+    → KeepsLast entries frames news
+next_keeps name calls entries r s outcome news frames so keeps handed =
+    subst (KeepsLast entries frames) (sym handed) (by outcome.may_publish keeps)
   where
-    by : (b : Bool) → (b ≡ true → KeepsFrames outcome.frames r.published s.published)
-        → KeepsLast entries outcome.frames (if b then Some s.published else None)
+    by : (b : Bool) → (b ≡ true → KeepsFrames frames r.published s.published)
+        → KeepsLast entries frames (if b then Some s.published else None)
     by true keeps kind =
-        subst (λ (set : CachedSet). KeepsSet (frames_in kind outcome.frames) set
+        subst (λ (set : CachedSet). KeepsSet (frames_in kind frames) set
         (set_in kind s.published)) (last_held name calls entries r so kind)
-        (keeps-kind outcome.frames r.published s.published kind (keeps refl))
+        (keeps-kind frames r.published s.published kind (keeps refl))
     by false keeps kind = tt
 
 -- after one more call
 pub goes_on : (name : List ℕ) (calls : List Call) (entries : List Entry) (old next : ZoneState)
-    (call : Call) (outcome : Outcome) (news : Option Published)
+    (call : Call) (outcome : Outcome) (news : Option Published) (frames : Frames)
     → Follows name calls entries old
     → ((name : List ℕ) (calls : List Call) (entries : List Entry) (e : Entry)
     → SaysOutcome e outcome → HasSameKeys e.published next.recorder.published
@@ -186,14 +187,14 @@ pub goes_on : (name : List ℕ) (calls : List Call) (entries : List Entry) (old 
     → Records name (calls ++ call ∷ []) (entries ++ e ∷ []) next.recorder)
     → (outcome.may_publish ≡ false → next.recorder.published ≡ old.recorder.published)
     → (outcome.may_publish ≡ true
-    → KeepsFrames outcome.frames old.recorder.published next.recorder.published)
+    → KeepsFrames frames old.recorder.published next.recorder.published)
     → news ≡ (if outcome.may_publish then Some next.recorder.published else None)
     → ((entries : List Entry) (e : Entry) → ComesNext entries e outcome.mark outcome.moment news
-    → KeepsLast entries outcome.frames news → Knows entries old.judge
+    → KeepsLast entries frames news → Knows entries old.judge
     → Knows (entries ++ e ∷ []) next.judge)
     → Comes Follows name calls entries call next
     (record { reply = outcome.reply; moment = outcome.moment })
-goes_on name calls entries old next call outcome news so records kept frames handed judged =
+goes_on name calls entries old next call outcome news frames so records kept keeps handed judged =
     let r = old.recorder in let q = next.recorder in let e = entry_of outcome q.published in
     record {
       entry = e;
@@ -204,7 +205,8 @@ goes_on name calls entries old next call outcome news so records kept frames han
             so.records;
         knows = judged entries e
             (next_comes name calls entries r q outcome news so.records kept handed)
-            (next_keeps name calls entries r q outcome news so.records frames handed) so.knows;
+            (next_keeps name calls entries r q outcome news frames so.records keeps handed)
+            so.knows;
         shown = ap sets_text (last_of entries e);
       };
       is_reply = refl;

@@ -135,9 +135,10 @@ impl ZoneState {
             return Err(AllocError);
         };
         let news = self.recorder.news(&outcome);
+        let frames = self.recorder.frames();
         let noted = self
             .judge
-            .note_changes(alloc, outcome.mark, outcome.moment, news, &outcome.frames);
+            .note_changes(alloc, outcome.mark, outcome.moment, news, frames);
         let Ok(()) = noted else {
             return Err(AllocError);
         };

@@ -177,11 +177,11 @@ impl<'a> Call<'a> {
             ≡ reference_deleted (call_of self.now)) }
         ensures err { IfErr result (λ e. e ≡ OutOfMemory) }
     {
-        match self {
-            Call::AddKeyKsk { pubref, .. }
-            | Call::AddKeyZsk { pubref, .. }
-            | Call::AddKeyCsk { pubref, .. }
-            | Call::AddPublicKey { pubref, .. } => Ok(Meaning {
+        match *self {
+            Call::AddKeyKsk { ref pubref, .. }
+            | Call::AddKeyZsk { ref pubref, .. }
+            | Call::AddKeyCsk { ref pubref, .. }
+            | Call::AddPublicKey { ref pubref, .. } => Ok(Meaning {
                 change: KeyChange::Adds(pubref.clone()?),
                 ..Meaning::NONE
             }),
@@ -197,13 +197,13 @@ impl<'a> Call<'a> {
                 ..Meaning::NONE
             }),
             Call::SetPresent { pubref, value, now } => Ok(Meaning {
-                moment: Some(*now),
+                moment: Some(now),
                 reference_set: Some(pubref),
                 sets_shown: ByList {
                     dnskey: true,
                     ..ByList::NONE
                 },
-                is_shown: Some(*value),
+                is_shown: Some(value),
                 ..Meaning::NONE
             }),
             Call::SetSigner { pubref, value } => Ok(Meaning {
@@ -213,7 +213,7 @@ impl<'a> Call<'a> {
                     zone_signers: true,
                     ..ByList::NONE
                 },
-                is_shown: if *value { None } else { Some(false) },
+                is_shown: if value { None } else { Some(false) },
                 ..Meaning::NONE
             }),
             Call::SetAtParent { pubref, value } => Ok(Meaning {
@@ -222,7 +222,7 @@ impl<'a> Call<'a> {
                     ds: true,
                     ..ByList::NONE
                 },
-                is_shown: Some(*value),
+                is_shown: Some(value),
                 ..Meaning::NONE
             }),
             Call::SetStale { pubref } => Ok(Meaning {
@@ -233,23 +233,23 @@ impl<'a> Call<'a> {
             }),
             Call::StartRoll { rolltype, now, .. } | Call::CacheExpired1 { rolltype, now } => {
                 Ok(Meaning {
-                    moment: Some(*now),
-                    mark: Mark::Step(*rolltype),
+                    moment: Some(now),
+                    mark: Mark::Step(rolltype),
                     ..Meaning::NONE
                 })
             }
             Call::Propagation1Complete { rolltype, ttl, now }
             | Call::Propagation2Complete { rolltype, ttl, now } => Ok(Meaning {
-                moment: Some(*now),
+                moment: Some(now),
                 mark: Mark::Report {
-                    roll: *rolltype,
+                    roll: rolltype,
                     second: matches!(self, Call::Propagation2Complete { .. }),
-                    ttl: *ttl,
+                    ttl,
                 },
                 ..Meaning::NONE
             }),
             Call::CacheExpired2 { now, .. } => Ok(Meaning {
-                moment: Some(*now),
+                moment: Some(now),
                 ..Meaning::NONE
             }),
             Call::RollDone { .. } | Call::AbortRoll { .. } => Ok(Meaning::NONE),
@@ -263,7 +263,7 @@ impl<'a> Call<'a> {
     pub(crate) fn make(self, set: &mut KeySet) -> Reply
         ensures { Step set.old (call_of self.entry) (reply_of result) set.new }
     {
-        let answer = match self {
+        reply_done(match self {
             Call::AddKeyKsk {
                 pubref,
                 privref,
@@ -324,8 +324,7 @@ impl<'a> Call<'a> {
             }
             Call::RollDone { rolltype } => return reply_list(set.roll_done(rolltype)),
             Call::AbortRoll { rolltype } => return reply_list(set.abort_roll(rolltype)),
-        };
-        reply_done(answer)
+        })
     }
 }
 

@@ -36,18 +36,21 @@ impl Reply {
         ensures { (list : Shown) → at_list result list
             ≡ (at_list by_hand list || list_any (updates (kind_shown list)) (asked_by self.now)) }
     {
-        match self {
-            Reply::Actions(actions) => {
-                let asks_dnskey = actions.contains(&Action::UpdateDnskeyRrset);
-                ByList {
-                    ds: by_hand.ds | actions.contains(&Action::UpdateDsRrset),
-                    dnskey: by_hand.dnskey | asks_dnskey,
-                    dnskey_signers: by_hand.dnskey_signers | asks_dnskey,
-                    zone_signers: by_hand.zone_signers | actions.contains(&Action::UpdateRrsig),
+        let mut lists = by_hand;
+        if let Reply::Actions(actions) = self {
+            for action in actions {
+                match action {
+                    Action::UpdateDsRrset => lists.ds = true,
+                    Action::UpdateDnskeyRrset => {
+                        lists.dnskey = true;
+                        lists.dnskey_signers = true;
+                    }
+                    Action::UpdateRrsig => lists.zone_signers = true,
+                    _ => {}
                 }
             }
-            _ => by_hand,
         }
+        lists
     }
 }
 
@@ -186,8 +189,6 @@ pub struct Outcome {
     /// Whether the call may have changed what is published: its reply asks to publish a set, or it
     /// set a key by hand and so changed a set. If not, the sets are those of the position before.
     pub may_publish: bool,
-    /// What stands around the changes of the sets, if the call may have changed them.
-    pub frames: Frames,
 }
 
 /// A key set after its calls, with one entry for each: `entries[i]` is that of position `i + 1`.

@@ -63,7 +63,7 @@ fn note(
 /// for call in calls {
 ///     let outcome = recorder.advance(alloc, call)?;
 ///     let news = recorder.news(&outcome);
-///     judge.note_changes(alloc, outcome.mark, outcome.moment, news, &outcome.frames)?;
+///     judge.note_changes(alloc, outcome.mark, outcome.moment, news, recorder.frames())?;
 /// }
 /// ```
 #[derive(Drop)]
@@ -74,6 +74,8 @@ pub struct Recorder {
     order: WalkOrder,
     /// What is published.
     published: Published,
+    /// What stands around the changes of the last call that may have changed what is published.
+    frames: Frames,
     /// How many calls were made.
     at: usize,
 }
@@ -89,6 +91,7 @@ impl Recorder {
             added: BTreeMap::new(alloc),
             order: WalkOrder::new(alloc),
             published: Published::none(alloc),
+            frames: Frames::NONE,
             at: 0,
         }
     }
@@ -117,7 +120,7 @@ impl Recorder {
         ensures by_hand { IfOk result (λ outcome. IsSome (reference_set (call_of call.entry)) →
             outcome.may_publish ≡ true → ¬ HasSameKeys self.old.published self.new.published) }
         ensures frames { IfOk result (λ outcome. outcome.may_publish ≡ true →
-            KeepsFrames outcome.frames self.old.published self.new.published) }
+            KeepsFrames self.new.frames self.old.published self.new.published) }
         ensures err { IfErr result (λ e. e ≡ OutOfMemory) }
     {
         let Some(at) = self.at.checked_add(1) else {
@@ -132,12 +135,10 @@ impl Recorder {
                 moment: meaning.moment,
                 mark: Mark::Other,
                 may_publish: false,
-                frames: Frames::NONE,
             });
         }
         self.order.is_stale |= note(&mut self.added, meaning.change, at)?;
         let touched = reply.touched(meaning.sets_shown);
-        let mut frames = Frames::NONE;
         let may_publish = renew(
             alloc,
             &self.keyset,
@@ -147,14 +148,13 @@ impl Recorder {
             touched,
             meaning.reference_set,
             meaning.is_shown,
-            &mut frames,
+            &mut self.frames,
         )?;
         Ok(Outcome {
             reply,
             moment: meaning.moment,
             mark: meaning.mark,
             may_publish,
-            frames,
         })
     }
 
@@ -201,6 +201,13 @@ impl Recorder {
         }
     }
 
+    /// What stands around the changes of what is published, if the last call may have changed it.
+    pub fn frames(&self) -> &Frames
+        ensures { result.now ≡ self.now.frames }
+    {
+        &self.frames
+    }
+
     /// The key set after the calls so far, to look at.
     pub fn keyset(&self) -> &KeySet
         ensures { result.now ≡ self.now.keyset }
@@ -226,6 +233,7 @@ impl Recorder {
             added,
             order: WalkOrder::new(alloc),
             published: copy_sets(alloc, &self.published)?,
+            frames: self.frames,
             at: self.at,
         })
     }

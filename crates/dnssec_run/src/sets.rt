@@ -30,16 +30,16 @@ impl Shown {
         ensures { result ≡ shows self keytype }
     {
         match (self, keytype) {
-            (Shown::Ds, KeyType::Ksk(state) | KeyType::Csk(state, _)) => state.at_parent(),
+            (Shown::Ds, KeyType::Ksk(state) | KeyType::Csk(state, _)) => state.at_parent,
             (
                 Shown::Dnskey,
                 KeyType::Ksk(state)
                 | KeyType::Zsk(state)
                 | KeyType::Csk(state, _)
                 | KeyType::Include(state),
-            ) => state.present(),
-            (Shown::DnskeySigners, KeyType::Ksk(state) | KeyType::Csk(state, _)) => state.signer(),
-            (Shown::ZoneSigners, KeyType::Zsk(state) | KeyType::Csk(_, state)) => state.signer(),
+            ) => state.present,
+            (Shown::DnskeySigners, KeyType::Ksk(state) | KeyType::Csk(state, _)) => state.signer,
+            (Shown::ZoneSigners, KeyType::Zsk(state) | KeyType::Csk(_, state)) => state.signer,
             _ => false,
         }
     }

@@ -1,5 +1,5 @@
 use Rattle.std.proofs.Common.{rules}
-use Rattle.dnssec_key.proofs.key.KeyState.ending.Goals as goal
+use Rattle.dnssec_key.proofs.kind.KeyState.ending.Goals as goal
 
 pub returns-in-true-false-true : goal.returns-in-true-false-true
 returns-in-true-false-true c = search rules

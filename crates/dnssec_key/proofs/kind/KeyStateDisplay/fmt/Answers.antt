@@ -2,8 +2,8 @@
 use Rattle.std.proofs.Common.{rules, sym, ap}
 use Rattle.std.proofs.Output.{has_written_append, has_written_of_eq, has_written_to_eq}
 use Rattle.dnssec_key.{specs.Texts.comma_list, proofs.Words.word_added, proofs.Words.word_skipped}
-use Rattle.dnssec_key.proofs.key.KeyStateDisplay.fmt.Goals.{then-is_set+in_ok-write, else-is_set}
-use Rattle.dnssec_key.proofs.key.KeyStateDisplay.fmt.Goals as goal
+use Rattle.dnssec_key.proofs.kind.KeyStateDisplay.fmt.Goals.{then-is_set+in_ok-write, else-is_set}
+use Rattle.dnssec_key.proofs.kind.KeyStateDisplay.fmt.Goals as goal
 
 pub loop-is_set-preserved : goal.loop-is_set-preserved
 loop-is_set-preserved g c =

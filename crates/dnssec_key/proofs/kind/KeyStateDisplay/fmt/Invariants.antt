@@ -4,7 +4,7 @@ use Rattle.dnssec_key.specs.Texts.{comma_list}
 use Rattle.dnssec_key.proofs.Words.{separator_after, words_before}
 use denote.Text.{Utf8}
 use denote.Shadow.{shadow}
-use Rattle.dnssec_key.proofs.key.KeyStateDisplay.fmt.Given as goal
+use Rattle.dnssec_key.proofs.kind.KeyStateDisplay.fmt.Given as goal
 
 abbrev pub invariant-loop-is_set : goal.invariant-loop-is_set
 invariant-loop-is_set g l =
