@@ -49,7 +49,7 @@ GIVEN = {
 # The same name for something else, by the file.
 GIVEN_IN = {
     ("dnssec_base/src/name.rt", "rt"): "rt: &impl Abort",
-    ("dnssec_network/src/text/answer.rt", "notes"): "notes: &str",
+    ("dnssec_network/src/text/questions.rt", "notes"): "notes: &str",
     ("dnssec_policy/src/automatic/zone.rt", "notes"): "notes: &str",
 }
 # What an example calls that is the caller's own.

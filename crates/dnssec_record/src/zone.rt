@@ -135,7 +135,7 @@ impl ZoneState {
             return Err(AllocError);
         };
         let news = self.recorder.news(&outcome);
-        let frames = self.recorder.frames();
+        let frames = &self.recorder.frames;
         let noted = self
             .judge
             .note_changes(alloc, outcome.mark, outcome.moment, news, frames);

@@ -63,7 +63,7 @@ fn note(
 /// for call in calls {
 ///     let outcome = recorder.advance(alloc, call)?;
 ///     let news = recorder.news(&outcome);
-///     judge.note_changes(alloc, outcome.mark, outcome.moment, news, recorder.frames())?;
+///     judge.note_changes(alloc, outcome.mark, outcome.moment, news, &recorder.frames)?;
 /// }
 /// ```
 #[derive(Drop)]
@@ -75,7 +75,7 @@ pub struct Recorder {
     /// What is published.
     published: Published,
     /// What stands around the changes of the last call that may have changed what is published.
-    frames: Frames,
+    pub frames: Frames,
     /// How many calls were made.
     at: usize,
 }
@@ -199,13 +199,6 @@ impl Recorder {
         } else {
             None
         }
-    }
-
-    /// What stands around the changes of what is published, if the last call may have changed it.
-    pub fn frames(&self) -> &Frames
-        ensures { result.now ≡ self.now.frames }
-    {
-        &self.frames
     }
 
     /// The key set after the calls so far, to look at.

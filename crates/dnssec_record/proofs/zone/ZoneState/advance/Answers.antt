@@ -11,6 +11,5 @@ returns-clause-known c name calls entries so =
       courses = c.args.self.now.courses;
     } in
     goes_on name calls entries c.args.self.now next c.args.call c.in-Ok.outcome _ _ so
-    c.in-Ok.ensures.ok c.in-Ok.ensures.kept
-    (λ may. rw c.frames-frames.ensures (c.in-Ok.ensures.frames may)) c.news-news.ensures
+    c.in-Ok.ensures.ok c.in-Ok.ensures.kept c.in-Ok.ensures.frames c.news-news.ensures
     c.in-Ok-noted.ensures.ok
