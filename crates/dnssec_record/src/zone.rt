@@ -134,11 +134,15 @@ impl ZoneState {
         let Ok(outcome) = self.recorder.advance(alloc, call) else {
             return Err(AllocError);
         };
-        let news = self.recorder.news(&outcome);
-        let frames = &self.recorder.frames;
-        let noted = self
-            .judge
-            .note_changes(alloc, outcome.mark, outcome.moment, news, frames);
+        let recorder = &self.recorder;
+        let news = recorder.news(&outcome);
+        let noted = self.judge.note_changes(
+            alloc,
+            outcome.mark,
+            outcome.moment,
+            news,
+            &recorder.frames,
+        );
         let Ok(()) = noted else {
             return Err(AllocError);
         };

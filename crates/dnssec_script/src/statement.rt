@@ -1,16 +1,18 @@
 //! What a line of a script says: the call of its word, made from its fields; and what the next of
 //! the lines of a script says.
-ghost use Rattle.std.specs.Prelude.{◌≡◌, if◌then◌else◌, IfOk, IfErr, IsSome, None, true};
+ghost use Rattle.std.specs.Prelude.{◌≡◌, if◌then◌else◌, IfOk, IfErr, IsSome, None, true, [], ◌∷◌};
 ghost use Rattle.std.specs.Prelude.{ℕ, suc, List, IfSome};
 ghost use Rattle.std.specs.Option.{option_map};
 ghost use Rattle.dnssec_key.specs.Key.{is_available};
 ghost use Rattle.dnssec_run.specs.declared.call.Call.{Call};
 ghost use Rattle.dnssec_script.specs.Script.{call_says, said_after_word, says};
+ghost use Rattle.dnssec_script.specs.Script.{Moment, References, Roll, as_list, as_roll, as_time};
+ghost use Rattle.dnssec_script.specs.Script.{values_of};
 ghost use Rattle.dnssec_script.specs.Inner.Reading.{HasRead, IsReadFault, ReadsOn, lines_left};
 ghost use Rattle.dnssec_script.specs.Inner.Statement.{MakesEntry, start_says};
 ghost use Rattle.dnssec_script.specs.Inner.Statement.{adds, statement_says, takes_memory};
 
-use crate::fields::{Fields, split_once};
+use crate::fields::{Fields, ReferenceList, split_once};
 use crate::forms::{
     KeyTraits, flag, key, public_key, report, roll, signing_key, stamp, timed_flag, wait,
 };
@@ -112,29 +114,15 @@ pub fn read_line<'a>(alloc: Global, line: &'a [u8]) -> Result<Option<Statement<'
         Word::AddKsk | Word::AddZsk | Word::AddCsk | Word::AddPublic => {
             call_that_adds(alloc, word, fields)
         }
-        Word::Start => {
-            let Some((rolltype, fields)) = fields.roll() else {
-                return Ok(None);
-            };
-            let Some((old, fields)) = fields.list() else {
-                return Ok(None);
-            };
-            let Some((new, fields)) = fields.list() else {
-                return Ok(None);
-            };
-            let Some((moment, fields)) = fields.time() else {
-                return Ok(None);
-            };
-            let Some(()) = fields.end() else {
-                return Ok(None);
-            };
-            Ok(Some(Statement::Start(Start {
+        Word::Start => match start_fields(fields) {
+            Some((rolltype, old, new, moment)) => Ok(Some(Statement::Start(Start {
                 rolltype,
                 old: old.references(alloc)?,
                 new: new.references(alloc)?,
                 moment,
-            })))
-        }
+            }))),
+            None => Ok(None),
+        },
         _ => Ok(call_of_parts(word, fields)),
     }
 }
@@ -277,4 +265,19 @@ fn availability(may_come_in: bool) -> Available
     } else {
         Available::NotAvailable
     }
+}
+
+/// The fields of a start, with lists that are parts of the line.
+fn start_fields<'a>(
+    fields: Fields<'a>,
+) -> Option<(RollType, ReferenceList<'a>, ReferenceList<'a>, UnixTime)>
+    ensures { option_map (λ x. Roll x.0 ∷ References x.1 ∷ References x.2 ∷ Moment x.3 ∷ []) result
+        ≡ values_of (as_roll ∷ as_list ∷ as_list ∷ as_time ∷ []) fields.entry }
+{
+    let (rolltype, fields) = fields.roll()?;
+    let (old, fields) = fields.list()?;
+    let (new, fields) = fields.list()?;
+    let (moment, fields) = fields.time()?;
+    fields.end()?;
+    Some((rolltype, old, new, moment))
 }
