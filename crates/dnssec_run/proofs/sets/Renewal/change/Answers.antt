@@ -1,8 +1,8 @@
 -- A key comes after those that were read, before the others; or one key less stands after them.
 use Rattle.std.proofs.Common.{◌≡◌, ◌≤◌, ◌<◌, ◌+◌, ◌-◌, ◌++◌, ◌∷◌, ◌∙◌, [], List, ap, arith, length}
-use Rattle.std.proofs.Common.{map, rules, subst, sym, take, vec_len}
+use Rattle.std.proofs.Common.{map, rules, take, vec_len}
 use Rattle.dnssec_run.specs.{declared.record.PublishedKey.PublishedKey, Published.Id}
-use Rattle.dnssec_run.specs.{Recorder.HasKept, Recorder.ids_read, declared.sets.Renewal.Renewal}
+use Rattle.dnssec_run.specs.{Recorder.HasKept, Recorder.ids_read}
 use Rattle.dnssec_run.proofs.Around.{around-with, keeps-with, keeps-without, kept-counted}
 use Rattle.dnssec_run.proofs.Around.{kept-more}
 use Rattle.dnssec_run.proofs.Positions.{puts-next}
@@ -38,10 +38,8 @@ returns-then-is_shown-clause-kept c before kept =
     let len : c.len.result ≡ vec_len set.keys = search rules in
     let fits : set.read ≤ vec_len set.keys = search rules in
     let has : HasKept before set = elim c.match-checked_sub.branch [
-      | in-Some w ↦ subst (λ (s : Renewal). HasKept before s) (sym w.self-is)
-          (kept-counted before _ _ kept)
-      | in-None w ↦ subst (λ (s : Renewal). HasKept before s) (sym w.self-is)
-          (w.drop_rest.ensures.kept before kept)
+      | in-Some w ↦ rw w.self-is (kept-counted before _ _ kept)
+      | in-None w ↦ rw w.self-is (w.drop_rest.ensures.kept before kept)
     ] in
     kept-more before set c.insert.new.self (set.read + 1) n _ has
     (keeps-with set.keys.items c.insert.new.self.items set.read n key
@@ -58,10 +56,8 @@ returns-then-back-gt0-clause-kept c before kept =
     let len : c.len.result ≡ vec_len set.keys = search rules in
     let within : set.read < vec_len set.keys = search rules in
     let has : HasKept before set = elim c.match-checked_sub.branch [
-      | in-Some w ↦ subst (λ (s : Renewal). HasKept before s) (sym w.self-is)
-          (kept-counted before _ _ kept)
-      | in-None w ↦ subst (λ (s : Renewal). HasKept before s) (sym w.self-is)
-          (w.drop_rest.ensures.kept before kept)
+      | in-Some w ↦ rw w.self-is (kept-counted before _ _ kept)
+      | in-None w ↦ rw w.self-is (w.drop_rest.ensures.kept before kept)
     ] in
     kept-more before set c.remove.new.self set.read n _ has
     (keeps-without set.keys.items c.remove.new.self.items set.read n (omega (arith, long, within))
