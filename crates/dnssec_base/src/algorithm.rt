@@ -42,7 +42,7 @@ impl SecurityAlgorithm {
     /// The Edwards curve Ed448 (RFC 8080).
     pub const ED448: SecurityAlgorithm = SecurityAlgorithm { number: 16 };
 
-    /// The six constants, in the order of their numbers, as `from_name` answers them.
+    /// The six algorithms that have a constant here, in ascending order of their IANA numbers.
     pub fn constants() -> [SecurityAlgorithm; 6]
         ensures { result ≡ 8 ∷ 10 ∷ 13 ∷ 14 ∷ 15 ∷ 16 ∷ [] }
     {
@@ -56,15 +56,16 @@ impl SecurityAlgorithm {
         ]
     }
 
-    /// The algorithm with this number.
+    /// The algorithm with this number in IANA's registry of DNSSEC algorithms. Every number is
+    /// accepted, also one that the registry leaves free.
     pub fn from_int(number: u8) -> Self
         ensures { result ≡ number }
     {
         SecurityAlgorithm { number }
     }
 
-    /// The algorithm with this name, if it is that of a constant above: `ED25519` names number 15.
-    /// The name is in upper case, and `15` is no name.
+    /// The algorithm with this name in IANA's registry: `ED25519` names number 15. `None` for every
+    /// text but the names of the six constants of this type, in upper case. So `15` is no name.
     ///
     /// ```rust
     /// let algorithm = match SecurityAlgorithm::from_name(word) {
@@ -87,7 +88,7 @@ impl SecurityAlgorithm {
         }
     }
 
-    /// The number of the algorithm.
+    /// The number of the algorithm in IANA's registry of DNSSEC algorithms.
     pub fn to_int(self) -> u8
         ensures { result ≡ self }
     {

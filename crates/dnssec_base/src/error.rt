@@ -1,4 +1,4 @@
-//! What a call refuses.
+//! Why a call is refused.
 ghost use Rattle.std.specs.Prelude.{◌≡◌, Some};
 ghost use Rattle.dnssec_base.specs.ErrorTexts.{error_text};
 ghost use Rattle.dnssec_base.specs.declared.error.Error.TheVariants.{OutOfMemory};
@@ -8,7 +8,7 @@ use std::alloc::{AllocError, AllocFailed};
 use std::fmt;
 use std::time::Duration;
 
-/// Why a call is refused. Nothing was changed then.
+/// Why a call is refused. A refused call has changed nothing.
 #[derive(Clone, Copy, Debug, PartialEq)]
 pub enum Error {
     /// A key has this reference already.
@@ -44,7 +44,8 @@ impl std::error::Error for Error {}
 impl fmt::Display for Error {
     ghost output = { λ e. Some (error_text e) };
 
-    /// Writes the reason. A `Wait` has the time that is left, as `wait for duration 1.5s`.
+    /// Writes to `f` in a few words why the call was refused. For `Wait` it says how much time is
+    /// left, as `wait for duration 1.5s`. It fails only if a write to `f` fails.
     fn fmt<W: fmt::Write>(&self, f: &mut fmt::Formatter<W>) -> fmt::Result {
         match self {
             Error::KeyExists => f.write_str("key already exists"),
@@ -72,7 +73,7 @@ impl fmt::Display for Error {
 impl From<AllocError> for Error {
     ghost from_gives = { λ _ error. error ≡ OutOfMemory };
 
-    /// So `?` hands on a request for memory that failed.
+    /// Turns a failed request for memory into `OutOfMemory`, so that `?` hands it on.
     fn from(_: AllocError) -> Self {
         Error::OutOfMemory
     }
@@ -81,7 +82,8 @@ impl From<AllocError> for Error {
 impl<T: Drop> From<AllocFailed<T>> for Error {
     ghost from_gives = { λ _ error. error ≡ OutOfMemory };
 
-    /// The same, if a value comes back that found no memory.
+    /// Turns a failed request for memory into `OutOfMemory`, so that `?` hands it on. The value
+    /// that found no memory comes in the argument, and is dropped.
     fn from(_: AllocFailed<T>) -> Self {
         Error::OutOfMemory
     }

@@ -132,7 +132,8 @@ impl Name<Vec<u8>> {
 impl fmt::Display for Name<Vec<u8>> {
     ghost output = { λ name. Some (name_text name) };
 
-    /// Writes the root as `.`, and else label after label.
+    /// Writes to `f` a text that `from_str` reads back as this name: `.` for the root, else the
+    /// labels with dots between them, and no final dot. It fails only if a write to `f` fails.
     fn fmt<W: fmt::Write>(&self, f: &mut fmt::Formatter<W>) -> fmt::Result {
         let Some((first, mut rest)) = split_label(self.as_slice()) else {
             return f.write_str(".");

@@ -14,7 +14,8 @@ pub(crate) struct DurationText(pub Duration);
 impl fmt::Display for DurationText {
     ghost output = { λ d. Some (duration_text (as_nanos d.0)) };
 
-    /// Writes whole units, then decimals up to the last that isn't zero, then the unit.
+    /// Writes the duration to `f` in its largest unit, with decimals up to the last that isn't
+    /// zero, as `1.5s`, `999ms` or `2.569µs`. It fails only if a write to `f` fails.
     fn fmt<W: fmt::Write>(&self, f: &mut fmt::Formatter<W>) -> fmt::Result {
         let nanos = self.0.as_nanos();
         let unit = TimeUnit::of(nanos);
@@ -35,7 +36,8 @@ enum TimeUnit {
 }
 
 impl TimeUnit {
-    /// The largest unit that is no longer than `nanos`, or else the nanosecond.
+    /// The unit in which a duration of so many nanoseconds prints: the largest that is no longer
+    /// than the duration, or the nanosecond for zero.
     fn of(nanos: u128) -> TimeUnit
         ensures { result ≡ unit_of nanos }
     {
@@ -59,7 +61,7 @@ impl TimeUnit {
         }
     }
 
-    /// The unit, as it prints.
+    /// The symbol of the unit, as it prints: `s`, `ms`, `µs` or `ns`.
     fn name(self) -> &'static str
         ensures { result.now ≡ (in_table self).name }
     {
@@ -72,8 +74,9 @@ impl TimeUnit {
     }
 }
 
-/// Writes a dot and `rest` nanoseconds as decimals of the unit, up to the last that isn't zero. It
-/// writes nothing if `rest` is zero.
+/// Writes to `f` what a duration has beyond its whole units: a dot and `rest` nanoseconds as
+/// decimals of the `unit`, up to the last that isn't zero. It writes nothing if `rest` is zero, and
+/// fails only if a write to `f` fails.
 fn write_decimals<W: fmt::Write>(
     f: &mut fmt::Formatter<W>,
     mut rest: u128,

@@ -48,7 +48,7 @@ impl Model for UnixTime {
 impl From<Duration> for UnixTime {
     ghost from_gives = { λ since moment. moment ≡ as_nanos since };
 
-    /// The moment so long after the start of 1970.
+    /// The moment that lies the duration `since` after the start of 1970.
     fn from(since: Duration) -> Self {
         UnixTime {
             secs: since.as_secs(),
@@ -60,7 +60,7 @@ impl From<Duration> for UnixTime {
 impl From<Timestamp> for UnixTime {
     ghost from_gives = { λ timestamp moment. moment ≡ timestamp * 1_000_000_000 };
 
-    /// The moment so many seconds after the start of 1970.
+    /// The moment that a DNSSEC timestamp names: so many whole seconds after the start of 1970.
     fn from(timestamp: Timestamp) -> Self {
         UnixTime {
             secs: u64::from(timestamp.into_int()),
@@ -72,7 +72,7 @@ impl From<Timestamp> for UnixTime {
 impl From<UnixTime> for Duration {
     ghost from_gives = { λ moment since. as_nanos since ≡ moment };
 
-    /// The time since the start of 1970.
+    /// The time from the start of 1970 to the moment, to the nanosecond.
     fn from(moment: UnixTime) -> Self {
         moment.since_epoch()
     }
@@ -85,14 +85,16 @@ impl Add<Duration> for UnixTime {
 
     ghost add_gives = { λ moment d sum. sum ≡ moment + as_nanos d };
 
-    /// The moment so much later. `fits` says whether there is one.
+    /// The moment that lies `d` after this one. There has to be one: `fits` says whether its time
+    /// since 1970 fits a `Duration`.
     fn add(self, d: Duration) -> UnixTime {
         UnixTime::from(self.since_epoch() + d)
     }
 }
 
 impl UnixTime {
-    /// Whether there is a moment `d` later: its time since 1970 has to fit a `Duration`.
+    /// Whether there is a moment `d` after this one, so that `+` may add them: its time since 1970
+    /// has to fit a `Duration`, which counts whole seconds in a `u64`.
     pub fn fits(&self, d: Duration) -> bool
         ensures { IsTrue result ↔ (self.now + as_nanos d < 2 ^ 64 * 1_000_000_000) }
     {
@@ -106,7 +108,7 @@ impl UnixTime {
         now.since_epoch().saturating_sub(self.since_epoch())
     }
 
-    /// The time since the start of 1970.
+    /// The time from the start of 1970 to this moment, to the nanosecond.
     fn since_epoch(&self) -> Duration
         ensures { as_nanos result ≡ self.now }
     {
@@ -160,43 +162,49 @@ impl Model for KeyTimestamps {
 }
 
 impl KeyTimestamps {
-    /// When the key was made.
+    /// The moment when the key was made. `None` only in default stamps, which no key has.
     pub fn creation(&self) -> Option<UnixTime>
         ensures { result ≡ self.now.creation }
     {
         self.creation
     }
 
-    /// When a roll last put the key into the DNSKEY set, or `set_present` did so first.
+    /// The moment when a roll last put the key into the DNSKEY set, or when `set_present` did so
+    /// for a key without this stamp. A `KskDoubleDsRoll` also writes it on a KSK with a DS that
+    /// stays and was in the set before. `None` if nothing has written it.
     pub fn published(&self) -> Option<UnixTime>
         ensures { result ≡ self.now.published }
     {
         self.published
     }
 
-    /// When all servers were last reported to have the key in the DNSKEY set.
+    /// The moment at which all servers were last reported to have the key in the DNSKEY set, or the
+    /// one that `set_visible` gave. `None` if neither has happened.
     pub fn visible(&self) -> Option<UnixTime>
         ensures { result ≡ self.now.visible }
     {
         self.visible
     }
 
-    /// When all servers of the parent were last reported to have the key's DS record.
+    /// The moment at which all servers of the parent were last reported to have the key's DS
+    /// record, or the one that `set_ds_visible` gave. `None` if neither has happened.
     pub fn ds_visible(&self) -> Option<UnixTime>
         ensures { result ≡ self.now.ds_visible }
     {
         self.ds_visible
     }
 
-    /// When all servers were last reported to have the key's signatures.
+    /// The moment at which all servers were last reported to have the key's signatures, or the one
+    /// that `set_rrsig_visible` gave. `None` if neither has happened.
     pub fn rrsig_visible(&self) -> Option<UnixTime>
         ensures { result ≡ self.now.rrsig_visible }
     {
         self.rrsig_visible
     }
 
-    /// When a roll last took the key out of the DNSKEY set; in a `KskDoubleDsRoll`, its DS record
-    /// out of the parent.
+    /// The moment when a roll last took the key out of the DNSKEY set, or, by a `KskDoubleDsRoll`,
+    /// its DS record out of the parent. A later roll may also write it on an old key that left
+    /// before and wasn't deleted. `None` if no roll has written it.
     pub fn withdrawn(&self) -> Option<UnixTime>
         ensures { result ≡ self.now.withdrawn }
     {
@@ -204,7 +212,8 @@ impl KeyTimestamps {
     }
 }
 
-/// The stamps of a key that was made at this moment and has passed no other stage.
+/// The stamps of a key that was made at the moment `creation` and has passed no other stage: all
+/// other stamps are `None`.
 pub fn new_stamps(creation: UnixTime) -> KeyTimestamps
     ensures { result ≡ record no_stamps { creation = Some creation } }
 {
@@ -214,7 +223,7 @@ pub fn new_stamps(creation: UnixTime) -> KeyTimestamps
     }
 }
 
-/// The stamp of this name, if it was written.
+/// The moment that `stamps` have for the event `stamp`, or `None` if this stamp wasn't written.
 pub fn stamp_named(stamps: &KeyTimestamps, stamp: Stamp) -> Option<UnixTime>
     ensures { result ≡ stamp_named stamp stamps.now }
 {
@@ -228,7 +237,8 @@ pub fn stamp_named(stamps: &KeyTimestamps, stamp: Stamp) -> Option<UnixTime>
     *moment
 }
 
-/// Writes the stamp of this name.
+/// Writes in `stamps` that the event `stamp` was at `moment`, over an earlier stamp of this event.
+/// The stamps of other events stay.
 pub fn write_stamp(stamps: &mut KeyTimestamps, stamp: Stamp, moment: UnixTime)
     ensures { stamps.new ≡ with_stamp stamp moment stamps.old }
 {

@@ -29,14 +29,14 @@ impl From<u32> for Timestamp {
 
     ghost from_gives = { λ seconds timestamp. timestamp ≡ seconds };
 
-    /// The timestamp of so many seconds since the start of 1970.
+    /// The timestamp that lies so many seconds after the start of 1970.
     fn from(seconds: u32) -> Self {
         Timestamp { seconds }
     }
 }
 
 impl Timestamp {
-    /// The seconds since the start of 1970.
+    /// The timestamp as a number: the seconds from the start of 1970.
     pub fn into_int(self) -> u32
         ensures { result ≡ self }
     {

@@ -1,5 +1,5 @@
-//! The sets that caches may hold: keys as small numbers, sets as bits, and whether two sets hold in
-//! a chain.
+//! The sets that caches may hold: keys as small numbers, sets as bits, and whether two sets fit in
+//! a chain of trust.
 
 mod held;
 mod numbers;

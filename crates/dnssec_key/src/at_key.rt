@@ -1,6 +1,7 @@
-//! What happens to one key: what the words of a roll's column say, and then the calls of a key set,
-//! by these words. The calls are functions, and no methods of `Key`, so that only our crates reach
-//! them: whoever has a key set can't change a key outside its calls.
+//! What a roll or a setter does to one key. First what each test and each move in a roll's column
+//! means, then the changes that a key set makes by them. These are functions, and no methods of
+//! `Key`, so that only our crates reach them: whoever has a key set can't change a key outside its
+//! calls.
 ghost use Rattle.std.specs.Prelude.{◌≡◌, false};
 ghost use Rattle.std.specs.Option.{option_map_or};
 ghost use Rattle.dnssec_key.specs.RollTable.{leaves_dnskey, half_of, after_end, key_by};
@@ -20,7 +21,8 @@ use crate::setting::Setting;
 use dnssec_base::{KeyTimestamps, Stamp, UnixTime, write_stamp};
 
 impl RoleTest {
-    /// Whether a role passes.
+    /// Whether a role in this state passes the test, by its flags. In the names of the tests,
+    /// `Kept` says not old, `Leaving` old but not stale, and `Silent` not signing.
     #[inline(always)]
     fn passes(self, state: KeyState) -> bool
         ensures { result ≡ test_of self state }
@@ -42,7 +44,8 @@ impl RoleTest {
         }
     }
 
-    /// Whether a key has the role, and it passes.
+    /// Whether a key passes the test in a role. `role` is the state of that role, or `None` if the
+    /// key doesn't have it: then it doesn't pass.
     #[inline(always)]
     fn is_passed_by(self, role: Option<KeyState>) -> bool
         ensures { result ≡ option_map_or (test_of self) role false }
@@ -55,7 +58,8 @@ impl RoleTest {
 }
 
 impl KeyTest {
-    /// Whether a key passes.
+    /// Whether the test selects a key of this kind, with these states of its roles: it has the role
+    /// that the test names, and this role passes. For `EitherRole` one of the two roles is enough.
     #[inline(always)]
     pub(crate) fn has(self, key: &KeyType) -> bool
         ensures { result ≡ keys_of self key.now }
@@ -74,7 +78,9 @@ impl KeyTest {
     }
 }
 
-/// Writes each stamp whose test the key passes; `key` is its kind before the event.
+/// Writes the moment `now` into `stamps` for each stamp in `writes` whose test the key passes. Its
+/// other stamps stay. `key` is the kind of the key, with the states that its roles have before the
+/// event.
 // Most waits write none, and so make no call.
 #[inline(always)]
 #[tactic(auto, using(std::proofs::lemmas::Grind::common_steps, crate::proofs::Stampings::put_last))]
@@ -94,7 +100,9 @@ fn write_stamps(
 }
 
 impl RoleMove {
-    /// It happens to this role.
+    /// Makes this move on one role of a key, whose flags are in `state`. It changes only the flags
+    /// that `RoleMove` says for the move. If the move asks for flags that the role doesn't have, as
+    /// `LeavesParentIf` asks for a test to pass, `state` stays as it is.
     fn at(self, state: &mut KeyState)
         ensures { state.exit.now ≡ move_of self state.entry.now }
     {
@@ -158,7 +166,8 @@ impl RoleMove {
     }
 }
 
-/// The key drops out of the DNSKEY set, and signs no more.
+/// Takes a role out of the DNSKEY set and lets it sign no more: clears `present` and `signer` in
+/// `state`. Its other flags stay.
 fn leaves_dnskey(state: &mut KeyState)
     ensures { state.exit.now ≡ leaves_dnskey state.entry.now }
 {
@@ -167,7 +176,8 @@ fn leaves_dnskey(state: &mut KeyState)
 }
 
 impl KeyMove {
-    /// It happens to this key.
+    /// Makes this move on the roles of `key` that it is about. Other roles stay, and so does the
+    /// whole key if it has no such role. Only `AtEachState` changes another signer's key.
     #[inline(always)]
     pub(crate) fn at(self, key: &mut KeyType)
         ensures { key.new ≡ change_of self key.old }
@@ -198,7 +208,11 @@ impl KeyMove {
     }
 }
 
-/// Applies a setter, whatever the kind of the key.
+/// Changes `key` by hand as `setting` says. `Present` and `Signer` write this flag in each role,
+/// `AtParent` only in a KSK role. `Stale` sets `old` and clears these three flags in each role. The
+/// other settings write `decoupled` or one stamp. A key that is set present is also stamped as
+/// published at that moment, unless it has this stamp. The kind of the key isn't checked:
+/// `Setting::suits` has to hold before.
 pub fn apply_setting(key: &mut Key, setting: &Setting)
     ensures { key.new ≡ set_by (setting_of setting.now) key.old }
 {
@@ -221,14 +235,17 @@ pub fn apply_setting(key: &mut Key, setting: &Setting)
     }
 }
 
-/// A start lists the key as old.
+/// Marks `key` as one that the start of a roll lists as old: each of its roles is then old, that is
+/// on its way out. Its other flags and its stamps stay. Another signer's key stays as it is.
 pub fn mark_old(key: &mut Key)
     ensures { key.new ≡ old_at_start key.old }
 {
     AtEachRole(TurnsOld).at(&mut key.keytype);
 }
 
-/// A start of the roll with this column lists the key as new.
+/// Marks `key` as one that the start of a roll at the moment `now` lists as new. `column` is that
+/// of the roll: it says which of `present`, `signer` and `at_parent` are set in the key's roles,
+/// and whether the key is stamped as published at `now`. Its other flags and stamps stay.
 pub fn mark_new(key: &mut Key, column: &Column, now: UnixTime)
     ensures { key.new
         ≡ key_by (column_of column.now).comes (column_of column.now).writes now key.old }
@@ -239,21 +256,27 @@ pub fn mark_new(key: &mut Key, column: &Column, now: UnixTime)
     }
 }
 
-/// A roll that listed the key as old is ended early.
+/// Undoes what the start of `roll` did to an old key, if the roll is ended early: clears `old` in
+/// the roles of `key` that `roll` changes. The other flags and the stamps of `key` stay. A key that
+/// was old before the start isn't to be given here.
 pub fn unmark_old(key: &mut Key, roll: RollType)
     ensures { key.new ≡ old_at_early_end roll key.old }
 {
     roll.column().returns.at(&mut key.keytype);
 }
 
-/// A roll that listed the key as new is ended early.
+/// Undoes what the start of `roll` did to a new key, if the roll is ended early: clears those of
+/// `present`, `signer` and `at_parent` that the start of such a roll sets in the key's roles. The
+/// other flags and the stamps of `key` stay.
 pub fn unmark_new(key: &mut Key, roll: RollType)
     ensures { key.new ≡ new_at_early_end roll key.old }
 {
     roll.column().goes.at(&mut key.keytype);
 }
 
-/// A phase of a roll ends.
+/// Changes `key` as the end of a phase in this half of `roll` does, at the moment `now`. A report
+/// only writes stamps. The end of a wait writes stamps and changes flags of the key's roles. What
+/// it does depends on the kind of the key and on its flags before.
 pub fn end_phase(key: &mut Key, end: PhaseEnd, roll: RollType, half: Half, now: UnixTime)
     ensures { key.new ≡ after_end end roll half now key.old }
 {
@@ -269,7 +292,8 @@ pub fn end_phase(key: &mut Key, end: PhaseEnd, roll: RollType, half: Half, now: 
     }
 }
 
-/// Whether a wait checks the key.
+/// Whether the wait in this half of `roll` checks the key, by its kind and flags. The wait is over
+/// once the reported TTL has passed since the stamp `stamp_read` of each such key.
 #[inline(always)]
 pub fn is_checked(key: &Key, roll: RollType, half: Half) -> bool
     ensures { result ≡ (half_of roll half).checks key.now.keytype }

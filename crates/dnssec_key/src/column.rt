@@ -3,7 +3,8 @@
 use crate::roll::{Action, Side, Want};
 use dnssec_base::Stamp;
 
-/// A test of one role. A role that is not old stays.
+/// A test of one role. `Kept` says that it isn't old, `Leaving` that it is old but not stale yet,
+/// and `Silent` that it doesn't sign.
 #[derive(Clone, Copy)]
 pub(crate) enum RoleTest {
     Old,
@@ -39,29 +40,48 @@ pub(crate) enum KeyTest {
 /// What happens to one role.
 #[derive(Clone, Copy)]
 pub(crate) enum RoleMove {
+    /// No flag changes.
     Stays,
+    /// Sets `old`.
     TurnsOld,
+    /// Clears `old`.
     TurnsBack,
+    /// Sets `present`.
     ComesIn,
+    /// Sets `present` and `signer`.
     ComesInSigning,
+    /// Sets `at_parent`.
     DsComesIn,
+    /// In a role that is present: clears `at_parent` if the role is old, and else sets it.
     DsFollows,
+    /// Clears `signer` in an old role, and sets it in one that is present and not old.
     SignaturesFollow,
+    /// Clears `present` and `signer` in an old role that is present. Sets both in a role that isn't
+    /// old and has `at_parent`.
     KeysChangePlaces,
+    /// Clears `present` and `signer`.
     LeavesDnskey,
+    /// Clears `at_parent`.
     LeavesParent,
+    /// Clears `present`. `signer` stays as it is.
     LeavesSilently,
+    /// Clears `present` and `signer` in a role that passes the test.
     LeavesDnskeyIf(RoleTest),
+    /// Clears `at_parent` in a role that passes the test.
     LeavesParentIf(RoleTest),
+    /// Clears `present` in a role that passes the test.
     LeavesSilentlyIf(RoleTest),
-    /// What an operator sets by hand.
+    /// An operator sets `present` by hand.
     SetPresent(bool),
+    /// An operator sets `signer` by hand.
     SetSigner(bool),
+    /// An operator sets `at_parent` by hand.
     SetAtParent(bool),
+    /// An operator sets `old` by hand. It clears `present`, `signer` and `at_parent`.
     SetStale,
 }
 
-/// To which roles of a key it happens.
+/// What happens to which roles of a key.
 #[derive(Clone, Copy)]
 pub(crate) enum KeyMove {
     NoRole,

@@ -41,7 +41,8 @@ impl Model for Key {
 impl Clone for Key {
     ghost is_clone = { λ k l. l ≡ k };
 
-    /// A copy, unless memory for the private reference runs out.
+    /// A copy of the key with all its flags and stamps, or `AllocError` if there is no memory for
+    /// its private reference.
     fn clone(&self) -> Result<Key, AllocError> {
         Ok(Key {
             privref: self.privref.clone()?,
@@ -55,7 +56,8 @@ impl Clone for Key {
 }
 
 /// A key of this kind, in its state, that was made at the moment `creation`. It has no other stamp,
-/// and isn't decoupled.
+/// and isn't decoupled. `privref` names its private part in the caller's storage, if there is one.
+/// `key_tag` is that of its DNSKEY record (RFC 4034, appendix B).
 pub fn new_key(
     privref: Option<String>,
     keytype: KeyType,
@@ -99,7 +101,8 @@ impl Key {
         }
     }
 
-    /// Whether the key is decoupled from the caller's storage of keys.
+    /// Whether the caller has marked the key as decoupled from its storage of keys. No roll reads
+    /// this mark.
     pub fn decoupled(&self) -> bool
         ensures { result ≡ self.now.decoupled }
     {
@@ -127,14 +130,17 @@ impl Key {
         self.key_tag
     }
 
-    /// When the key passed the stages of its life.
+    /// The stamps of the key: the moments when it was made, published, visible and withdrawn, and
+    /// when its DS record and its signatures were visible, as far as this has happened.
     pub fn timestamps(&self) -> &KeyTimestamps
         ensures { result.now ≡ self.now.timestamps }
     {
         &self.timestamps
     }
 
-    /// Whether each state of the key is fresh.
+    /// Whether the state of the key lets a roll take it in as a new one: each of its roles is
+    /// available, isn't old, doesn't sign, isn't in the DNSKEY set and has no DS at the parent. The
+    /// kind isn't asked, so another signer's key may be fresh too.
     pub fn is_fresh(&self) -> bool
         ensures { result ≡ all_states is_fresh self.now.keytype }
     {
@@ -144,7 +150,8 @@ impl Key {
         }
     }
 
-    /// Whether each state of the key is stale.
+    /// Whether the key has left in each of its roles, and so may be deleted: the role is old,
+    /// doesn't sign, isn't in the DNSKEY set and has no DS at the parent.
     pub fn is_stale(&self) -> bool
         ensures { result ≡ all_states is_stale self.now.keytype }
     {
@@ -154,7 +161,7 @@ impl Key {
         }
     }
 
-    /// Whether no state of the key is old.
+    /// Whether the key stays: none of its roles is old, that is on its way out or already gone.
     pub fn is_kept(&self) -> bool
         ensures { result ≡ all_states is_kept self.now.keytype }
     {

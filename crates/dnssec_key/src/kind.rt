@@ -68,7 +68,8 @@ pub(crate) const FRESH: KeyState = KeyState {
 };
 
 impl KeyState {
-    /// The state of a role that no roll has taken in yet.
+    /// The state of a role that no roll has taken in yet. `available` says whether a roll may. No
+    /// other flag is set.
     pub fn new(available: Available) -> KeyState
         ensures { result ≡ new_state (is_available available) }
     {
@@ -78,7 +79,7 @@ impl KeyState {
         }
     }
 
-    /// Whether the role is on its way out.
+    /// Whether the role is old: on its way out, or already gone.
     pub fn old(&self) -> bool
         ensures { result ≡ self.now.old }
     {
@@ -115,14 +116,16 @@ impl KeyState {
     }
 }
 
-/// Whether the role is there, in the DNSKEY set, and not old.
+/// Whether a key has this role, and in it is in the DNSKEY set and not old. `role` is the state of
+/// the role, or `None` if the key doesn't have it.
 pub fn is_kept_present(role: Option<KeyState>) -> bool
     ensures { result ≡ option_map_or kept_present role false }
 {
     role.is_some_and(|state| !state.old && state.present)
 }
 
-/// Whether the role is there, has to have a DS at the parent, and is not old.
+/// Whether a key has this role, and in it has to have a DS at the parent and is not old. `role` is
+/// the state of the role, or `None` if the key doesn't have it.
 pub fn is_kept_at_parent(role: Option<KeyState>) -> bool
     ensures { result ≡ option_map_or kept_at_parent role false }
 {
@@ -132,8 +135,8 @@ pub fn is_kept_at_parent(role: Option<KeyState>) -> bool
 impl fmt::Display for KeyState {
     ghost output = { λ s. Some (state_text s) };
 
-    /// Writes the flags that are set, and the part that such a key plays in a roll, as
-    /// `Signer, Present (Active)`.
+    /// Writes to `f` the flags that are set, except `available`, and the part that such a key plays
+    /// in a roll, as `Signer, Present (Active)`. It fails only if a write to `f` fails.
     fn fmt<W: fmt::Write>(&self, f: &mut fmt::Formatter<W>) -> fmt::Result {
         let words = [
             (self.old, "Old"),
@@ -153,7 +156,11 @@ impl fmt::Display for KeyState {
 }
 
 impl KeyState {
-    /// What stands at the end of the text: the part that a key in this state plays in a roll.
+    /// The end of the state's text: the part that such a role plays in a roll. A role that isn't
+    /// old is `(Future)`, ` (Incoming)` once it is present, and ` (Active)` if it also signs. An
+    /// old one is ` (Leaving)` while it is present and signs, ` (Retired)` if it is only present,
+    /// and then ` (Stale)`, also if it still has a DS. The text is empty for a role that signs but
+    /// isn't present.
     fn ending(&self) -> &'static str
         ensures { result.now ≡ ending self.now.old self.now.signer self.now.present }
     {
@@ -182,9 +189,9 @@ pub enum KeyType {
     Include(KeyState),
 }
 
-/// The roles that the rows speak of.
+/// The roles of a key, as the table of rolls names them.
 impl KeyType {
-    /// The role of a KSK, but not of a CSK.
+    /// The state of a KSK, or `None` for a key of any other kind, also for a CSK.
     pub fn ksk(&self) -> Option<KeyState>
         ensures { result ≡ ksk_state self.now }
     {
@@ -194,7 +201,7 @@ impl KeyType {
         }
     }
 
-    /// The role of a ZSK, but not of a CSK.
+    /// The state of a ZSK, or `None` for a key of any other kind, also for a CSK.
     pub fn zsk(&self) -> Option<KeyState>
         ensures { result ≡ zsk_state self.now }
     {
@@ -204,7 +211,7 @@ impl KeyType {
         }
     }
 
-    /// The KSK role of a KSK or a CSK.
+    /// The state of the KSK role of a KSK or a CSK, or `None` for a key without this role.
     pub fn ksk_role(&self) -> Option<KeyState>
         ensures { result ≡ ksk_role_state self.now }
     {
@@ -214,7 +221,7 @@ impl KeyType {
         }
     }
 
-    /// The ZSK role of a ZSK or a CSK.
+    /// The state of the ZSK role of a ZSK or a CSK, or `None` for a key without this role.
     pub fn zsk_role(&self) -> Option<KeyState>
         ensures { result ≡ zsk_role_state self.now }
     {
@@ -224,8 +231,8 @@ impl KeyType {
         }
     }
 
-    /// The first role of a key of this signer, by which it is in the DNSKEY set or not: of a CSK
-    /// its KSK role.
+    /// The state that says whether a key of this signer is in the DNSKEY set: its only one, or of a
+    /// CSK that of its KSK role. `None` for another signer's key.
     pub(crate) fn first_role(&self) -> Option<KeyState>
         ensures { result ≡ key_state self.now }
     {
@@ -235,7 +242,8 @@ impl KeyType {
         }
     }
 
-    /// The same, only of a key that can sign the zone: a ZSK or a CSK.
+    /// The state that says whether a key that can sign the zone is in the DNSKEY set: of a ZSK its
+    /// only one, of a CSK that of its KSK role. `None` for a KSK and for another signer's key.
     pub(crate) fn first_role_of_zone_key(&self) -> Option<KeyState>
         ensures { result ≡ zone_key_state self.now }
     {

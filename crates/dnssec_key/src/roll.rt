@@ -32,7 +32,8 @@ pub enum Side {
     BothSides,
 }
 
-/// What a start has to leave on a side that the roll changes: a key that serves.
+/// What the start of a roll has to leave on each side that the roll changes: such a key that isn't
+/// old. A new key of the roll will do.
 #[derive(Clone, Copy)]
 pub enum Want {
     /// A KSK in the DNSKEY set.
@@ -112,14 +113,16 @@ pub enum Action {
 }
 
 impl Half {
-    /// The half that a report is of: `second` says whether it is the second one of its roll.
+    /// The half of a roll that a report belongs to: the second one if `second` is `true`, else the
+    /// first.
     pub fn of_report(second: bool) -> Self
         ensures { is_second result ≡ second }
     {
         if second { Half::Second } else { Half::First }
     }
 
-    /// The phase in which old data leaves the caches, which hold it for at most `ttl` seconds.
+    /// The phase of a roll after the report of this half: old data leaves the caches, which hold it
+    /// for at most `ttl` seconds.
     pub fn cache_expire(self, ttl: u32) -> RollState
         ensures { result ≡ cache_expire self ttl }
     {
@@ -129,7 +132,8 @@ impl Half {
         }
     }
 
-    /// The phase after the wait.
+    /// The phase of a roll once the wait of this half is over: after the first half `Propagation2`,
+    /// after the second `Done`.
     pub fn after_expiry(self) -> RollState
         ensures { result ≡ after_expiry self }
     {

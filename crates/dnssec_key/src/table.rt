@@ -274,7 +274,8 @@ static ALGORITHM_ROLL: Column = Column {
 };
 
 impl RollType {
-    /// The column of a roll.
+    /// What the roll does to keys, and which actions are due in it: its column in the table of
+    /// rolls.
     pub fn column(self) -> &'static Column
         ensures means { column_of result.now ≡ column self }
         ensures name { result.now.name.now ≡ roll_name self }
@@ -295,7 +296,8 @@ impl RollType {
         }
     }
 
-    /// A half of it.
+    /// What one half of the roll does: the stamps that its report writes, the keys and the stamp
+    /// that its wait reads, and what the end of the wait changes.
     pub(crate) fn half(self, half: Half) -> &'static HalfRoll
         ensures means { half_roll_of result.now ≡ half_of self half }
         ensures kept { result.now.moves_kept ≡ wait_moves_kept self half }
@@ -306,7 +308,8 @@ impl RollType {
         }
     }
 
-    /// The actions due in a phase.
+    /// The actions that the roll asks of the operator in `phase`: none while old data leaves the
+    /// caches.
     pub fn actions_in(self, phase: RollState) -> &'static [Action]
         ensures { result.now ≡ actions_of self phase }
     {
@@ -318,7 +321,8 @@ impl RollType {
         }
     }
 
-    /// The actions due after the roll is ended early.
+    /// The actions that the operator has to take once the roll is ended early, before its first
+    /// report.
     pub fn asks_at_early_end(self) -> &'static [Action]
         ensures { result.now ≡ (column self).asks_early }
     {
@@ -326,28 +330,29 @@ impl RollType {
     }
 }
 
-/// The stamp that a wait reads.
+/// The stamp of a key from which the wait in this half of `roll` measures the TTL.
 pub fn stamp_read(roll: RollType, half: Half) -> Stamp
     ensures { result ≡ (half_of roll half).reads }
 {
     roll.half(half).reads
 }
 
-/// Whether a wait may change which keys that stay are in the DNSKEY set or have a DS.
+/// Whether the end of the wait in this half of `roll` may change which roles that aren't old are in
+/// the DNSKEY set or have a DS. If not, a number of such roles from before that end is still right.
 pub fn wait_moves_kept(roll: RollType, half: Half) -> bool
     ensures { result ≡ wait_moves_kept roll half }
 {
     roll.half(half).moves_kept
 }
 
-/// Which keys a roll changes.
+/// Which keys a roll changes: only KSKs, only ZSKs, or KSKs, ZSKs and CSKs.
 pub fn side_of(roll: RollType) -> Side
     ensures { result ≡ side_of roll }
 {
     roll.column().side
 }
 
-/// The name of a roll in a script.
+/// The name of a roll in scripts and other texts, such as `ksk-roll`. `from_str` reads it back.
 pub fn roll_name(roll: RollType) -> &'static str
     ensures { result.now ≡ roll_name roll }
 {

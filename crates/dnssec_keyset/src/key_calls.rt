@@ -44,11 +44,19 @@ impl KeySet {
         self.add(pubref, key)
     }
 
-    /// Adds a ZSK, as `add_key_ksk` adds a KSK.
+    /// Adds a ZSK, which may come in by a roll if it is available.
+    ///
+    /// `pubref` names the key from now on, and `privref` its private part in the caller's storage.
+    /// `algorithm` and `key_tag` are those of its DNSKEY record. `creation_ts` is the moment when
+    /// it was made; no other stamp is set.
     ///
     /// # Errors
     ///
-    /// Those of `add_key_ksk`, in that order. Nothing is then changed.
+    /// The first that applies, in this order. The strings are then dropped, and nothing is changed.
+    ///
+    /// - `DuplicateKeyTag` if a key has the tag.
+    /// - `KeyExists` if a key has the reference.
+    /// - `OutOfMemory` if memory runs out.
     pub fn add_key_zsk(
         &mut self,
         pubref: String,
@@ -68,11 +76,19 @@ impl KeySet {
         self.add(pubref, key)
     }
 
-    /// Adds a CSK, as `add_key_ksk` adds a KSK. Both its roles are new.
+    /// Adds a CSK, which may come in by a roll, in both its roles, if it is available.
+    ///
+    /// `pubref` names the key from now on, and `privref` its private part in the caller's storage.
+    /// `algorithm` and `key_tag` are those of its DNSKEY record. `creation_ts` is the moment when
+    /// it was made; no other stamp is set.
     ///
     /// # Errors
     ///
-    /// Those of `add_key_ksk`, in that order. Nothing is then changed.
+    /// The first that applies, in this order. The strings are then dropped, and nothing is changed.
+    ///
+    /// - `DuplicateKeyTag` if a key has the tag.
+    /// - `KeyExists` if a key has the reference.
+    /// - `OutOfMemory` if memory runs out.
     pub fn add_key_csk(
         &mut self,
         pubref: String,
@@ -99,12 +115,19 @@ impl KeySet {
         self.add(pubref, key)
     }
 
-    /// Adds the key of another signer, which may be published beside those of the set. It has no
-    /// private part. `available` is kept, but no roll takes such a key.
+    /// Adds the key of another signer. Only `set_present` puts it into the DNSKEY set.
+    ///
+    /// `pubref` names the key from now on; it has no private part here. `algorithm` and `key_tag`
+    /// are those of its DNSKEY record. `creation_ts` is the moment when it was made; no other stamp
+    /// is set. `available` is kept, but no roll takes such a key.
     ///
     /// # Errors
     ///
-    /// Those of `add_key_ksk`, in that order. Nothing is then changed.
+    /// The first that applies, in this order. The strings are then dropped, and nothing is changed.
+    ///
+    /// - `DuplicateKeyTag` if a key has the tag.
+    /// - `KeyExists` if a key has the reference.
+    /// - `OutOfMemory` if memory runs out.
     pub fn add_public_key(
         &mut self,
         pubref: String,
@@ -128,7 +151,8 @@ impl KeySet {
         self.add(pubref, key)
     }
 
-    /// Sets whether a key is decoupled from the caller's storage of keys. No memory is taken.
+    /// Sets whether a key is decoupled from the caller's storage of keys. Nothing else of the key
+    /// changes, and no memory is taken.
     ///
     /// # Errors
     ///
@@ -140,8 +164,9 @@ impl KeySet {
         self.set(pubref, &Setting::Decoupled(value))
     }
 
-    /// Puts a key into the DNSKEY set by hand, or takes it out, in each of its roles. A key that is
-    /// put in for the first time is stamped as published at `now`; no other stamp changes. No
+    /// Puts a key into the DNSKEY set by hand if `value` is true, and else takes it out, in each of
+    /// its roles. A key that is put in and was never published is stamped as published at `now`; no
+    /// other stamp changes. An early end of a roll in progress then leaves this key as it is. No
     /// memory is taken.
     ///
     /// # Errors
@@ -155,7 +180,8 @@ impl KeySet {
         self.set(pubref, &Setting::Present(value, *now))
     }
 
-    /// Sets by hand whether a key signs, in each of its roles. No memory is taken.
+    /// Sets by hand whether a key signs, in each of its roles. No other flag and no stamp changes.
+    /// An early end of a roll in progress then leaves this key as it is. No memory is taken.
     ///
     /// # Errors
     ///
@@ -168,13 +194,14 @@ impl KeySet {
         self.set(pubref, &Setting::Signer(value))
     }
 
-    /// Sets by hand whether the parent has to have a DS record for a KSK or a CSK. No memory is
-    /// taken.
+    /// Sets by hand whether the parent has to have a DS record for a KSK or a CSK. No other flag
+    /// and no stamp changes. An early end of a roll in progress then leaves this key as it is. No
+    /// memory is taken.
     ///
     /// # Errors
     ///
-    /// `KeyNotFound` if no key has the reference, `WrongKeyType` for a key of another kind. Nothing
-    /// is then changed.
+    /// `KeyNotFound` if no key has the reference, `WrongKeyType` for a ZSK or a key of another
+    /// signer. Nothing is then changed.
     pub fn set_at_parent(&mut self, pubref: &str, value: bool) -> Result<(), Error>
         // Causes: `setting_refusal`.
         ensures { Step self.old (Set pubref.now (AtParent value)) (reply_done result) self.new }
@@ -183,7 +210,8 @@ impl KeySet {
     }
 
     /// Makes a key stale by hand. In each of its roles it is then old, and neither signs, nor is in
-    /// the DNSKEY set, nor has a DS at the parent. No memory is taken.
+    /// the DNSKEY set, nor has a DS at the parent. Its stamps stay. An early end of a roll in
+    /// progress then leaves this key as it is. No memory is taken.
     ///
     /// # Errors
     ///
@@ -195,7 +223,9 @@ impl KeySet {
         self.set(pubref, &Setting::Stale)
     }
 
-    /// Stamps the key as seen in the DNSKEY set by all servers from `time` on. No memory is taken.
+    /// Sets by hand the stamp that says since when all servers of the zone have the key in its
+    /// DNSKEY set: from `time` on. It replaces an earlier one. Nothing else of the key changes, and
+    /// no memory is taken.
     ///
     /// # Errors
     ///
@@ -207,8 +237,9 @@ impl KeySet {
         self.set(pubref, &Setting::VisibleAt(time))
     }
 
-    /// Stamps the key's DS record as seen by all servers of the parent from `time` on. No memory is
-    /// taken.
+    /// Sets by hand the stamp that says since when all servers of the parent have the key's DS
+    /// record: from `time` on. It replaces an earlier one. Nothing else of the key changes, and no
+    /// memory is taken.
     ///
     /// # Errors
     ///
@@ -220,7 +251,9 @@ impl KeySet {
         self.set(pubref, &Setting::DsVisibleAt(time))
     }
 
-    /// Stamps the key's signatures as seen by all servers from `time` on. No memory is taken.
+    /// Sets by hand the stamp that says since when all servers of the zone have the signatures by
+    /// the key: from `time` on. It replaces an earlier one. Nothing else of the key changes, and no
+    /// memory is taken.
     ///
     /// # Errors
     ///
@@ -233,8 +266,8 @@ impl KeySet {
         self.set(pubref, &Setting::RrsigVisibleAt(time))
     }
 
-    /// Deletes a key that is stale in each of its roles, also while rolls are in progress. No
-    /// memory is taken.
+    /// Deletes a key that is stale in each of its roles: it is old, and neither signs, nor is in
+    /// the DNSKEY set, nor has a DS at the parent. Rolls may be in progress. No memory is taken.
     ///
     /// # Errors
     ///
@@ -249,7 +282,11 @@ impl KeySet {
         Ok(())
     }
 
-    /// Adds a key.
+    /// Adds `key` under the reference `pubref`, for all calls that add one.
+    ///
+    /// The first refusal that applies is answered: `DuplicateKeyTag` if a key has the tag,
+    /// `KeyExists` if a key has the reference, `OutOfMemory` if memory runs out. Nothing is then
+    /// changed.
     #[inline(always)]
     fn add(&mut self, pubref: String, key: Key) -> Result<(), Error>
         ensures { Step self.old (AddKey (string_bytes pubref) key) (reply_done result) self.new }
@@ -257,7 +294,12 @@ impl KeySet {
         self.keys.add(self.alloc, pubref, key)
     }
 
-    /// Changes a key by hand. An early end leaves a key alone whose flag was set by hand.
+    /// Changes the key with the reference `pubref` as `setting` says, for all setters. If that sets
+    /// a flag, a later early end of a roll leaves this key as it is. No memory is taken.
+    ///
+    /// It is refused with `KeyNotFound` if no key has the reference. `WrongKeyType` says that such
+    /// a key can't have the flag: another signer's key doesn't sign, and only a KSK or a CSK has a
+    /// DS. Nothing is then changed.
     fn set(&mut self, pubref: &str, setting: &Setting) -> Result<(), Error>
         // Causes: `setting_refusal`.
         ensures { Step self.old (Set pubref.now (setting_of setting.now))

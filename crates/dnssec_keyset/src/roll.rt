@@ -14,8 +14,11 @@ impl KeySet {
     /// Reports that all servers have what the start changed, at the moment `now`.
     ///
     /// The start's actions name the kinds of sets to report. `ttl` is the highest TTL, in seconds,
-    /// that a cache may still have for an older set of such a kind. No new action is due, so the
-    /// answer is empty, and no memory is taken.
+    /// that a cache may still have for an older set of such a kind. Keys that aren't old, of the
+    /// kinds that the roll changes, get the stamp `now` for what was reported: `visible` in the
+    /// DNSKEY set, `ds_visible` in the DS set, `rrsig_visible` for signatures. A spare key, in no
+    /// set and not signing, gets none. The roll then waits for the caches. No new action is due, so
+    /// the answer is empty, and no memory is taken.
     ///
     /// # Errors
     ///
@@ -38,15 +41,18 @@ impl KeySet {
         self.report(rolltype, Half::First, ttl, now)
     }
 
-    /// Goes on to the second half of a roll, if old data has left the caches by the moment `now`.
+    /// Ends the first wait of a roll, if old data has left the caches by the moment `now`.
     ///
-    /// Answers the actions that are due now.
+    /// Answers the actions that are due now. It changes the flags of keys that these actions
+    /// publish, and the roll waits for its second report. `KskDoubleDsRoll` stamps each KSK that
+    /// has a DS and isn't old as published at `now`, and `ZskDoubleSignatureRoll` each old ZSK as
+    /// withdrawn. Other rolls write no stamp here.
     ///
     /// # Errors
     ///
     /// The first that applies, in this order. Nothing is then changed.
     ///
-    /// - `WrongStateForRollOperation` if the roll isn't waiting for the caches.
+    /// - `WrongStateForRollOperation` if the roll isn't in its first wait.
     /// - `WrongKeyState` if a key that the wait checks lacks the stamp that the wait reads.
     /// - `Wait` with the longest time that is left for such a key, if there is some.
     /// - `OutOfMemory` if there is no memory for the answer.
@@ -69,12 +75,20 @@ impl KeySet {
         self.go_on(rolltype, Half::First, now)
     }
 
-    /// Reports that all servers have what the end of the first wait changed, at the moment `now`,
-    /// as `propagation1_complete` does for the start.
+    /// Reports that all servers have what the end of the first wait changed, at the moment `now`.
+    ///
+    /// The actions of `cache_expired1` name the kinds of sets to report. `ttl` is the highest TTL,
+    /// in seconds, that a cache may still have for an older set of such a kind. Keys that aren't
+    /// old, of the kinds that the roll changes, get the stamp `now` for what was reported:
+    /// `visible` in the DNSKEY set, `ds_visible` in the DS set, `rrsig_visible` for signatures. A
+    /// spare key, in no set and not signing, gets none, and a `ZskDoubleSignatureRoll` writes no
+    /// stamp here. The roll then waits for the caches again. No new action is due, so the answer is
+    /// empty, and no memory is taken.
     ///
     /// # Errors
     ///
-    /// That of `propagation1_complete`. Nothing is then changed.
+    /// `WrongStateForRollOperation` if the roll isn't waiting for this report. Nothing is then
+    /// changed.
     pub fn propagation2_complete(
         &mut self,
         rolltype: RollType,
@@ -87,13 +101,21 @@ impl KeySet {
         self.report(rolltype, Half::Second, ttl, now)
     }
 
-    /// Goes on to the last phase of a roll, if old data has left the caches by the moment `now`, as
-    /// `cache_expired1` does to the second half. For `ZskDoubleSignatureRoll` no action is due, and
-    /// no memory is taken.
+    /// Ends the second wait of a roll, if old data has left the caches by the moment `now`.
+    ///
+    /// Answers the last actions of the roll, which are due now. Old keys leave the sets that these
+    /// actions publish, and are stamped as withdrawn at `now`. After the actions only `roll_done`
+    /// is left. For `ZskDoubleSignatureRoll` no action is due, no key changes, and no memory is
+    /// taken.
     ///
     /// # Errors
     ///
-    /// Those of `cache_expired1`, in that order. Nothing is then changed.
+    /// The first that applies, in this order. Nothing is then changed.
+    ///
+    /// - `WrongStateForRollOperation` if the roll isn't in its second wait.
+    /// - `WrongKeyState` if a key that the wait checks lacks the stamp that the wait reads.
+    /// - `Wait` with the longest time that is left for such a key, if there is some.
+    /// - `OutOfMemory` if there is no memory for the answer.
     pub fn cache_expired2(
         &mut self,
         rolltype: RollType,
@@ -105,11 +127,13 @@ impl KeySet {
         self.go_on(rolltype, Half::Second, now)
     }
 
-    /// Ends a roll after its last actions are done. The answer is empty, and no memory is taken.
+    /// Ends a roll after its last actions are done. The roll is no longer in progress, and no key
+    /// changes. The answer is empty, and no memory is taken.
     ///
     /// # Errors
     ///
-    /// `WrongStateForRollOperation` if the roll isn't in its last phase. Nothing is then changed.
+    /// `WrongStateForRollOperation` if the roll isn't in its last phase, which `cache_expired2`
+    /// begins. Nothing is then changed.
     ///
     /// ```rust
     /// set.roll_done(RollType::ZskRoll)?;
@@ -126,10 +150,10 @@ impl KeySet {
 
     /// Ends a roll early, before its first report.
     ///
-    /// The roll is no longer in progress. Its old keys are no longer old. The flags that the start
-    /// set on its new keys are cleared, so each may come in by another roll; stamps stay. A key
-    /// that was deleted, or got a flag by hand since the start, is left as it is. Answers the
-    /// actions that are due now.
+    /// The roll is no longer in progress. An old key that wasn't old before the start is no longer
+    /// old. The flags that the start set on its new keys are cleared, so each may come in by
+    /// another roll. Stamps stay. A key that was deleted, or got a flag by hand since the start, is
+    /// left as it is. Answers the actions that are due now.
     ///
     /// # Errors
     ///
@@ -176,7 +200,17 @@ impl KeySet {
         }
     }
 
-    /// A report of the first or the second half.
+    /// Takes the report that ends the propagation phase of a half of the roll, for both public
+    /// calls. The roll then waits for the caches, which hold older sets for at most `ttl` seconds.
+    /// The answer is empty.
+    ///
+    /// Keys that aren't old, of the kinds that the roll changes, get the stamp `now` for what was
+    /// reported: `visible` in the DNSKEY set, `ds_visible` in the DS set, `rrsig_visible` for
+    /// signatures. A spare key, in no set and not signing, gets none. The second report of a
+    /// `ZskDoubleSignatureRoll` writes no stamp.
+    ///
+    /// It is refused with `WrongStateForRollOperation` if the roll isn't waiting for this report.
+    /// Nothing is then changed.
     fn report(
         &mut self,
         rolltype: RollType,
@@ -195,7 +229,14 @@ impl KeySet {
         Ok(Vec::new(self.alloc))
     }
 
-    /// The end of a wait of the first or the second half.
+    /// Ends the wait of a half of the roll at the moment `now`, for both public calls. Answers the
+    /// actions that are due now. It changes the flags of keys that these actions publish, with the
+    /// stamps that go with them, and the roll moves to its next phase.
+    ///
+    /// The first refusal that applies is answered: `WrongStateForRollOperation` if the roll isn't
+    /// in this wait, `WrongKeyState` if a key that the wait checks lacks the stamp that it reads,
+    /// `Wait` with the time that is left, but at most the TTL, if it is early, `OutOfMemory` if
+    /// there is no memory for the answer. Nothing is then changed.
     fn go_on(
         &mut self,
         rolltype: RollType,
@@ -212,7 +253,8 @@ impl KeySet {
     }
 }
 
-/// A list of actions that may be empty: an empty list takes no memory.
+/// A copy of these actions, to answer a caller with. Its memory comes from `alloc`, and the only
+/// error is `OutOfMemory`. An empty list takes no memory.
 fn list(alloc: Global, actions: &[Action]) -> Result<Vec<Action>, Error>
     ensures same { IfOk result (λ made. made.items ≡ actions.now) }
     ensures none { actions.now ≡ [] → IsOk result }

@@ -38,7 +38,8 @@ pub struct KeySet {
 }
 
 impl Drop for KeySet {
-    /// Written by hand, so that a caller drops a key set by one call.
+    /// Frees the memory of the name, the keys and the rolls. It is written by hand, so that a
+    /// caller drops a key set by one call.
     fn drop(self) {
         let KeySet {
             name: _,
@@ -86,7 +87,7 @@ impl KeySet {
         }
     }
 
-    /// A copy: a key set with the same name, keys and rolls.
+    /// A copy: a key set with the same name, keys and rolls, which can also end these rolls early.
     ///
     /// # Errors
     ///
@@ -119,7 +120,7 @@ impl KeySet {
         self.keys.as_map()
     }
 
-    /// The rolls in progress, each in its phase.
+    /// The rolls in progress, each with the phase that it is in, in no particular order.
     pub fn rollstates(&self) -> &HashMap<RollType, RollState>
         ensures shown { rolls_in_map result.now ≡ self.now.rolls }
         ensures at { (roll : AnyRoll) → hash.get_by (⟦<RollType as PartialEq>⟧.eq roll) result.now
@@ -130,8 +131,10 @@ impl KeySet {
 
     /// Starts a roll from the keys of `old` to those of `new`, at the moment `now`.
     ///
-    /// Both lists are of public references. Answers the actions that are due now. An old key may
-    /// have left already, or not have come in yet, and may be listed twice.
+    /// Both lists are of public references. Answers the actions that are due now. It marks the old
+    /// keys as old, and gives the new keys the flags that these actions publish. A new key that
+    /// comes into the DNSKEY set is stamped as published at `now`. An old key may have left
+    /// already, or not have come in yet, and may be listed twice.
     ///
     /// # Errors
     ///
@@ -143,8 +146,8 @@ impl KeySet {
     /// - `KeyNotFound`, or `WrongKeyType` for a key that the roll doesn't change: for each old key
     ///   in turn, then for each new one. `WrongKeyState` for a new key that isn't available, was
     ///   used before, is listed as old too, or is listed twice.
-    /// - `AlgorithmSetsMismatch` if old and new keys differ in their algorithms. Only an algorithm
-    ///   roll allows that.
+    /// - `AlgorithmSetsMismatch` if old and new keys differ in their algorithms, also if only one
+    ///   list is empty. Only an algorithm roll allows that.
     /// - `NoSuitableKeyPresent` if the roll would leave no KSK that is present and not old. A roll
     ///   of ZSKs asks this of ZSKs, `CskRoll` and `AlgorithmRoll` of both roles. `KskDoubleDsRoll`
     ///   asks for a DS at the parent in place of present.
@@ -176,7 +179,11 @@ impl KeySet {
         Ok(actions)
     }
 
-    /// Refuses a start for the first cause that applies, in the order of `start_roll`.
+    /// Checks whether the roll may start from the keys of `old` to those of `new`, which are lists
+    /// of public references. Nothing is changed, and no memory is taken. Answers the first cause
+    /// against it: `WrongStateForRollOperation` or `ConflictingRollInProgress` by the rolls in
+    /// progress, `KeyNotFound`, `WrongKeyType` or `WrongKeyState` by a listed key,
+    /// `AlgorithmSetsMismatch`, then `NoSuitableKeyPresent`.
     fn check_start(&self, rolltype: RollType, old: &[&str], new: &[&str]) -> Result<(), Error>
         ensures { AnswersExactly (start_refusal rolltype self.now (texts old.now) (texts new.now))
             result }
@@ -192,7 +199,7 @@ impl KeySet {
     }
 }
 
-/// A copy of a name.
+/// A copy of a zone's name. The only error is `OutOfMemory`, if there is no memory for it.
 fn clone_name(name: &Name<Vec<u8>>) -> Result<Name<Vec<u8>>, Error>
     ensures same { IfOk result (λ made. made ≡ name.now) }
     ensures err { IsOkUnless result OutOfMemory }

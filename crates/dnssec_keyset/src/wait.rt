@@ -18,8 +18,8 @@ pub enum WaitEnd {
     PastTime,
 }
 
-/// What is left at `now` of a wait that is over at `end`, but at most the TTL. Both moments are in
-/// nanoseconds since 1970.
+/// How long a wait that is over at `end` still lasts at `now`, but at most `ttl` seconds. It is
+/// zero if the wait is over. Both moments are in nanoseconds since 1970.
 fn left_until(end: u128, now: u128, ttl: u32) -> Duration
     ensures { as_nanos result ≡ min (ttl * 1_000_000_000) (end - now) }
 {
@@ -27,7 +27,8 @@ fn left_until(end: u128, now: u128, ttl: u32) -> Duration
     Duration::from_nanos(end.saturating_sub(now).min(u128::from(ttl)) as u64)
 }
 
-/// The moment of a nanosecond since 1970, if a `UnixTime` can have it.
+/// The moment that is `nanos` nanoseconds after the start of 1970, or `None` if it lies past the
+/// greatest moment that a `UnixTime` can have.
 fn moment_of(nanos: u128) -> Option<UnixTime>
     ensures same { IfSome result (λ moment. moment ≡ nanos) }
     ensures past { IfNone result (2 ^ 64 * 1_000_000_000 ≤ nanos) }
@@ -38,8 +39,14 @@ fn moment_of(nanos: u128) -> Option<UnixTime>
 }
 
 impl KeySet {
-    /// Whether a wait is over. It is refused in another phase, then for a missing stamp, then if it
-    /// is early. What it finds out is kept, so that the next call of this wait needs no walk.
+    /// Checks whether the wait of a half of the roll is over at the moment `now`. The key set stays
+    /// as it is. Only the end of the wait is remembered, so that the next call needs no walk over
+    /// the keys.
+    ///
+    /// The first refusal that applies is answered: `WrongStateForRollOperation` if the roll isn't
+    /// in this wait, `WrongKeyState` if a key that the wait checks lacks the stamp that it reads,
+    /// `Wait` with the time that is left, but at most the TTL, if it is early. It is never early if
+    /// the TTL is 0 or the wait checks no key.
     pub(crate) fn check_wait(
         &mut self,
         rolltype: RollType,
@@ -64,7 +71,8 @@ impl KeySet {
     }
 
     /// The nanosecond since 1970 from which the wait of a roll is over, or `None` if the roll isn't
-    /// in a phase that waits or a stamp is missing.
+    /// in a phase that waits, or if a key that the wait checks lacks the stamp that it reads.
+    /// Otherwise it is 0 if the TTL is 0 or the wait checks no key.
     fn over_in_phase(&self, rolltype: RollType) -> Option<u128>
         ensures end { IfSome result (EndsAt rolltype self.now) }
         ensures none { IfNone result (HasNoWait rolltype self.now) }
@@ -81,10 +89,11 @@ impl KeySet {
 
     /// When the wait of a roll is over, so that a tool can sleep until then.
     ///
-    /// `None` if the roll isn't in a phase that waits, or if a key that the wait checks lacks its
-    /// stamp. A wait before this moment is refused with the time that is left, at most the TTL that
-    /// was reported. At this moment and later it is accepted, unless memory runs out (RFC 7583,
-    /// section 3). No memory is taken.
+    /// `None` if the roll isn't in a phase that waits, or if a key that the wait checks lacks the
+    /// stamp that it reads. Before this moment, `cache_expired1` or `cache_expired2` (by the phase)
+    /// is refused with the time that is left, at most the TTL that was reported. At this moment and
+    /// later it is accepted, unless memory runs out (RFC 7583, section 3). It is the start of 1970
+    /// if the TTL is 0 or the wait checks no key. No memory is taken.
     ///
     /// ```rust
     /// if let Some(WaitEnd::At(end)) = &set.wait_end(RollType::ZskRoll) {

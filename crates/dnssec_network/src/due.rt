@@ -14,7 +14,7 @@ use dnssec_run::{LastStep, Moments, SetKind, Steps};
 #[derive(Clone, Copy, Debug)]
 pub struct DueReport {
     pub roll: RollType,
-    /// The half of the roll that it is of.
+    /// Which of the roll's two reports it is.
     pub half: Half,
     /// The TTL, in seconds, with which it is due; or why it isn't due yet.
     pub ttl: Result<u32, NotYet>,
@@ -30,8 +30,13 @@ pub enum NotYet {
 }
 
 impl Notes {
-    /// The report that a roll waits for, as it would be made at `now`; none if it waits for none.
-    /// `steps` are the last steps of the record of this key set, and `moments` those of its calls.
+    /// Says which report `roll` waits for, and the TTL with which it is true if it is made at
+    /// `now`, or why it isn't due yet. `None` if the roll isn't in progress or waits for no report,
+    /// or if `steps` has no last step of it.
+    ///
+    /// `keyset` says in which phase the roll is. `steps` are the last steps in the record of this
+    /// key set: of each roll its last accepted start or end of its first wait. `moments` has the
+    /// greatest moment up to each call of the record.
     ///
     /// ```rust
     /// let steps = Steps::of_record(&run.entries);
@@ -62,8 +67,13 @@ impl Notes {
         })
     }
 
-    /// The TTL of a report that is never made before the greatest moment of the calls up to its
-    /// step.
+    /// The TTL, in seconds, with which the report on this `half` of `roll` is true at `now`. `last`
+    /// is the roll's last accepted start or end of its first wait, and `moments` has the greatest
+    /// moment up to each call.
+    ///
+    /// The error is `WaitsUntil` if `now` lies before the greatest moment of the calls up to
+    /// `last`, and otherwise `WaitsFor` with the first kind for which the report isn't due yet, as
+    /// servers may still give older sets of it.
     fn due_from(
         &self,
         moments: &Moments,
@@ -83,6 +93,8 @@ impl Notes {
     }
 }
 
+/// Turns what `Notes::ttl_due` answers into what a `DueReport` says: a TTL in seconds stays the
+/// same, and a kind of sets becomes the reason to wait for it.
 fn ttl_or_kind(ttl: Result<u32, SetKind>) -> Result<u32, NotYet>
     ensures { result ≡ ttl_or_kind ttl }
 {
@@ -92,7 +104,8 @@ fn ttl_or_kind(ttl: Result<u32, SetKind>) -> Result<u32, NotYet>
     }
 }
 
-/// The half of whose report the roll waits; none if it waits for none.
+/// Which report `roll` waits for in its present phase in `keyset`: the first or the second. `None`
+/// if the roll isn't in progress, or waits for no report.
 fn waited_for(keyset: &KeySet, roll: RollType) -> Option<Half>
     ensures { result ≡ waited_for (phase_of keyset.now.rolls roll) }
 {

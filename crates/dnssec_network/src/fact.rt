@@ -49,14 +49,15 @@ pub enum NoteFault {
     /// All servers are said to have given a version before it was published.
     SeenBeforePublished,
     /// The moment lies before the last one: that of a publication before the last publication of
-    /// this kind, or that of a sight before the last sight. A clock was set back, or there are two
-    /// clocks.
+    /// this kind, or the one at which all servers gave a version before the last such one. A clock
+    /// was set back, or there are two clocks.
     MomentFalls,
     /// Memory has run out.
     OutOfMemory,
 }
 
 impl Fact {
+    /// Whether this fact is about the sets of `kind`.
     pub(crate) fn is_of(self, kind: SetKind) -> bool
         ensures { result ≡ same_kind (kind_of self.kind) (kind_of kind) }
     {
@@ -89,6 +90,7 @@ impl std::error::Error for NoteFault {}
 impl<T: Drop> From<AllocFailed<T>> for NoteFault {
     ghost from_gives = { λ _ fault. fault ≡ OutOfMemory };
 
+    /// A list of facts that finds no memory is the fault `OutOfMemory`.
     fn from(_: AllocFailed<T>) -> Self {
         NoteFault::OutOfMemory
     }

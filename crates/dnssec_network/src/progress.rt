@@ -27,7 +27,7 @@ pub(crate) struct Progress {
     newest: ByKind<Newest>,
 }
 
-/// The start of 1970.
+/// The start of 1970. It stands for the moment of what was there before the first call.
 fn start() -> UnixTime
     ensures { result ≡ 0 }
 {
@@ -35,7 +35,8 @@ fn start() -> UnixTime
 }
 
 impl Newest {
-    /// What was there before the first call.
+    /// The newest version of a kind of sets before anything is noted of it. It counts as published,
+    /// and as seen on all servers, at the start of 1970.
     fn first() -> Self
         ensures { result ≡ first_newest }
     {
@@ -45,6 +46,9 @@ impl Newest {
         }
     }
 
+    /// The newest version of a kind of sets once `news` of this kind are noted: `Published` sets
+    /// `published` to its moment, and `Everywhere` sets `seen` to its. The other field stays.
+    /// Nothing is checked.
     fn after(self, news: News) -> Self
         ensures { result ≡ newest_after news self }
     {
@@ -60,7 +64,8 @@ impl Newest {
         }
     }
 
-    /// The newest version of `kind` after a fact.
+    /// The newest version of `kind`, which is `self` so far, once `fact` is noted. It stays the
+    /// same if the fact is about another kind.
     fn after_fact(self, fact: &Fact, kind: SetKind) -> Self
         ensures { result ≡ (if same_kind (kind_of fact.now.kind) (kind_of kind)
             then newest_after fact.now.news self else self) }
@@ -72,7 +77,10 @@ impl Newest {
         }
     }
 
-    /// Why news of this kind are refused, if they are, after calls with these moments.
+    /// Why `news` of the same kind can't be noted after this newest version, or `None` if they can.
+    /// A publication is `CallNotMade`, `PublishedBeforeCall` or `MomentFalls`. That all servers
+    /// gave the version is `SeenBeforePublished` or `MomentFalls`. `moments` has the greatest
+    /// moment up to each call that was made.
     fn refusal(self, moments: &Moments, news: News) -> Option<NoteFault>
         ensures { result ≡ news_refusal moments.now self news }
     {
@@ -92,8 +100,10 @@ impl Newest {
         }
     }
 
-    /// Why a version is refused that is published at the moment. `made` is the greatest moment of
-    /// the calls up to its own, if that was made.
+    /// Why a new version that is published at `moment` can't be noted, or `None` if it can. `made`
+    /// is the greatest moment up to the call whose sets it has, or `None` if that call wasn't made:
+    /// `CallNotMade`. An earlier `moment` than `made` is `PublishedBeforeCall`, and one before the
+    /// last publication is `MomentFalls`.
     fn version_refusal(self, made: Option<UnixTime>, moment: UnixTime) -> Option<NoteFault>
         ensures { result ≡ version_refusal made self moment }
     {
@@ -110,7 +120,8 @@ impl Newest {
     }
 }
 
-/// A moment must not lie before the last one.
+/// Refuses a `moment` that lies before `last`, the last one noted: `MomentFalls`. `None` for any
+/// other.
 fn fall(last: UnixTime, moment: UnixTime) -> Option<NoteFault>
     ensures { result ≡ fall last moment }
 {
@@ -122,7 +133,8 @@ fn fall(last: UnixTime, moment: UnixTime) -> Option<NoteFault>
 }
 
 impl Progress {
-    /// Nothing is noted.
+    /// The progress of notes that have no fact yet. Each kind of sets counts as last published, and
+    /// as last seen on all servers, at the start of 1970.
     pub(crate) fn first() -> Self
         ensures { result ≡ first_progress }
     {
@@ -134,7 +146,9 @@ impl Progress {
         Progress { newest }
     }
 
-    /// After one more fact.
+    /// The progress of the notes once `news` of `kind` are noted too: their moment is the one at
+    /// which this kind was last published, or last seen on all servers. The other kinds stay.
+    /// Nothing is checked.
     pub(crate) fn after(&self, kind: SetKind, news: &News) -> Self
         ensures { result ≡ progress_after self.now (record { kind = kind; news = news.now }) }
     {
@@ -148,7 +162,10 @@ impl Progress {
         Progress { newest }
     }
 
-    /// Why a fact is refused, if it is, after calls with these moments.
+    /// Why `news` of `kind` can't be noted next, or `None` if they can. A publication may be
+    /// refused as `CallNotMade`, `PublishedBeforeCall` or `MomentFalls`, and that all servers gave
+    /// the version as `SeenBeforePublished` or `MomentFalls`. `moments` has the greatest moment up
+    /// to each call that was made. Nothing is noted.
     pub(crate) fn refusal(&self, moments: &Moments, kind: SetKind, news: &News) -> Option<NoteFault>
         ensures { result ≡ news_refusal moments.now (newest_of self.now kind) news.now }
     {

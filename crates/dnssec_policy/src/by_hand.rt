@@ -22,15 +22,17 @@ pub struct FirstByHand {
 }
 
 impl FirstByHand {
-    /// No call was made by hand.
+    /// The value before the first call of a zone: no call was made by hand so far.
     pub fn new() -> Self
         ensures { result.at ≡ None }
     {
         FirstByHand { at: None }
     }
 
-    /// Whether the call, made of this key set, ends a roll early, or sets a flag or a time of a
-    /// key. Keys of other signers may be put in and taken out.
+    /// Whether a call is by hand, as no policy says it: `AbortRoll` ends a roll early, and the
+    /// calls `Set..` set a flag or a time of a key. Two of these aren't by hand: `SetDecoupled`,
+    /// and `SetPresent` for another signer's key. `keyset` is the key set before the call. Whether
+    /// the call is accepted doesn't count.
     pub fn is_by_hand(keyset: &KeySet, call: &Call<'_>) -> bool
         ensures { result ≡ is_by_hand keyset.now call.now }
     {
@@ -47,14 +49,18 @@ impl FirstByHand {
         }
     }
 
-    /// Its position, counted from 1.
+    /// The position of the first call made by hand, counted from 1 for the first call of the zone.
+    /// `None` if no call was made by hand.
     pub fn position(self) -> Option<usize>
         ensures { result ≡ self.at }
     {
         self.at
     }
 
-    /// The first one after a call at the position, which got this reply.
+    /// The first call made by hand, once one more call was made. `is_by_hand` says whether that
+    /// call is by hand, `reply` is its answer, and `at` is its position, counted from 1 for the
+    /// first call of the zone. A refused call doesn't count. If there was a first call by hand
+    /// already, it stays.
     pub fn after(self, is_by_hand: bool, reply: &Reply, at: usize) -> Self
         ensures { FirstFollows self is_by_hand reply.now at result }
     {
@@ -64,7 +70,8 @@ impl FirstByHand {
     }
 }
 
-/// The position of a call, if it is by hand and was accepted.
+/// `at`, the position of a call, if `is_by_hand` says that it was made by hand, and `reply` says
+/// that it was accepted. `None` if it wasn't by hand, or was refused.
 fn at_if_by_hand(is_by_hand: bool, reply: &Reply, at: usize) -> Option<usize>
     ensures { result ≡ at_if_by_hand is_by_hand reply.now at }
 {
@@ -74,7 +81,8 @@ fn at_if_by_hand(is_by_hand: bool, reply: &Reply, at: usize) -> Option<usize>
     }
 }
 
-/// Whether the reference names another signer's key.
+/// Whether `reference` names a key of another signer in the key set. It is false if it names no
+/// key.
 fn is_others(keyset: &KeySet, reference: &str) -> bool
     ensures { result ≡ is_others keyset.now reference.now }
 {

@@ -17,7 +17,11 @@ use dnssec_keyset::Key;
 use dnssec_run::keys_in_order;
 use std::alloc::{AllocError, Global};
 
-/// What the policy says to do next, in this state of the zone. Nothing, if a call was made by hand.
+/// What the policy says to do next for the zone in this state: the most urgent call to make, set to
+/// publish or to watch, key to make or moment to wait for. Otherwise `Stuck` with why nothing is
+/// done that the policy wants, or `Rest` if all is as it wants. `Stuck` also takes the place of a
+/// moment if its cause doesn't go away by itself. After a call made by hand it is always `Stuck`
+/// with `Why::ByHand`. Nothing is changed here.
 ///
 /// # Errors
 ///
@@ -34,7 +38,9 @@ pub fn next<'a>(alloc: Global, policy: &Policy, state: &State<'a>) -> Result<Nex
     Ok(next)
 }
 
-/// The same, with the keys in order.
+/// What the policy says to do next for the zone in this state: what `next` answers. `ends` says
+/// when the waits of the rolls are over. `keys` are all keys of the zone's key set, each after its
+/// reference, in the order of the references. It fails only if memory runs out.
 fn of_keys<'a>(
     alloc: Global,
     policy: &Policy,

@@ -19,21 +19,26 @@ use dnssec_key::side_of;
 use dnssec_keyset::{Key, KeyType, RollType, UnixTime};
 use dnssec_zone::all_rolls;
 
-/// Whether a roll is in progress that may change such a key.
+/// Whether a roll is in progress that changes keys of this kind: KSKs, ZSKs or CSKs. False for
+/// another signer's key, since no roll changes it. The flags in `kind` don't count.
 pub(crate) fn is_rolled(state: &State<'_>, kind: KeyType) -> bool
     ensures { result ≡ is_rolled state.now.keyset.now.rolls kind }
 {
     all_rolls().iter().any(|roll| is_in_progress(state, *roll) && is_of_side(side_of(*roll), kind))
 }
 
-/// Whether a key has left, and no roll of its side is in progress.
+/// Whether a key has left, and no roll is in progress that changes keys of its kind. A key has left
+/// if it is on its way out, signs nothing, isn't in the DNSKEY set, and needs no DS at the parent
+/// any more, a CSK in both roles. It may also be another signer's.
 fn has_left(state: &State<'_>, key: &Key) -> bool
     ensures { result ≡ has_left state.now.keyset.now.rolls key.now }
 {
     key.is_stale() && !is_rolled(state, key.keytype())
 }
 
-/// The moment from which a key may be deleted that was withdrawn then.
+/// The nanosecond since 1970 from which a key may be deleted: `after` seconds later than the moment
+/// at which it was `withdrawn`. A key without that stamp (`None`) may be deleted at any time, so
+/// the answer is 0.
 fn leaves_from(after: u64, withdrawn: Option<UnixTime>) -> u128
     ensures { result ≡ leaves_from after withdrawn }
 {
@@ -43,14 +48,16 @@ fn leaves_from(after: u64, withdrawn: Option<UnixTime>) -> u128
     }
 }
 
-/// The moment from which this key may be deleted.
+/// The nanosecond since 1970 from which the policy lets this key be deleted: its `delete_after`
+/// seconds later than the key was withdrawn. 0 if the key has no stamp of its withdrawal.
 fn moment_of(policy: &Policy, key: &Key) -> u128
     ensures { result ≡ leaves_from policy.now.delete_after key.now.timestamps.withdrawn }
 {
     leaves_from(policy.delete_after, key.timestamps().withdrawn())
 }
 
-/// What is to be done once the moment is reached.
+/// What is to be done at `now`, if `todo` isn't to be done before `moment`, a nanosecond since
+/// 1970: `NotBefore` that moment if `now` is before it, otherwise `todo`.
 fn at_moment<'a>(now: UnixTime, moment: u128, todo: Next<'a>) -> Next<'a>
     ensures { todo_of now result ≡ at_moment now (Some moment) (todo_of now todo.entry) }
 {
@@ -61,7 +68,10 @@ fn at_moment<'a>(now: UnixTime, moment: u128, todo: Next<'a>) -> Next<'a>
     }
 }
 
-/// What is to be done once the last actions of a roll are followed, if it ever came so far.
+/// `todo`, if by the notes all servers give the sets that the last actions of `roll` ask to wait
+/// for, as they are after its last second wait, or later ones. Otherwise to publish or to watch
+/// such a set, first the DS set, then the DNSKEY set, then the zone's signatures. Also `todo` if
+/// `roll` never ended a second wait.
 fn once_ended<'a>(state: &State<'a>, roll: RollType, todo: Next<'a>) -> Next<'a>
     ensures { (end : AnyRoll → Option AnyEnd) → todo_of state.now.moment result
         ≡ once_ended (view_of state.now end) roll (last_of state.now.last_waits roll)
@@ -73,6 +83,10 @@ fn once_ended<'a>(state: &State<'a>, roll: RollType, todo: Next<'a>) -> Next<'a>
     }
 }
 
+/// `todo`, if by the notes all servers give the sets that the last actions of each roll ask to wait
+/// for, as they are after its last second wait, or later ones. Otherwise to publish or to watch
+/// such a set. A kind of roll that never ended a second wait asks for none. So no key is deleted
+/// that a server may still give.
 fn once_all_ended<'a>(state: &State<'a>, todo: Next<'a>) -> Next<'a>
     ensures { (end : AnyRoll → Option AnyEnd) → todo_of state.now.moment result
         ≡ once_all_ended (view_of state.now end) (todo_of state.now.moment todo.entry) }
@@ -84,7 +98,7 @@ fn once_all_ended<'a>(state: &State<'a>, todo: Next<'a>) -> Next<'a>
     so_far
 }
 
-/// The call that deletes a key.
+/// The answer that the key of this reference is to be deleted: `Delete`. Nothing is deleted here.
 fn delete<'a>(reference: &'a String) -> Next<'a>
     ensures { (now : ℕ) → todo_of now result ≡ Make (DeleteKey (string_bytes reference.now)) }
 {
@@ -93,7 +107,10 @@ fn delete<'a>(reference: &'a String) -> Next<'a>
     }
 }
 
-/// The deletion of a key, if it has left.
+/// What is to be done to delete this key: `Delete`, or what that still waits for, a moment or a set
+/// on all servers. `Rest` if the key hasn't left, or a roll in progress changes keys of its kind. A
+/// key has left if it is on its way out, signs nothing, isn't in the DNSKEY set, and needs no DS at
+/// the parent any more, a CSK in both roles.
 fn deletion<'a>(policy: &Policy, state: &State<'a>, reference: &'a String, key: &Key) -> Next<'a>
     ensures { (end : AnyRoll → Option AnyEnd) → todo_of state.now.moment result
         ≡ deletion policy.now (view_of state.now end) (string_bytes reference.now) key.now }
@@ -106,7 +123,11 @@ fn deletion<'a>(policy: &Policy, state: &State<'a>, reference: &'a String, key: 
     at_moment(state.moment, moment, todo)
 }
 
-/// The most urgent of the deletions.
+/// The most urgent of what is to be done to delete keys that have left: a deletion, or what one
+/// still waits for. `Rest` if no key has left, or rolls in progress change keys of their kinds. A
+/// key has left if it is on its way out, signs nothing, isn't in the DNSKEY set, and needs no DS at
+/// the parent any more, a CSK in both roles. `keys` are all keys of the zone, each after its
+/// reference, in the order of the references.
 pub(crate) fn deletions<'a>(
     policy: &Policy,
     state: &State<'a>,

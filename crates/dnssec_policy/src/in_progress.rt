@@ -26,7 +26,7 @@ pub(crate) fn nanos(moment: UnixTime) -> u128
     Duration::from(moment).as_nanos()
 }
 
-/// Whether a roll is in progress.
+/// Whether `roll` is in progress in the zone's key set, in any of its phases.
 pub(crate) fn is_in_progress(state: &State<'_>, roll: RollType) -> bool
     ensures { result ≡ is_some (phase_of state.now.keyset.now.rolls roll) }
 {
@@ -35,7 +35,8 @@ pub(crate) fn is_in_progress(state: &State<'_>, roll: RollType) -> bool
 
 // ---- reports
 
-/// Nothing for a second: the TTL of a report is one that 32 bits can hold.
+/// What to do about a report whose TTL 32 bits can't hold yet: to wait until a second after `now`
+/// (`NotBefore`). The TTL is how long caches may still hold old sets, and so it falls with time.
 fn later<'a>(now: UnixTime) -> Next<'a>
     ensures { todo_of now result ≡ later now }
 {
@@ -44,7 +45,10 @@ fn later<'a>(now: UnixTime) -> Next<'a>
     }
 }
 
-/// What a report waits for of a kind.
+/// What a report waits for at `now`, if the sets of this kind that it speaks of have come as far as
+/// `reach` says. `Publish` if they aren't published yet, and `Watch` if servers may still give
+/// older ones. If all servers give them, only the report's TTL is too long for 32 bits: then
+/// `NotBefore` a second after `now`.
 fn awaited<'a>(reach: Reach, kind: SetKind, now: UnixTime) -> Next<'a>
     ensures { todo_of now result ≡ awaited reach kind now }
 {
@@ -55,7 +59,8 @@ fn awaited<'a>(reach: Reach, kind: SetKind, now: UnixTime) -> Next<'a>
     }
 }
 
-/// A report with this TTL.
+/// The report of this half of the roll with this TTL, in seconds. If 32 bits can't hold the TTL, to
+/// wait until a second after the moment of `state`, since the TTL falls with time.
 fn report_with<'a>(state: &State<'a>, roll: RollType, half: Half, ttl: u64) -> Next<'a>
     ensures { (end : AnyRoll → Option AnyEnd) → todo_of state.now.moment result
         ≡ report_with (view_of state.now end) roll half ttl }
@@ -66,8 +71,11 @@ fn report_with<'a>(state: &State<'a>, roll: RollType, half: Half, ttl: u64) -> N
     }
 }
 
-/// A report that lasts longer than the TTL that is due, or what it waits for of the sets that came
-/// at these positions.
+/// The report of this half of the roll, or what it still waits for: a set to publish or to watch,
+/// or a moment. `due` is what `Notes::ttl_due` answers: the least TTL, in seconds, with which the
+/// report is true, or the first kind of sets for which none of 32 bits is enough yet. A report on
+/// DS sets gets a higher TTL than `due`. `origins` has for each kind the position of the call after
+/// which its sets came.
 fn report_or<'a>(
     state: &State<'a>,
     roll: RollType,
@@ -90,7 +98,10 @@ fn report_or<'a>(
     }
 }
 
-/// A report, or what it still waits for, by the last step of its roll.
+/// The report of this half of the roll, or what it still waits for by the notes: a set to publish
+/// or to watch, or a moment. It speaks of the sets that the roll's last start or end of its first
+/// wait left. `Stuck` with `Why::NoStep` if `state` doesn't know where that stands in the record of
+/// calls.
 fn report_next<'a>(state: &State<'a>, roll: RollType, half: Half) -> Next<'a>
     ensures { (end : AnyRoll → Option AnyEnd) → todo_of state.now.moment result
         ≡ report_next (view_of state.now end) roll half (step_of state.now.steps roll) }
@@ -108,7 +119,10 @@ fn report_next<'a>(state: &State<'a>, roll: RollType, half: Half) -> Next<'a>
 
 // ---- waits
 
-/// A wait that is over, or the moment from which it is.
+/// The call that ends the wait of this half of the roll, if the moment `end` is reached. Before
+/// that, to wait until then. `Stuck` with `Why::PastTime` if the wait ends after the last moment
+/// that a `UnixTime` can have. `Stuck` with `Why::NoStamp` if `end` is `None`: a key lacks the
+/// stamp that the wait counts from.
 fn wait_next<'a>(state: &State<'a>, roll: RollType, half: Half, end: &Option<WaitEnd>) -> Next<'a>
     ensures { (e : AnyRoll → Option AnyEnd) → todo_of state.now.moment result
         ≡ wait_next (view_of state.now e) roll half end.now }
@@ -133,7 +147,9 @@ fn wait_next<'a>(state: &State<'a>, roll: RollType, half: Half, end: &Option<Wai
 
 // ---- ends
 
-/// Whether the action asks to wait for the sets of a kind.
+/// Whether `action` asks to wait until all servers give the sets of this kind: `WaitDsPropagated`
+/// for DS sets, `WaitDnskeyPropagated` for DNSKEY sets, `WaitRrsigPropagated` for the zone's
+/// signatures.
 fn is_wait_for(kind: SetKind, action: Action) -> bool
     ensures { result ≡ is_wait_for kind action }
 {
@@ -145,7 +161,9 @@ fn is_wait_for(kind: SetKind, action: Action) -> bool
     }
 }
 
-/// Whether a roll's last actions ask to wait for the sets of a kind.
+/// Whether the actions in the last phase of this kind of roll ask to wait until all servers give
+/// the sets of this kind. They are due after the second wait, and the roll may end only once they
+/// are done.
 fn ends_with(roll: RollType, kind: SetKind) -> bool
     ensures { result ≡ ends_with roll kind }
 {
@@ -154,7 +172,9 @@ fn ends_with(roll: RollType, kind: SetKind) -> bool
         .any(|action| is_wait_for(kind, *action))
 }
 
-/// What is to be done once all servers give the sets of a kind, or what brings them there.
+/// `todo`, if by the notes all servers give the sets of this kind as they are after the call of
+/// position `base`, or later ones. Otherwise to publish or to watch them. Also `todo` if the last
+/// actions of `roll` don't ask to wait for that kind.
 fn once_there<'a>(
     state: &State<'a>,
     roll: RollType,
@@ -175,7 +195,10 @@ fn once_there<'a>(
     }
 }
 
-/// What is to be done once all that a roll's last actions wait for is there.
+/// `todo`, if by the notes all servers give the sets that the last actions of `roll` ask to wait
+/// for. Otherwise to publish or to watch such a set: first the DS set, then the DNSKEY set, then
+/// the zone's signatures. `base` is the position of the call that ended the roll's second wait: the
+/// sets are those after it, or later ones.
 pub(crate) fn once_settled<'a>(
     state: &State<'a>,
     roll: RollType,
@@ -190,7 +213,9 @@ pub(crate) fn once_settled<'a>(
     once_there(state, roll, base, SetKind::Ds, dnskey)
 }
 
-/// The end of a roll.
+/// What is to be done for a roll in its last phase: to end it, or first to publish or to watch a
+/// set that its last actions ask to wait for. `Stuck` with `Why::NoLastWait` if `state` doesn't
+/// know the position of the call that ended its second wait.
 fn end_next<'a>(state: &State<'a>, roll: RollType) -> Next<'a>
     ensures { (end : AnyRoll → Option AnyEnd) → todo_of state.now.moment result
         ≡ end_next (view_of state.now end) roll (last_of state.now.last_waits roll) }
@@ -205,7 +230,9 @@ fn end_next<'a>(state: &State<'a>, roll: RollType) -> Next<'a>
 
 // ---- by their phases
 
-/// A roll in this phase.
+/// What is to be done for a roll that is in this phase: a report, the end of a wait or of the roll,
+/// or what these still wait for, or `Stuck` with the cause if it can't go on. `ends` says when the
+/// waits of the rolls are over.
 fn roll_next<'a>(state: &State<'a>, ends: &Ends, roll: RollType, phase: RollState) -> Next<'a>
     ensures { todo_of state.now.moment result
         ≡ roll_next (view_of state.now (end_of ends.now)) roll phase }
@@ -219,7 +246,9 @@ fn roll_next<'a>(state: &State<'a>, ends: &Ends, roll: RollType, phase: RollStat
     }
 }
 
-/// A roll in its phase; nothing if it isn't in progress.
+/// What is to be done for this roll in its present phase: a call, what that still waits for, or
+/// `Stuck` with a cause. `Rest` if the roll isn't in progress. `ends` says when the waits of the
+/// rolls are over.
 pub(crate) fn phase_next<'a>(state: &State<'a>, ends: &Ends, roll: RollType) -> Next<'a>
     ensures { todo_of state.now.moment result
         ≡ phase_next (view_of state.now (end_of ends.now)) roll
@@ -231,7 +260,9 @@ pub(crate) fn phase_next<'a>(state: &State<'a>, ends: &Ends, roll: RollType) -> 
     }
 }
 
-/// The most urgent of what rolls in progress ask for.
+/// The most urgent of what the rolls in progress ask for: a call, what one still waits for, or
+/// `Stuck` with a cause. `Rest` if no roll is in progress. `ends` says when the waits of the rolls
+/// are over.
 pub(crate) fn rolls_next<'a>(state: &State<'a>, ends: &Ends) -> Next<'a>
     ensures { todo_of state.now.moment result
         ≡ rolls_next (view_of state.now (end_of ends.now)) }

@@ -17,7 +17,8 @@ use std::alloc::{AllocError, Global};
 
 // ---- roles
 
-/// The roles of a zone's keys.
+/// The roles that a zone's keys have under this scheme, in a fixed order: KSK and ZSK for `Split`,
+/// only CSK for `SingleType`.
 pub(crate) fn roles_of(scheme: Scheme) -> &'static [KeyRole]
     ensures { result.now ≡ roles_of scheme }
 {
@@ -27,7 +28,8 @@ pub(crate) fn roles_of(scheme: Scheme) -> &'static [KeyRole]
     }
 }
 
-/// Whether a key is of this role.
+/// Whether a key of this kind is a KSK, a ZSK or a CSK, as `role` asks. A CSK is neither a KSK nor
+/// a ZSK here, and another signer's key has no role. The flags in `kind` don't count.
 fn has_role(role: KeyRole, kind: KeyType) -> bool
     ensures { result ≡ has_role role kind }
 {
@@ -39,21 +41,25 @@ fn has_role(role: KeyRole, kind: KeyType) -> bool
     }
 }
 
-/// A KSK role at work, with its DS.
+/// Whether a KSK role is at work: it is in the DNSKEY set, signs it, has to have a DS at the
+/// parent, and isn't on its way out. False for `None`, a key without such a role.
 fn is_active_ksk(role: Option<KeyState>) -> bool
     ensures { result ≡ option_map_or is_active_ksk role false }
 {
     role.is_some_and(|s| !s.old() && s.present() && s.signer() && s.at_parent())
 }
 
-/// A ZSK role at work.
+/// Whether a ZSK role is at work: it is in the DNSKEY set, signs the zone, and isn't on its way
+/// out. False for `None`, a key without such a role.
 fn is_active_zsk(role: Option<KeyState>) -> bool
     ensures { result ≡ option_map_or is_active_zsk role false }
 {
     role.is_some_and(|s| !s.old() && s.present() && s.signer())
 }
 
-/// Whether a key is of this role, and at work.
+/// Whether a key of this kind has the role and is at work in it: it is in the DNSKEY set, signs,
+/// and isn't on its way out. A KSK signs the DNSKEY set, a ZSK the zone, and a CSK both. A KSK or a
+/// CSK has to have a DS at the parent too.
 pub(crate) fn serves(role: KeyRole, kind: KeyType) -> bool
     ensures { result ≡ serves role kind }
 {
@@ -66,21 +72,26 @@ pub(crate) fn serves(role: KeyRole, kind: KeyType) -> bool
 
 // ---- keys in use
 
-/// A role that is in some set, or signs one, and isn't on its way out.
+/// Whether a role is in use and isn't on its way out: it signs, is in the DNSKEY set, or has to
+/// have a DS at the parent. False for `None`, a key without such a role.
 fn is_kept_in_use(role: Option<KeyState>) -> bool
     ensures { result ≡ option_map_or kept_in_use role false }
 {
     role.is_some_and(|s| !s.old() && (s.signer() || s.present() || s.at_parent()))
 }
 
-/// Whether a key is in use.
+/// Whether a key of this kind is in use by its KSK role or its ZSK role: the role signs, is in the
+/// DNSKEY set, or has to have a DS at the parent, and isn't on its way out. Another signer's key
+/// never is.
 fn is_in_use(kind: KeyType) -> bool
     ensures { result ≡ is_in_use kind }
 {
     is_kept_in_use(kind.ksk_role()) || is_kept_in_use(kind.zsk_role())
 }
 
-/// Whether rolls of this side list such keys.
+/// Whether a roll changes keys of this kind, if `side` says which keys the roll changes: only KSKs,
+/// only ZSKs, or KSKs, ZSKs and CSKs. No roll changes another signer's key. The flags in `kind`
+/// don't count.
 pub(crate) fn is_of_side(side: Side, kind: KeyType) -> bool
     ensures { result ≡ lists_kind side kind }
 {
@@ -92,28 +103,34 @@ pub(crate) fn is_of_side(side: Side, kind: KeyType) -> bool
     }
 }
 
-/// Whether a roll takes the key out.
+/// Whether a start of `roll` lists this key as old, so that the roll takes it out. The key is of a
+/// kind that the roll changes, and in use: one of its roles signs, is in the DNSKEY set, or has to
+/// have a DS at the parent, and isn't on its way out.
 fn goes(roll: RollType, key: &Key) -> bool
     ensures { result ≡ goes roll key.now }
 {
     is_of_side(side_of(roll), key.keytype()) && is_in_use(key.keytype())
 }
 
-/// Whether a key is of a role of this scheme.
+/// Whether a key of this kind has a role that the scheme asks for: a KSK or a ZSK for `Split`, a
+/// CSK for `SingleType`. False for another signer's key. The flags in `kind` don't count.
 fn is_of_scheme(scheme: Scheme, kind: KeyType) -> bool
     ensures { result ≡ list_any (λ role. has_role role kind) (roles_of scheme) }
 {
     roles_of(scheme).iter().any(|role| has_role(*role, kind))
 }
 
-/// Whether the policy wants such keys.
+/// Whether the policy wants keys like this one: of its algorithm, and of a role of its scheme.
+/// Whether the key signs or is in any set doesn't count. False for another signer's key.
 fn is_wanted(policy: &Policy, key: &Key) -> bool
     ensures { result ≡ is_wanted policy.now key.now }
 {
     key.algorithm() == policy.algorithm && is_of_scheme(policy.scheme, key.keytype())
 }
 
-/// Whether a key is in use that the policy doesn't want.
+/// Whether a key is in use though its algorithm or its role isn't one that the policy wants. Then
+/// an algorithm roll has to take it out. In use is a key with a role that signs, is in the DNSKEY
+/// set, or has to have a DS at the parent, and isn't on its way out. Another signer's key never is.
 pub(crate) fn is_unwanted(policy: &Policy, key: &Key) -> bool
     ensures { result ≡ is_unwanted policy.now key.now }
 {
@@ -132,6 +149,10 @@ pub(crate) enum Pick {
 }
 
 impl Pick {
+    /// Whether this list takes the key. `Old` takes keys that the roll changes and that have a role
+    /// that signs, is in the DNSKEY set, or has to have a DS at the parent, and isn't on its way
+    /// out. `New` takes keys of the role and of the policy's algorithm that are fresh: a roll may
+    /// take each role in, and none signs, is in a set, or is on its way out.
     fn passes(&self, key: &Key) -> bool
         ensures { result ≡ passes self.now key.now }
     {
@@ -146,7 +167,8 @@ impl Pick {
     }
 }
 
-/// The references of the keys that pass, in their order.
+/// The references of those `keys` that `pick` takes, in the order of `keys`. The list is empty if
+/// it takes none. Each key stands in `keys` after its reference. It fails only if memory runs out.
 pub(crate) fn references<'a>(
     alloc: Global,
     keys: &[(&'a String, &'a Key)],

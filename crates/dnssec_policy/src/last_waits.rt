@@ -22,14 +22,16 @@ pub struct LastWaits {
 }
 
 impl LastWaits {
-    /// No roll has a second wait.
+    /// The value before the first call of a zone: no roll has ended a second wait so far.
     pub fn new() -> Self
         ensures { (roll : AnyRoll) → last_of result roll ≡ None }
     {
         LastWaits { by_roll: [None; 6] }
     }
 
-    /// The roll whose second wait a call ends, if any.
+    /// The roll whose second wait, the one after its second report, this call ends
+    /// (`CacheExpired2`). `None` for any other call. Whether the call is accepted doesn't count.
+    /// Hand the answer to `after` once the call was made.
     pub fn second_wait(call: &Call<'_>) -> Option<RollType>
         ensures { result ≡ second_wait_of call.now }
     {
@@ -39,15 +41,18 @@ impl LastWaits {
         }
     }
 
-    /// The last second wait of the roll, if any.
+    /// The position of the last accepted call that ended a second wait of this roll, counted from 1
+    /// for the first call of the zone. `None` if no call did.
     pub fn of(self, roll: RollType) -> Option<usize>
         ensures { result ≡ last_of self roll }
     {
         self.by_roll[roll as usize]
     }
 
-    /// The last second waits after a call at the position. `wait` is the roll whose second wait it
-    /// ends, if any, and `reply` what it was answered.
+    /// The last second waits once one more call was made. `wait` is the roll whose second wait that
+    /// call ends, or `None`, by `second_wait`. `reply` is its answer, and `at` its position,
+    /// counted from 1 for the first call of the zone. The position becomes that of the roll `wait`.
+    /// A refused call changes nothing.
     pub fn after(self, wait: Option<RollType>, reply: &Reply, at: usize) -> Self
         ensures put { (roll : AnyRoll) → last_of result roll
             ≡ (if is_wait_of roll (accepted_wait reply.now wait) then Some at
@@ -57,7 +62,8 @@ impl LastWaits {
         self.put(accepted_wait(wait, reply), at)
     }
 
-    /// The same of an accepted call.
+    /// The last second waits with the position `at`, counted from 1, for the roll `wait`. Other
+    /// rolls keep theirs, and all do if `wait` is `None`.
     fn put(mut self, wait: Option<RollType>, at: usize) -> Self
         ensures { (roll : AnyRoll) → last_of result roll
             ≡ (if is_wait_of roll wait then Some at else last_of self roll) }
@@ -69,7 +75,8 @@ impl LastWaits {
     }
 }
 
-/// The roll whose second wait a call ends, if it was accepted.
+/// `wait`, the roll whose second wait a call ends, if `reply` accepts that call. `None` if it
+/// refuses the call, or if `wait` is `None`.
 fn accepted_wait(wait: Option<RollType>, reply: &Reply) -> Option<RollType>
     ensures { result ≡ accepted_wait reply.now wait }
 {

@@ -1,7 +1,7 @@
 //! What to do next with a zone, by a policy: a call to make, a set to publish or to watch, a key
-//! to make, or a moment to wait for. Whatever it says, the calls are plain and reports are by
-//! notes: so resolvers find a chain of trust at all times. `text` has a policy as a text, and
-//! `automatic` a zone that rolls by itself.
+//! to make, or a moment to wait for. Whatever it says, the calls set nothing by hand, and reports
+//! count what the notes ask for: so resolvers find a chain of trust at all times. `text` has a
+//! policy as a text, and `automatic` a zone that rolls by itself.
 #![tactic(auto)]
 
 mod automatic;

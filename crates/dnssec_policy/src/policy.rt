@@ -22,7 +22,7 @@ pub enum KskMethod {
 }
 
 impl KskMethod {
-    /// The roll by which KSKs are rolled so.
+    /// The kind of roll that renews KSKs by this method.
     pub fn roll(self) -> RollType
         ensures { result ≡ ksk_roll self }
     {
@@ -43,7 +43,7 @@ pub enum ZskMethod {
 }
 
 impl ZskMethod {
-    /// The roll by which ZSKs are rolled so.
+    /// The kind of roll that renews ZSKs by this method.
     pub fn roll(self) -> RollType
         ensures { result ≡ zsk_roll self }
     {

@@ -27,7 +27,8 @@ use std::time::Duration;
 
 // ---- side by side
 
-/// Whether a roll may begin beside the rolls in progress.
+/// Whether this roll may begin now: neither it nor a roll that excludes it is in progress. Only a
+/// roll of KSKs and one of ZSKs may be in progress together.
 #[tactic(auto, unfolding(dnssec_zone::specs::Start::conflict))]
 pub(crate) fn may_begin(state: &State<'_>, roll: RollType) -> bool
     ensures { (end : AnyRoll → Option AnyEnd) → result ≡ may_begin (view_of state.now end) roll }
@@ -35,7 +36,8 @@ pub(crate) fn may_begin(state: &State<'_>, roll: RollType) -> bool
     !is_in_progress(state, roll) && !has_conflict(state, roll)
 }
 
-/// Whether a roll is in progress beside which this one may not begin.
+/// Whether a roll is in progress that excludes this one, so that this one may not begin. A roll
+/// also excludes itself. Only a roll of KSKs and one of ZSKs may be in progress together.
 fn has_conflict(state: &State<'_>, roll: RollType) -> bool
     ensures { result ≡ has_conflict roll state.now.keyset.now.rolls }
 {
@@ -44,7 +46,11 @@ fn has_conflict(state: &State<'_>, roll: RollType) -> bool
 
 // ---- new keys
 
-/// A new key for each of these roles, or the first role that has none.
+/// The reference of a new key for each of these roles, in their order, or `Err` with the first role
+/// for which there is none. Of several the first in `keys` is taken. A new key has the policy's
+/// algorithm, and is fresh: a roll may take it in, and it signs nothing, is in no set, and isn't on
+/// its way out. `keys` are the zone's keys, each after its reference. The outer error is a lack of
+/// memory.
 fn new_keys<'a>(
     alloc: Global,
     policy: &Policy,
@@ -65,7 +71,10 @@ fn new_keys<'a>(
     Ok(Ok(new))
 }
 
-/// A start with new keys of these roles, or the role for which there is none.
+/// The start of `roll` with a new key for each of these roles, or `NeedKey` with the first role
+/// that has none. As old it lists each key that `roll` changes and that has a role that signs, is
+/// in the DNSKEY set, or has to have a DS at the parent, and isn't on its way out. `keys` are the
+/// zone's keys, each after its reference. It fails only if memory runs out.
 fn start_next<'a>(
     alloc: Global,
     policy: &Policy,
@@ -87,7 +96,9 @@ fn start_next<'a>(
 
 // ---- the first keys, another algorithm, or another scheme
 
-/// Whether each role has a key at work.
+/// Whether each role of the policy's scheme has a key at work: one that is in the DNSKEY set,
+/// signs, and isn't on its way out, and as a KSK or a CSK has to have a DS at the parent too.
+/// `keys` are the zone's keys, each after its reference.
 fn is_served(policy: &Policy, keys: &[(&String, &Key)]) -> bool
     ensures { result ≡ list_all (λ role. list_any (λ e. serves role e.1.now.keytype) keys.now)
         (roles_of policy.now.scheme) }
@@ -97,21 +108,30 @@ fn is_served(policy: &Policy, keys: &[(&String, &Key)]) -> bool
         .all(|role| some_serves(*role, keys))
 }
 
-/// Whether some key is of this role, and at work.
+/// Whether some key has this role and is at work in it: it is in the DNSKEY set, signs, and isn't
+/// on its way out. A KSK or a CSK has to have a DS at the parent too. `keys` are the zone's keys,
+/// each after its reference.
 fn some_serves(role: KeyRole, keys: &[(&String, &Key)]) -> bool
     ensures { result ≡ list_any (λ e. serves role e.1.now.keytype) keys.now }
 {
     keys.iter().any(|entry| serves(role, entry.1.keytype()))
 }
 
-/// Whether some key is in use that the policy doesn't want.
+/// Whether some key is in use though its algorithm or its role isn't one that the policy wants. In
+/// use is a key with a role that signs, is in the DNSKEY set, or has to have a DS at the parent,
+/// and isn't on its way out. Another signer's key never is. `keys` are the zone's keys, each after
+/// its reference.
 fn some_unwanted(policy: &Policy, keys: &[(&String, &Key)]) -> bool
     ensures { result ≡ list_any (λ e. is_unwanted policy.now e.1.now) keys.now }
 {
     keys.iter().any(|entry| is_unwanted(policy, entry.1))
 }
 
-/// Whether some role has no key at work, or a key is in use that the policy doesn't want.
+/// Whether the policy wants an algorithm roll, which exchanges all keys. It does if a role of its
+/// scheme has no key that is in the DNSKEY set, signs, isn't on its way out, and as a KSK or a CSK
+/// has to have a DS. It also does if a key of this signer has another algorithm or role, and a role
+/// of it signs, is in the DNSKEY set or has to have a DS, and isn't on its way out. `keys` are the
+/// zone's keys, each after its reference.
 pub(crate) fn wants_others(policy: &Policy, keys: &[(&String, &Key)]) -> bool
     ensures { (all : Keys) → fin.entries all ≡ map entry_of keys.now
         → result ≡ wants_others policy.now all }
@@ -119,7 +139,9 @@ pub(crate) fn wants_others(policy: &Policy, keys: &[(&String, &Key)]) -> bool
     !is_served(policy, keys) || some_unwanted(policy, keys)
 }
 
-/// Whether an algorithm roll may begin, and is wanted.
+/// Whether the policy wants an algorithm roll, and it may begin now, since no roll is in progress.
+/// The policy wants it for the zone's first keys, another algorithm or another scheme. `keys` are
+/// the zone's keys, each after its reference.
 fn is_change_due(policy: &Policy, state: &State<'_>, keys: &[(&String, &Key)]) -> bool
     ensures { OfView state.now keys.now
         (λ v. may_begin v AlgorithmRoll && wants_others policy.now v.set.keys) result }
@@ -127,7 +149,10 @@ fn is_change_due(policy: &Policy, state: &State<'_>, keys: &[(&String, &Key)]) -
     may_begin(state, RollType::AlgorithmRoll) && wants_others(policy, keys)
 }
 
-/// The first keys, another algorithm, or another scheme.
+/// The start of an algorithm roll if the policy wants the zone's first keys, another algorithm or
+/// another scheme. If a role has no new key for it yet, `NeedKey`. `Rest` if the policy wants no
+/// such change, or if another roll or this one is in progress. `keys` are the zone's keys, each
+/// after its reference. It fails only if memory runs out.
 pub(crate) fn change<'a>(
     alloc: Global,
     policy: &Policy,
@@ -147,7 +172,8 @@ pub(crate) fn change<'a>(
 
 // ---- keys whose time is over
 
-/// The role of the keys that such a roll renews.
+/// The role of the keys that `roll` renews: KSKs or ZSKs if it changes only these. CSKs for a CSK
+/// roll, and for an algorithm roll too.
 fn role_of(roll: RollType) -> KeyRole
     ensures { result ≡ role_of roll }
 {
@@ -158,7 +184,7 @@ fn role_of(roll: RollType) -> KeyRole
     }
 }
 
-/// When keys of a role are renewed.
+/// When the policy has keys of this role renewed: `zsk` for ZSKs, `ksk` for KSKs and for CSKs.
 fn renewal_of(policy: &Policy, role: KeyRole) -> Term
     ensures { result ≡ renewal_of policy.now role }
 {
@@ -168,6 +194,8 @@ fn renewal_of(policy: &Policy, role: KeyRole) -> Term
     }
 }
 
+/// The earlier of two moments, or the only one there is, or `None` if there is none. Moments are
+/// nanoseconds since 1970.
 fn earlier(one: Option<u128>, other: Option<u128>) -> Option<u128>
     ensures { result ≡ earlier one other }
 {
@@ -178,7 +206,8 @@ fn earlier(one: Option<u128>, other: Option<u128>) -> Option<u128>
     }
 }
 
-/// From when on a key's time is over by its lifetime.
+/// The nanosecond since 1970 from which a key has to be renewed for its age: `lifetime` seconds
+/// after it was published. `None` if `lifetime` is.
 fn over_by_age(lifetime: Option<u64>, published: UnixTime) -> Option<u128>
     ensures { result ≡ over_by_age lifetime published }
 {
@@ -188,7 +217,9 @@ fn over_by_age(lifetime: Option<u64>, published: UnixTime) -> Option<u128>
     }
 }
 
-/// From when on it is over on demand.
+/// The nanosecond since 1970 from which a key has to be renewed on demand: the moment `once`, if
+/// the key was published before it. `None` if it was published at `once` or later, or if `once` is
+/// `None`.
 fn over_on_demand(once: Option<UnixTime>, published: UnixTime) -> Option<u128>
     ensures { result ≡ over_on_demand once published }
 {
@@ -204,8 +235,9 @@ fn over_on_demand(once: Option<UnixTime>, published: UnixTime) -> Option<u128>
     }
 }
 
-/// The moment from which a key's time is over, if ever. One without the stamp of its publication
-/// counts as published at the start of 1970.
+/// The nanosecond since 1970 from which a key has to be renewed by `renewal`: for its lifetime or
+/// on demand, whichever is earlier. `None` if neither applies. A key without the stamp of its
+/// publication (`None`) counts as published at the start of 1970.
 fn over_from(renewal: &Term, published: Option<UnixTime>) -> Option<u128>
     ensures { result ≡ over_from renewal.now published }
 {
@@ -217,7 +249,10 @@ fn over_from(renewal: &Term, published: Option<UnixTime>) -> Option<u128>
     earlier(by_age, over_on_demand(renewal.once, published))
 }
 
-/// The first such moment of the keys at work.
+/// The first nanosecond since 1970 from which some key at work with this role has to be renewed by
+/// `renewal`, for its lifetime or on demand. `None` if none ever has to be. A key at work is in the
+/// DNSKEY set, signs, and isn't on its way out, and as a KSK or a CSK has to have a DS at the
+/// parent too. `keys` are the zone's keys, each after its reference.
 fn first_over(role: KeyRole, renewal: &Term, keys: &[(&String, &Key)]) -> Option<u128>
     ensures { result ≡ first_over role renewal.now (map (λ e. e.1.now) keys.now) }
 {
@@ -230,7 +265,10 @@ fn first_over(role: KeyRole, renewal: &Term, keys: &[(&String, &Key)]) -> Option
     best
 }
 
-/// The first such moment of the keys that a roll renews.
+/// The first nanosecond since 1970 from which by the policy `roll` has to renew some key at work,
+/// for its lifetime or on demand. `None` if none ever has to be renewed. A key at work is in the
+/// DNSKEY set, signs, and isn't on its way out, and as a KSK or a CSK has to have a DS at the
+/// parent too. `keys` are the zone's keys, each after its reference.
 pub(crate) fn first_due(policy: &Policy, roll: RollType, keys: &[(&String, &Key)]) -> Option<u128>
     ensures { result ≡ first_over (role_of roll) (renewal_of policy.now (role_of roll))
         (map (λ e. e.1.now) keys.now) }
@@ -240,7 +278,11 @@ pub(crate) fn first_due(policy: &Policy, roll: RollType, keys: &[(&String, &Key)
     first_over(role, &renewal, keys)
 }
 
-/// Whether a roll may begin, and all keys in use are wanted.
+/// Whether `roll` may begin now to renew keys: neither it nor a roll that excludes it is in
+/// progress, and the policy wants the algorithm and role of each key of this signer in use. (Others
+/// go by an algorithm roll first.) In use is a key with a role that signs, is in the DNSKEY set, or
+/// has to have a DS, and isn't on its way out. `keys` are the zone's keys, each after its
+/// reference.
 fn may_renew(policy: &Policy, state: &State<'_>, keys: &[(&String, &Key)], roll: RollType) -> bool
     ensures { OfView state.now keys.now
         (λ v. may_begin v roll && not (some_key (is_unwanted policy.now) v.set.keys)) result }
@@ -248,7 +290,10 @@ fn may_renew(policy: &Policy, state: &State<'_>, keys: &[(&String, &Key)], roll:
     may_begin(state, roll) && !some_unwanted(policy, keys)
 }
 
-/// A new key for those whose time is over.
+/// What is to be done to renew keys by this roll, for their lifetime or on demand: its start, or
+/// the moment before which none has to be renewed. If it has no new key to start with, `NeedKey`.
+/// `Rest` if no key ever has to be renewed, or if the roll may not begin now to renew keys. `keys`
+/// are the zone's keys, each after its reference. It fails only if memory runs out.
 fn renewal<'a>(
     alloc: Global,
     policy: &Policy,
@@ -276,7 +321,10 @@ fn renewal<'a>(
     }
 }
 
-/// New keys for all whose time is over.
+/// The most urgent of what is to be done to renew keys by the rolls of the policy's scheme, for
+/// their lifetime or on demand: the start of a roll, a key to make for it, or the moment before
+/// which no key has to be renewed. `Rest` if there is none. `keys` are the zone's keys, each after
+/// its reference. It fails only if memory runs out.
 pub(crate) fn renewals<'a>(
     alloc: Global,
     policy: &Policy,

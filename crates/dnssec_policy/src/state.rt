@@ -1,4 +1,4 @@
-//! What the next thing to do is said by.
+//! What is known of a zone when a policy says what to do next.
 ghost use Rattle.std.specs.Prelude.{◌≡◌};
 ghost use Rattle.dnssec_key.specs.declared.roll.RollType.{RollType as AnyRoll};
 ghost use Rattle.dnssec_keyset.specs.WaitEnd.{SaysEnd};
@@ -33,6 +33,8 @@ pub(crate) struct Ends {
 }
 
 impl Ends {
+    /// When the wait of each roll of this key set is over, if the roll is in a phase that waits. It
+    /// asks the key set once for each roll.
     pub(crate) fn of_keyset(keyset: &KeySet) -> Self
         ensures { (roll : AnyRoll) → SaysEnd roll keyset.now (end_of result roll) }
     {
@@ -48,6 +50,8 @@ impl Ends {
         }
     }
 
+    /// When the wait of `roll` is over. `None` if the roll isn't in progress or not in a phase that
+    /// waits, or if a key lacks the stamp that the wait counts from.
     pub(crate) fn of(&self, roll: RollType) -> Option<WaitEnd>
         ensures { result ≡ end_of self.now roll }
     {

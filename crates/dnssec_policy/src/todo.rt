@@ -25,7 +25,7 @@ pub enum Cds {
 /// What to do next. A call is to be made with the moment at which it was said.
 #[derive(Drop)]
 pub enum Next<'a> {
-    /// Make the report of this half of the roll.
+    /// Make the report of this half of the roll, with this TTL in seconds.
     Report {
         roll: RollType,
         half: Half,
@@ -40,7 +40,7 @@ pub enum Next<'a> {
     Done {
         roll: RollType,
     },
-    /// Start the roll with these lists.
+    /// Start the roll that takes out the keys `old` and takes in the keys `new`, by references.
     Start {
         roll: RollType,
         old: Vec<&'a str>,
@@ -77,7 +77,9 @@ pub enum Next<'a> {
 }
 
 impl<'a> Next<'a> {
-    /// The call to make, if any.
+    /// The call to make: a report, the end of a wait or of a roll, a start, or a deletion. `None`
+    /// for any other variant. `now` is the moment at which this was answered, and becomes that of
+    /// the call if it has one.
     pub fn call(&self, now: UnixTime) -> Option<Call<'_>>
         ensures some { IfSome result (λ call. todo_of now self.now ≡ Make (call_of call)) }
         ensures none { IfNone result ((call : AnyCall) → todo_of now self.now ≢ Make call) }
@@ -127,8 +129,9 @@ impl<'a> Next<'a> {
         }
     }
 
-    /// What is asked of CDS and CDNSKEY beside it, if anything: they are in the zone while the DS
-    /// set changes, and leave before it is noted that all servers of the parent give it.
+    /// What to do with CDS and CDNSKEY when this is done, if anything. They go into the zone when a
+    /// DS set is to be published (`In`). They leave it (`Out`) while that set is watched: once all
+    /// servers of the parent give it, and before that is noted. `None` for anything else.
     pub fn cds(&self) -> Option<Cds>
         ensures { (now : ℕ) → result ≡ cds_with (todo_of now self.now) }
     {
@@ -139,7 +142,8 @@ impl<'a> Next<'a> {
         }
     }
 
-    /// Nothing, for this cause if there is one.
+    /// What to answer if there is nothing to do: `Stuck` with the cause `why`, or `Rest` if `why`
+    /// is `None`.
     pub(crate) fn without(why: Option<Why>) -> Next<'a>
         ensures { (now : ℕ) → todo_of now result ≡ stuck why }
     {
@@ -149,7 +153,9 @@ impl<'a> Next<'a> {
         }
     }
 
-    /// A cause that lasts in place of a moment to wait for.
+    /// `Stuck` with the cause `why`, if `self` is a moment to wait for and the cause stays until
+    /// somebody acts, as all do but `TtlTooLong` and `Barred`. Otherwise `self` as it is, also if
+    /// `why` is `None`. So nobody waits in vain.
     pub(crate) fn unless_lasting(self, why: Option<Why>) -> Next<'a>
         ensures { (now : ℕ) → todo_of now result ≡ unless_lasting why (todo_of now self.entry) }
     {
@@ -159,7 +165,8 @@ impl<'a> Next<'a> {
         }
     }
 
-    /// Nothing, if a call was made by hand.
+    /// `Stuck` with the position of the first call made by hand, if there was one, whatever `self`
+    /// asks for. Otherwise `self` as it is.
     pub(crate) fn unless_by_hand(self, by_hand: FirstByHand) -> Next<'a>
         ensures { (now : ℕ) → todo_of now result ≡ unless_by_hand by_hand.at
             (todo_of now self.entry) }
@@ -172,7 +179,8 @@ impl<'a> Next<'a> {
         }
     }
 
-    /// The smaller, the more urgent.
+    /// How urgent this is: the smaller, the more urgent. 0 for a call, 1 to publish, 2 to make a
+    /// key, 3 to watch, 4 for a moment to wait for, 5 for `Stuck`, and 6 for `Rest`.
     fn rank(&self) -> u8
         ensures { (now : ℕ) → result ≡ rank (todo_of now self.now) }
     {
@@ -191,7 +199,8 @@ impl<'a> Next<'a> {
         }
     }
 
-    /// The moment before which there is nothing to do, or 0.
+    /// The nanosecond since 1970 before which there is nothing to do, for a `NotBefore`. 0 for
+    /// anything else.
     fn moment(&self) -> u128
         ensures { (now : ℕ) → result ≡ moment_of (todo_of now self.now) }
     {
@@ -201,7 +210,8 @@ impl<'a> Next<'a> {
         }
     }
 
-    /// Whether the other is more urgent.
+    /// Whether `other` is more urgent than `self`, as its `rank` is smaller. Of two moments to wait
+    /// for, the earlier is more urgent. False if both are equally urgent.
     fn is_sooner(&self, other: &Next<'_>) -> bool
         ensures { (now : ℕ) → result ≡ is_sooner (todo_of now self.now) (todo_of now other.now) }
     {
@@ -209,7 +219,7 @@ impl<'a> Next<'a> {
         two < one || two == one && other.moment() < self.moment()
     }
 
-    /// The more urgent of two, or the first.
+    /// The more urgent of `self` and `other`, or `self` if both are equally urgent.
     pub(crate) fn or(self, other: Next<'a>) -> Next<'a>
         ensures { (now : ℕ) → todo_of now result ≡ sooner (todo_of now self.entry)
             (todo_of now other.entry) }

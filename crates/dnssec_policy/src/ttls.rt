@@ -25,7 +25,7 @@ pub struct HighestTtls {
 }
 
 impl HighestTtls {
-    /// Those from before the first call.
+    /// The highest TTLs of notes without facts: those from before the first call, in seconds.
     pub fn of_before(before: &Before) -> Self
         ensures { AreHighest before.now [] result }
     {
@@ -36,7 +36,9 @@ impl HighestTtls {
         }
     }
 
-    /// Those after one more fact of this kind.
+    /// The highest TTLs, in seconds, once one more fact on this kind of sets is noted. A
+    /// publication raises that of its kind, if its TTL is higher, and keeps the others. That all
+    /// servers give a set changes none.
     pub fn after(self, kind: SetKind, news: &News) -> Self
         ensures { (before : AnyBefore) (facts : List AnyFact) → AreHighest before facts self →
             AreHighest before (facts ++ record { kind = kind; news = news.now } ∷ []) result }
@@ -44,6 +46,9 @@ impl HighestTtls {
         self.after_news(kind, news)
     }
 
+    /// The highest TTLs, in seconds, once `news` of this kind of sets is noted. A publication
+    /// raises that of its kind, if its TTL is higher, and keeps the others. That all servers give a
+    /// set changes none.
     fn after_news(self, kind: SetKind, news: &News) -> Self
         ensures { result ≡ after_news self kind news.now }
     {
@@ -53,7 +58,8 @@ impl HighestTtls {
         }
     }
 
-    /// Those with one more version of this TTL.
+    /// The highest TTLs with that of this kind raised to `ttl`, in seconds, if it was lower. Those
+    /// of other kinds stay.
     fn with(self, kind: SetKind, ttl: u32) -> Self
         ensures { result ≡ with_ttl self kind ttl }
     {
@@ -73,7 +79,8 @@ impl HighestTtls {
         }
     }
 
-    /// That of a kind.
+    /// The highest TTL, in seconds, that is noted so far of this kind of sets, also from before the
+    /// first call.
     pub fn of(&self, kind: SetKind) -> u32
         ensures { result ≡ ttl_in self.now (kind_of kind) }
     {
@@ -84,15 +91,19 @@ impl HighestTtls {
         }
     }
 
-    /// For how many seconds a validator may keep the algorithms of a DS set that it has dropped.
+    /// For how many seconds after it dropped a DS set a validator may keep the algorithms of that
+    /// set: as long as it holds a DNSKEY set that it checked by the DS set. That is the highest TTL
+    /// of DNSKEY sets, and a second, as caches count whole ones.
     fn keeps(&self) -> u64
         ensures { result ≡ keeps (ttl_in self.now) }
     {
         u64::from(self.dnskey) + 1
     }
 
-    /// The TTL of a report, by the TTL that is due for the sets that it speaks of. One that speaks
-    /// of DS sets also counts the algorithms that validators keep with DNSKEY sets, and CDS.
+    /// The TTL, in seconds, to report for this half of the roll, if by the notes the report is true
+    /// with `due` seconds. It is `due`, but more if the report says that caches lose old DS sets:
+    /// it then also counts for how long validators keep the algorithms of these, and is at least as
+    /// long as caches may hold CDS.
     pub(crate) fn lasting(&self, roll: RollType, half: Half, due: u64) -> u64
         requires { due ≤ 4_294_967_296 }
         ensures { result ≡ lasting (ttl_in self.now) roll (is_second half) due }
@@ -105,7 +116,8 @@ impl HighestTtls {
         }
     }
 
-    /// That of a kind that a report speaks of; 0 of another.
+    /// The highest TTL, in seconds, that is noted of this kind of sets, if the report of this half
+    /// of the roll says that caches lose old sets of that kind. Otherwise 0.
     fn if_retired(&self, roll: RollType, half: Half, kind: SetKind) -> u32
         ensures { result ≡ if_retired (ttl_in self.now) roll (is_second half)
             (kind_of kind) }
@@ -117,7 +129,9 @@ impl HighestTtls {
         }
     }
 
-    /// The highest TTL that may be due, and a second.
+    /// The highest TTL, in seconds, that the notes can ask for in the report of this half of the
+    /// roll. It is the highest noted of the kinds of sets of which the report says that caches lose
+    /// old ones, and a second, as caches count whole ones.
     fn at_most_due(&self, roll: RollType, half: Half) -> u64
         ensures due { result ≡ at_most_due (ttl_in self.now) roll (is_second half) }
         ensures at_most { result ≤ 4_294_967_296 }
@@ -128,14 +142,16 @@ impl HighestTtls {
         u64::from(ds.max(dnskey).max(zone)) + 1
     }
 
-    /// How many seconds the wait after a report counts.
+    /// How many seconds the wait after the report of this half of the roll takes at most, by the
+    /// highest TTLs noted, if the report has the TTL that `next` says.
     fn report_takes(&self, roll: RollType, half: Half) -> u64
         ensures { result ≡ report_takes (ttl_in self.now) roll (is_second half) }
     {
         self.lasting(roll, half, self.at_most_due(roll, half))
     }
 
-    /// How many seconds the two waits of a roll count together.
+    /// How many seconds the two waits of a roll take together at most, by the highest TTLs noted.
+    /// How long servers take to give new sets isn't counted.
     pub fn roll_takes(&self, roll: RollType) -> u64
         ensures { result ≡ roll_takes (ttl_in self.now) roll }
     {

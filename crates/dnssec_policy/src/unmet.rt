@@ -26,7 +26,9 @@ use std::alloc::{AllocError, Global};
 
 // ---- rolls in progress
 
-/// Why a roll in this phase doesn't go on, given what is to be done for it.
+/// Why a roll in this phase doesn't go on, if `todo` is what is to be done for it: the cause of
+/// `Stuck`, or `TtlTooLong` if it waits for a moment before a report. `None` for anything else, so
+/// also for a wait after a report, or a set to publish or to watch.
 fn why_of(roll: RollType, phase: RollState, todo: &Next<'_>) -> Option<Why>
     ensures { (now : ℕ) → result ≡ why_of roll phase (todo_of now todo.now) }
 {
@@ -39,7 +41,9 @@ fn why_of(roll: RollType, phase: RollState, todo: &Next<'_>) -> Option<Why>
     }
 }
 
-/// Why a roll doesn't go on, if it is in progress.
+/// Why this roll is stuck in its present phase. `None` if something is to be done for it, if it
+/// waits for a moment after a report, or if it isn't in progress. `ends` says when the waits of the
+/// rolls are over.
 fn phase_why(state: &State<'_>, ends: &Ends, roll: RollType) -> Option<Why>
     ensures { result ≡ phase_why (view_of state.now (end_of ends.now)) roll
         (phase_of state.now.keyset.now.rolls roll) }
@@ -50,7 +54,9 @@ fn phase_why(state: &State<'_>, ends: &Ends, roll: RollType) -> Option<Why>
     }
 }
 
-/// Why the first roll that doesn't go on doesn't.
+/// Why the first roll that is stuck doesn't go on, in the order of `RollType`. `None` if none is:
+/// something is to be done for each roll in progress, or it waits for a moment after a report.
+/// `ends` says when the waits of the rolls are over.
 fn rolls_why(state: &State<'_>, ends: &Ends) -> Option<Why>
     ensures { result ≡ rolls_why (view_of state.now (end_of ends.now)) }
 {
@@ -63,7 +69,8 @@ fn rolls_why(state: &State<'_>, ends: &Ends) -> Option<Why>
 
 // ---- starts
 
-/// That a roll is barred, if it is wanted.
+/// `Why::Barred` with `roll`, if `wanted` says that the roll is wanted, and it may not begin: it is
+/// in progress itself, or another roll in progress excludes it. Otherwise `None`.
 fn barred_if(wanted: bool, state: &State<'_>, roll: RollType) -> Option<Why>
     ensures { (end : AnyRoll → Option AnyEnd) → result
         ≡ barred_if wanted (view_of state.now end) roll }
@@ -77,7 +84,10 @@ fn barred_if(wanted: bool, state: &State<'_>, roll: RollType) -> Option<Why>
     Some(Why::Barred { roll })
 }
 
-/// Whether a key's time is over that the roll renews.
+/// Whether at the moment of `state` some key at work has to be renewed by `roll`: its lifetime is
+/// over, or the policy asks for it on demand. A key at work is in the DNSKEY set, signs, and isn't
+/// on its way out, and as a KSK or a CSK has to have a DS at the parent too. `keys` are the zone's
+/// keys, each after its reference.
 fn is_over(policy: &Policy, state: &State<'_>, keys: &[(&String, &Key)], roll: RollType) -> bool
     ensures { OfView state.now keys.now (λ v. is_over policy.now v roll) result }
 {
@@ -87,7 +97,10 @@ fn is_over(policy: &Policy, state: &State<'_>, keys: &[(&String, &Key)], roll: R
     }
 }
 
-/// That a roll is barred, if it renews a key whose time is over.
+/// `Why::Barred` if `roll` has to renew some key by its lifetime or on demand, and it can't start:
+/// it is in progress itself, or another roll in progress excludes it. Otherwise `None`. Only keys
+/// at work have to be renewed: in the DNSKEY set, signing, and not on their way out, and as a KSK
+/// or a CSK with a DS due at the parent. `keys` are the zone's keys, each after its reference.
 fn renewal_why(
     policy: &Policy,
     state: &State<'_>,
@@ -99,7 +112,10 @@ fn renewal_why(
     barred_if(is_over(policy, state, keys, roll), state, roll)
 }
 
-/// The first roll that is barred of those that renew keys.
+/// `Why::Barred` with the first roll of the scheme that has to renew a key at the moment of
+/// `state`, and can't start: it is in progress itself, or another roll in progress excludes it.
+/// `None` if there is none. The roll of KSKs comes before that of ZSKs. `keys` are the zone's keys,
+/// each after its reference.
 fn renewals_why(policy: &Policy, state: &State<'_>, keys: &[(&String, &Key)]) -> Option<Why>
     ensures { OfView state.now keys.now (λ v. renewals_why policy.now v policy.now.scheme) result }
 {
@@ -113,7 +129,10 @@ fn renewals_why(policy: &Policy, state: &State<'_>, keys: &[(&String, &Key)]) ->
     }
 }
 
-/// The first roll that is wanted and barred.
+/// `Why::Barred` with the first roll that the policy wants at the moment of `state`, and that can't
+/// start: it is in progress itself, or another roll in progress excludes it. `None` if there is
+/// none. An algorithm roll comes before those that renew keys. `keys` are the zone's keys, each
+/// after its reference.
 fn starts_why(policy: &Policy, state: &State<'_>, keys: &[(&String, &Key)]) -> Option<Why>
     ensures { OfView state.now keys.now (starts_why policy.now) result }
 {
@@ -124,14 +143,17 @@ fn starts_why(policy: &Policy, state: &State<'_>, keys: &[(&String, &Key)]) -> O
 
 // ---- keys
 
-/// A role that is on its way out, and in use.
+/// Whether a role is on its way out, but not gone: it still signs, is in the DNSKEY set, or has to
+/// have a DS at the parent. False for `None`, a key without such a role.
 fn is_leaving(role: Option<KeyState>) -> bool
     ensures { result ≡ option_map_or is_leaving role false }
 {
     role.is_some_and(|s| s.old() && (s.signer() || s.present() || s.at_parent()))
 }
 
-/// Whether a key is on its way out and in use, and no roll of its side is in progress.
+/// Whether a key is stuck on its way out: it has a role on its way out that still signs, is in the
+/// DNSKEY set, or has to have a DS at the parent, and no roll in progress changes keys of its kind.
+/// So no roll takes the key out. False for another signer's key.
 fn is_left_over(state: &State<'_>, key: &Key) -> bool
     ensures { result ≡ is_left_over state.now.keyset.now.rolls key.now }
 {
@@ -139,7 +161,9 @@ fn is_left_over(state: &State<'_>, key: &Key) -> bool
     (is_leaving(kind.ksk_role()) || is_leaving(kind.zsk_role())) && !is_rolled(state, kind)
 }
 
-/// Whether a key is on its way out and in use, and no roll takes it out.
+/// Whether some key is stuck on its way out: it has a role on its way out that still signs, is in
+/// the DNSKEY set, or has to have a DS at the parent, and no roll in progress changes keys of its
+/// kind. `keys` are the zone's keys, each after its reference.
 fn some_left_over(state: &State<'_>, keys: &[(&String, &Key)]) -> bool
     ensures { result
         ≡ list_any (λ e. is_left_over state.now.keyset.now.rolls e.1.now) keys.now }
@@ -147,6 +171,9 @@ fn some_left_over(state: &State<'_>, keys: &[(&String, &Key)]) -> bool
     keys.iter().any(|entry| is_left_over(state, entry.1))
 }
 
+/// `Why::OldKeyInUse` if some key has a role on its way out that still signs, is in the DNSKEY set,
+/// or has to have a DS at the parent, and no roll in progress changes keys of its kind. Otherwise
+/// `None`. `keys` are the zone's keys, each after its reference.
 fn keys_why(state: &State<'_>, keys: &[(&String, &Key)]) -> Option<Why>
     ensures { OfView state.now keys.now keys_why result }
 {
@@ -159,7 +186,11 @@ fn keys_why(state: &State<'_>, keys: &[(&String, &Key)]) -> Option<Why>
 
 // ---- all of it
 
-/// The first cause, with the keys in order.
+/// The first cause for which something isn't done that the policy wants: a roll in progress that
+/// doesn't go on, else a roll that may not begin, else `OldKeyInUse`: a role on its way out still
+/// signs, is in the DNSKEY set or has to have a DS, and no roll takes its key out. `None` if there
+/// is no cause. `ends` says when the waits of the rolls are over. `keys` are all keys of the zone,
+/// each after its reference, in the order of references.
 pub(crate) fn stuck_of(
     policy: &Policy,
     state: &State<'_>,
@@ -175,7 +206,10 @@ pub(crate) fn stuck_of(
 }
 
 /// The first cause for which something isn't done that the policy wants, whatever else is to be
-/// done: a roll that doesn't go on, a roll that may not begin, or a key that no roll takes out.
+/// done: a roll in progress that doesn't go on, else a roll that may not begin, else `OldKeyInUse`:
+/// a role on its way out still signs, is in the DNSKEY set or has to have a DS, and no roll takes
+/// its key out. `None` if there is no such cause. A call made by hand isn't one here, but `next`
+/// says it.
 ///
 /// # Errors
 ///

@@ -16,13 +16,14 @@ pub enum Why {
     TtlTooLong { roll: RollType },
     /// A key lacks the stamp that the wait of this roll counts from: it was set by hand.
     NoStamp { roll: RollType },
-    /// The wait of this roll is over after all time.
+    /// The wait of this roll ends after the last moment that a `UnixTime` can have.
     PastTime { roll: RollType },
-    /// It isn't known when this roll made its second wait, by which it ends.
+    /// It isn't known which call ended the second wait of this roll. Its end counts from that.
     NoLastWait { roll: RollType },
-    /// This roll is wanted, and may not begin beside those in progress.
+    /// This roll is wanted, and may not begin: it or a roll that excludes it is in progress.
     Barred { roll: RollType },
-    /// A key is on its way out and in use, and no roll takes it out: it was set by hand.
+    /// A role of a key is on its way out, but still signs, is in the DNSKEY set, or has to have a
+    /// DS at the parent. No roll takes the key out: it was set by hand.
     OldKeyInUse,
     /// The call at this position, counted from 1, was made by hand: a roll was ended early, or a
     /// flag or a time of a key set.
@@ -30,7 +31,8 @@ pub enum Why {
 }
 
 impl Why {
-    /// Whether it doesn't go away by itself.
+    /// Whether the cause stays until somebody acts. False only for `TtlTooLong`, as a TTL falls
+    /// with time, and for `Barred`, as the roll may begin once others are done.
     pub(crate) fn lasts(self) -> bool
         ensures { result ≡ lasts self }
     {

@@ -32,7 +32,8 @@ pub(crate) enum Turn<'a> {
 }
 
 impl<'a> Turn<'a> {
-    /// What the call means, if it is accepted.
+    /// What `call` means for the rolls if it is accepted: it starts a roll, ends one, ends one
+    /// early, or deletes a key. Any other call changes no list of `Courses` (`GoesOn`).
     pub(crate) fn of(call: &Call<'a>) -> Self
         ensures { result ≡ turn_of call.now }
     {
@@ -54,7 +55,8 @@ impl<'a> Turn<'a> {
         }
     }
 
-    /// What it means after this reply: a refused call means nothing.
+    /// What the call means for the rolls now that it got this `reply`: `self` if it was accepted,
+    /// and nothing (`GoesOn`) if it was refused.
     pub(crate) fn after(self, reply: &Reply) -> Self
         ensures { result ≡ turn_after self.entry reply.now }
     {
@@ -70,12 +72,13 @@ impl<'a> Turn<'a> {
 pub(crate) struct Courses {
     /// The keys of rolls in progress.
     listed: Vec<Listing>,
-    /// The rolls that were ended early, until a roll starts that may not go beside them.
+    /// The rolls that were ended early, until a roll starts that may not be in progress with them.
     ended: Vec<RollType>,
 }
 
 impl Courses {
-    /// No roll was started yet.
+    /// The lists of a new session, in which no roll was started. Both are empty, and take their
+    /// memory from `alloc` once they grow.
     pub(crate) fn new(alloc: Global) -> Self
         ensures listed { result.listed.items ≡ [] }
         ensures ended { result.ended.items ≡ [] }
@@ -86,7 +89,7 @@ impl Courses {
         }
     }
 
-    /// The same rolls.
+    /// A copy of both lists in memory from `alloc`. It fails only if there is no memory.
     pub(crate) fn try_clone(&self, alloc: Global) -> Result<Self, AllocError>
         ensures listed { IfOk result (λ copy.
             map as_listed copy.listed.items ≡ map as_listed self.now.listed.items) }
@@ -104,7 +107,12 @@ impl Courses {
         Ok(Courses { listed, ended })
     }
 
-    /// Takes the next turn.
+    /// Updates `listed` and `ended` after a call that meant `turn`. A start adds the keys of its
+    /// roll to `listed`. From `ended` it removes its own roll, and those that may not be in
+    /// progress at the same time. An end, early or not, removes the keys of its roll from `listed`,
+    /// and an early one adds the roll to `ended`. A deletion removes its key from `listed`.
+    /// `GoesOn` changes nothing. If memory runs out, it fails, and the lists may be updated in
+    /// part.
     pub(crate) fn take(&mut self, alloc: Global, turn: Turn<'_>) -> Result<(), AllocError>
         ensures listed { OnOk result (map as_listed self.new.listed.items
             ≡ listed_after (map as_listed self.old.listed.items) turn.entry) }
@@ -134,7 +142,8 @@ impl Courses {
         }
     }
 
-    /// Lists keys of a roll.
+    /// Adds the keys at `references` to the end of `listed`, as this `part` (old or new) of `roll`,
+    /// which starts. If memory runs out, it fails, and some of them may be added.
     fn list(
         &mut self,
         alloc: Global,
@@ -157,7 +166,7 @@ impl Courses {
         Ok(())
     }
 
-    /// Takes the keys of a roll off the list.
+    /// Removes the keys of `roll`, which has ended, from `listed`. The others stay, in their order.
     fn take_out(&mut self, roll: RollType)
         ensures listed { map as_listed self.new.listed.items
             ≡ filter (is_of_other roll) (map as_listed self.old.listed.items) }
@@ -167,7 +176,8 @@ impl Courses {
         self.listed.shrink_to_fit();
     }
 
-    /// Takes a key off the list, for every roll.
+    /// Removes the key at `reference`, which was deleted, from `listed`, in every roll. The others
+    /// stay, in their order.
     fn forget(&mut self, reference: &str)
         ensures listed { map as_listed self.new.listed.items
             ≡ filter (is_another reference.now) (map as_listed self.old.listed.items) }
@@ -177,7 +187,9 @@ impl Courses {
             .retain(|key| key.reference.as_str() != reference);
     }
 
-    /// Forgets the early ends of the rolls that may not go beside this one.
+    /// Removes from `ended` the roll `roll`, which starts now, and those that may not be in
+    /// progress at the same time. Callers start it only once what those early ends asked for is
+    /// done. The others stay, in their order.
     fn forget_ends(&mut self, roll: RollType)
         ensures ended { self.new.ended.items ≡ filter (together roll) self.old.ended.items }
         ensures listed { self.new.listed ≡ self.old.listed }
@@ -185,14 +197,16 @@ impl Courses {
         self.ended.retain(|ended| go_together(roll, *ended));
     }
 
-    /// The keys of rolls in progress.
+    /// The keys that the starts of the rolls in progress listed, in the order of the starts: first
+    /// the old ones of a roll, then its new ones. Deleted keys are left out.
     pub(crate) fn listed(&self) -> &[Listing]
         ensures { result.now ≡ self.now.listed.items }
     {
         &self.listed
     }
 
-    /// The rolls whose early end is to be shown.
+    /// The rolls that were ended early, in the order of these ends. A roll stays here until it
+    /// starts again, or until one starts that may not be in progress at the same time.
     pub(crate) fn ended(&self) -> &[RollType]
         ensures { result.now ≡ self.now.ended.items }
     {

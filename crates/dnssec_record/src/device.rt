@@ -31,7 +31,7 @@ pub trait Source {
         ensures bytes { ReadConsumes (left self.old) (left self.new) result buf.new }
         ensures counted { Counts result (faults self.old) (faults self.new) };
 
-    /// How often the device has failed.
+    /// How often the device has failed so far.
     fn faults(&self) -> u64
         ensures { result ≡ faults self.now };
 }
@@ -57,7 +57,7 @@ pub trait Sink {
         ensures bytes { WriteAppends (taken self.old) (taken self.new) result buf.now }
         ensures counted { Counts result (faults self.old) (faults self.new) };
 
-    /// How often the device has failed.
+    /// How often the device has failed so far.
     fn faults(&self) -> u64
         ensures { result ≡ faults self.now };
 }
@@ -97,7 +97,8 @@ impl<T> Std<T> {
         inner
     }
 
-    /// How often an operation of the inner device has failed.
+    /// How many reads or writes have failed so far. A write that took none of its bytes has failed
+    /// too.
     #[tactic(auto, using(std::proofs::lemmas::Grind::common_steps))]
     fn count(&self) -> u64
         ensures { result ≡ std_faults self.now }
@@ -113,6 +114,9 @@ impl<T: Read> Source for Std<T> {
 
     ghost faults = { λ device. std_faults device };
 
+    /// Reads the next bytes of the inner reader into the front of `buf`, and answers how many
+    /// bytes: 0 only at the end, or if `buf` is empty. If the reader fails, the count of faults
+    /// grows by one, and the error is `DeviceFault`.
     #[tactic(auto, using(std::proofs::lemmas::Grind::common_steps))]
     fn read(&mut self, buf: &mut [u8]) -> Result<usize, DeviceFault> {
         match self.inner.read(buf) {
@@ -124,6 +128,7 @@ impl<T: Read> Source for Std<T> {
         }
     }
 
+    /// How many reads have failed so far.
     fn faults(&self) -> u64 {
         self.count()
     }
@@ -136,6 +141,9 @@ impl<T: Write> Sink for Std<T> {
 
     ghost faults = { λ device. std_faults device };
 
+    /// Writes bytes from the front of `buf` to the inner writer, and answers how many bytes it
+    /// took. If the writer fails, or takes none of a `buf` that isn't empty, the count of faults
+    /// grows by one, and the error is `DeviceFault`.
     #[tactic(auto, using(std::proofs::lemmas::Grind::common_steps))]
     fn write(&mut self, buf: &[u8]) -> Result<usize, DeviceFault> {
         match self.inner.write(buf) {
@@ -147,6 +155,7 @@ impl<T: Write> Sink for Std<T> {
         }
     }
 
+    /// How many writes have failed so far. One that took none of its bytes counts too.
     fn faults(&self) -> u64 {
         self.count()
     }

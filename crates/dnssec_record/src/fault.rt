@@ -38,7 +38,8 @@ impl ScriptFault {
 impl fmt::Display for ScriptFault {
     ghost output = { λ fault. Some (script_fault_text fault) };
 
-    /// Writes what a program shows its user, as `line 3: malformed`.
+    /// Writes the fault as a program shows it to its user: `line 3: malformed`,
+    /// `input or output fault` or `out of memory`.
     fn fmt<W: fmt::Write>(&self, f: &mut fmt::Formatter<W>) -> fmt::Result {
         match self {
             ScriptFault::Malformed(number) => write!(f, "line {number}: malformed"),
@@ -63,6 +64,7 @@ pub enum CallFault {
 impl From<DeviceFault> for ScriptFault {
     ghost from_gives = { λ _ fault. fault ≡ Device };
 
+    /// The fault `Device`, for a device that failed while a script was read or answered.
     fn from(_: DeviceFault) -> Self {
         ScriptFault::Device
     }
@@ -71,6 +73,8 @@ impl From<DeviceFault> for ScriptFault {
 impl From<ReadFault> for ScriptFault {
     ghost from_gives = { λ read fault. fault ≡ fault_of_reading read };
 
+    /// The fault of a script that can't be read on: `Malformed` with the same line number, or
+    /// `OutOfMemory`.
     fn from(fault: ReadFault) -> Self {
         match fault {
             ReadFault::Malformed(number) => ScriptFault::Malformed(number),
@@ -82,6 +86,7 @@ impl From<ReadFault> for ScriptFault {
 impl From<AllocError> for ScriptFault {
     ghost from_gives = { λ _ fault. fault ≡ OutOfMemory };
 
+    /// The fault `OutOfMemory`, for a request for memory that failed.
     fn from(_: AllocError) -> Self {
         ScriptFault::OutOfMemory
     }
@@ -90,6 +95,7 @@ impl From<AllocError> for ScriptFault {
 impl<T: Drop> From<AllocFailed<T>> for ScriptFault {
     ghost from_gives = { λ _ fault. fault ≡ OutOfMemory };
 
+    /// The fault `OutOfMemory`, for a value that found no room. The value is dropped.
     fn from(_: AllocFailed<T>) -> Self {
         ScriptFault::OutOfMemory
     }

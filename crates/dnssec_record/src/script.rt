@@ -35,7 +35,8 @@ const PIECE: usize = 4096;
 ///
 /// - `Malformed` with the number of the first malformed line. Nothing was written.
 /// - `Device` if `input` or `output` fails. What was written is a beginning of the answers.
-/// - `OutOfMemory` if memory runs out. Nothing was written.
+/// - `OutOfMemory` if memory runs out. Nothing was written. If only the key set lacks memory for a
+///   call, it refuses that call instead.
 ///
 /// ```rust
 /// let mut input = Std::new(rt.stdin());
@@ -95,7 +96,8 @@ pub fn run_script<R: Source, W: Sink>(
     Ok(())
 }
 
-/// Reads all that the input has left.
+/// Reads `input` to its end, and answers all bytes that it had left. It fails with `Device` if a
+/// read fails, which `input` counts, or with `OutOfMemory`. What was read is then lost.
 #[tactic(auto, using(std::proofs::lemmas::Grind::common_steps))]
 fn read_to_end<R: Source>(alloc: Global, input: &mut R) -> Result<Vec<u8>, ScriptFault>
     requires { R.faults input.old < u64.MAX }
@@ -116,9 +118,11 @@ fn read_to_end<R: Source>(alloc: Global, input: &mut R) -> Result<Vec<u8>, Scrip
     }
 }
 
-/// The answers to a script: what each call is answered, then which sets are published, and last the
-/// verdict on the record. At any time it keeps only one call, and of the record only what the zone
-/// keeps.
+/// The whole text that answers `script`: a line for each call, then the sets that are published
+/// after the last one, and last the verdict on all calls. It runs the calls on a new key set, and
+/// keeps one call at a time and no record of them. It fails with `Malformed` at the first malformed
+/// line, or with `OutOfMemory`, and then answers no text. A call that is refused for lack of memory
+/// is no fault.
 fn answer_to(alloc: Global, script: &[u8]) -> Result<String, ScriptFault>
     ensures ok { IfOk result (λ text. IsAnswerOf script.now (string_bytes text)) }
     ensures err { IfErr result (AnswerFault script.now) }
@@ -134,8 +138,9 @@ fn answer_to(alloc: Global, script: &[u8]) -> Result<String, ScriptFault>
     Ok(text)
 }
 
-/// Runs the calls of a script, and answers the run with its record, for a caller who looks at its
-/// positions.
+/// Runs the calls of a script on a new key set, and answers that key set with the record: an entry
+/// for each call in its order, also for a refused one. It is for a caller who looks at what was
+/// published after single calls.
 ///
 /// # Errors
 ///
@@ -168,7 +173,8 @@ pub fn record_script(alloc: Global, script: &[u8]) -> Result<Run, ScriptFault>
     })
 }
 
-/// Writes all of the bytes, or fails with some of them written.
+/// Writes all of `bytes` to `output`, in as many writes as it takes. If one fails, so does this:
+/// `output` has counted that, and has taken a front part of the bytes.
 fn write_all<W: Sink>(output: &mut W, bytes: &[u8]) -> Result<(), DeviceFault>
     requires { W.faults output.old < u64.MAX }
     ensures ok { OnOk result (Appends (W.taken output.old) (W.taken output.new) bytes.now) }

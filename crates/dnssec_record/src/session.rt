@@ -74,12 +74,13 @@ pub struct Session {
 }
 
 impl Session {
-    /// A new key set for the zone that the line names, as the first line of a script does.
+    /// A session with a new key set for the zone that `line` names, as the first line of a script
+    /// does: `zone example.com`, without a line feed.
     ///
     /// # Errors
     ///
     /// - `Malformed(1)` if the line names no zone.
-    /// - `OutOfMemory` if there is no memory, of a line that names one.
+    /// - `OutOfMemory` if the line names a zone, and there is no memory.
     #[tactic(auto, using(crate::proofs::Sessions::names))]
     pub fn open(alloc: Global, line: &[u8]) -> Result<Self, ScriptFault>
         ensures ok { IfOk result (λ session. Stands (line.now ∷ []) [] session) }
@@ -91,13 +92,15 @@ impl Session {
         Ok(Session::new(alloc, name)?)
     }
 
-    /// The session after the lines of a script, as `open` and a `call` for each further line leave
-    /// it. No call is left out for lack of memory.
+    /// A new session for the zone that the first line of `script` names, after the calls of its
+    /// further lines. A refused call counts as if `call` had made it, but one that is refused for
+    /// lack of memory is an error: so none is left out.
     ///
     /// # Errors
     ///
-    /// - `Malformed` with the number of the first malformed line.
-    /// - `OutOfMemory` if there is no memory, for a call too, of a script that begins with a zone.
+    /// - `Malformed` with the number of the first malformed line, counted from 1.
+    /// - `OutOfMemory` if there is no memory, also if a call is refused for lack of it. The script
+    ///   then begins with a zone.
     pub fn resume(alloc: Global, script: &[u8]) -> Result<Self, ScriptFault>
         ensures ok { IfOk result (Resumes script.now) }
         ensures err { IfErr result (AnswerFault script.now) }
@@ -112,7 +115,7 @@ impl Session {
         Ok(session)
     }
 
-    /// A new key set for the zone of this name.
+    /// A session with a new key set for the zone called `name`. No call is made yet.
     ///
     /// # Errors
     ///
@@ -140,7 +143,10 @@ impl Session {
         Ok(Session { zone, moments })
     }
 
-    /// Makes the call of the line, and answers it with a line. A refused call is answered too.
+    /// Makes the call that `line` says, without its line feed, and answers with the line to write.
+    /// A refused call, also one that the key set refuses for lack of memory, is answered too: it
+    /// counts in the record, and leaves the key set and the published sets as they were. A
+    /// malformed line makes no call, and changes nothing.
     ///
     /// # Errors
     ///
@@ -148,7 +154,8 @@ impl Session {
     ///
     /// - `OutOfMemory` if there is no memory for the line or for its answer. The session is as it
     ///   was.
-    /// - `Lost` if memory runs out while the call is made. The session is then of no more use.
+    /// - `Lost` if there is then no memory to note the call or for more of its answer. The session
+    ///   is then of no more use.
     #[tactic(auto, using(crate::proofs::Sessions::speaks))]
     pub fn call(&mut self, alloc: Global, line: &[u8]) -> Result<Response, CallFault>
         ensures ok { IfOk result (Takes self.old line.now self.new) }
@@ -177,15 +184,18 @@ impl Session {
         Ok(Response::Answered(answer))
     }
 
-    /// Makes the call of the line if it is accepted, and answers it with a line. So the calls that
-    /// the session has made are those of the lines that a caller keeps, and their numbers those of
-    /// these lines. It takes as long as the call and a copy of what the session keeps, except the
-    /// moments of its calls. So of the lines before only what the judge keeps of them costs time.
+    /// Makes the call that `line` says, without its line feed, but only if it is accepted, and
+    /// answers with the line to write. After a refusal or a malformed line the session is as it
+    /// was, and nothing counts. So if each call is made this way, the accepted lines are a script
+    /// of the session, in which the calls have the same numbers.
+    ///
+    /// It tries the call on a copy of the zone's state. So it takes as long as the call and that
+    /// copy. Of the calls before, only what the judge keeps of them costs time.
     ///
     /// # Errors
     ///
-    /// `AllocError` if there is no memory, for the call too. The session is then as it was, and the
-    /// line is one that makes a call.
+    /// `AllocError` if there is no memory, also if the call is refused for lack of it. The session
+    /// is then as it was, and the line is one that makes a call.
     #[tactic(auto, using(crate::proofs::Sessions::speaks))]
     pub fn accept(&mut self, alloc: Global, line: &[u8]) -> Result<Attempt, AllocError>
         ensures ok { IfOk result (Tries self.old line.now self.new) }
@@ -209,8 +219,9 @@ impl Session {
         })
     }
 
-    /// Makes the call, and answers its reply. A refused call counts in the record too, also one
-    /// that ran out of memory.
+    /// Makes `call` on the key set of the session, and answers its reply. A refused call changes
+    /// neither the key set nor what is published. It still counts in the record, also if it was
+    /// refused because memory ran out.
     ///
     /// # Errors
     ///
@@ -225,7 +236,9 @@ impl Session {
         self.note(alloc, made)
     }
 
-    /// Takes the moment of the call that the zone has made, and answers the reply to it.
+    /// Finishes a call that `zone` has made: it adds the moment of the call to `moments`, lets
+    /// `zone` give back memory to spare, and answers the reply. If there is no memory for the
+    /// moment, `moments` lacks it, and the session is of no more use.
     fn note(&mut self, alloc: Global, made: TimedReply) -> Result<Reply, AllocError>
         ensures { IfOk result (λ reply.
             (name : List ℕ) (calls : List Call) (entries : List Entry) (call : Call) →
@@ -238,8 +251,8 @@ impl Session {
         Ok(made.reply)
     }
 
-    /// The last two lines of the answers to the lines so far: the sets that are published after the
-    /// last call, and the verdict on the record.
+    /// The two lines that end the answers of `run_script`: the sets that are published after the
+    /// last call, and the verdict on all calls so far. The session stays as it is.
     ///
     /// # Errors
     ///
@@ -261,15 +274,16 @@ impl Session {
         self.zone.keyset()
     }
 
-    /// What is published after the calls so far.
+    /// What is to be published after the calls so far: which keys have a DS, are in the DNSKEY set,
+    /// sign it, and sign the zone.
     pub fn published(&self) -> &Published
         ensures { result.now ≡ self.now.zone.recorder.published }
     {
         self.zone.recorder.published()
     }
 
-    /// The keys that the starts of the rolls in progress listed: for each roll the old ones, then
-    /// the new ones. A key that was deleted since is left out.
+    /// The keys that the starts of the rolls in progress listed, in the order of the starts: for
+    /// each roll the old ones, then the new ones. A key that was deleted since is left out.
     #[tactic(auto, using(std::proofs::lemmas::Grind::common_steps))]
     pub fn listed(&self) -> &[Listing]
         ensures { (name : List ℕ) (calls : List Call) (entries : List Entry) →
@@ -279,9 +293,9 @@ impl Session {
         self.zone.courses.listed()
     }
 
-    /// The rolls that were ended early, in the order of their ends. No call reports what such an
-    /// end asked for. So it stays here until a roll starts that may not go beside the ended one:
-    /// who starts that roll has seen it done.
+    /// The rolls that were ended early, in the order of these ends. No call reports that what such
+    /// an end asked for was done. So a roll stays here until it starts again, or until one starts
+    /// that may not be in progress at the same time: callers start that only once it is done.
     #[tactic(auto, using(std::proofs::lemmas::Grind::common_steps))]
     pub fn ended_early(&self) -> &[RollType]
         ensures { (name : List ℕ) (calls : List Call) (entries : List Entry) →
@@ -290,7 +304,8 @@ impl Session {
         self.zone.courses.ended()
     }
 
-    /// How many calls were made so far, also refused ones: the length of the record.
+    /// How many calls the record has, refused ones included: its length. A call that `accept`
+    /// refused isn't in it.
     #[tactic(auto, using(std::proofs::lemmas::Grind::common_steps))]
     pub fn calls(&self) -> usize
         ensures { (name : List ℕ) (calls : List Call) (entries : List Entry) →
@@ -299,7 +314,10 @@ impl Session {
         self.zone.judge.taken()
     }
 
-    /// The last step of each roll so far: what its next report counts from.
+    /// The last step of each roll so far: its last accepted start or end of its first wait. A roll
+    /// that never started has none, and one that ended keeps its last. If the roll's next report is
+    /// true, and its TTL is over, no cache holds a set of the reported kinds that was replaced by
+    /// that step or earlier.
     #[tactic(auto, using(std::proofs::lemmas::Grind::common_steps))]
     pub fn steps(&self) -> Steps
         ensures { (name : List ℕ) (calls : List Call) (entries : List Entry) →
@@ -308,7 +326,9 @@ impl Session {
         self.zone.judge.steps()
     }
 
-    /// The greatest moment of the calls up to each one so far.
+    /// For each call so far, refused ones included, the greatest moment that it, or a call before
+    /// it, was given as `now`: the start of 1970 if none was. By the callers' clocks the call was
+    /// made at that moment or later.
     #[tactic(auto, using(std::proofs::lemmas::Grind::common_steps))]
     pub fn moments(&self) -> &Moments
         ensures { (name : List ℕ) (calls : List Call) (entries : List Entry) →
@@ -317,7 +337,8 @@ impl Session {
         &self.moments
     }
 
-    /// The verdict on the record so far: what `audit` answers of it.
+    /// The verdict on all calls so far: `None` if there was always a chain of trust or no DS,
+    /// whatever sets caches may have held. Else it names the first three sets without a chain.
     #[tactic(auto, using(std::proofs::lemmas::Grind::common_steps))]
     pub fn verdict(&self) -> Option<Broken>
         ensures { (name : List ℕ) (calls : List Call) (entries : List Entry) →
@@ -327,7 +348,8 @@ impl Session {
     }
 }
 
-/// An error if a call was refused for lack of memory, and only then.
+/// Fails if `reply` says that the call was refused for lack of memory, and only then. So `resume`
+/// leaves no call out.
 fn check_memory(reply: Reply) -> Result<(), AllocError>
     ensures ok { IfOk result (λ _. reply ≢ Refused OutOfMemory) }
     ensures err { IfErr result (λ _. reply ≡ Refused OutOfMemory) }

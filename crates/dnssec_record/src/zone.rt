@@ -41,7 +41,8 @@ pub(crate) struct TimedReply {
 }
 
 impl ZoneState {
-    /// A new key set for the zone of this name.
+    /// The state before any call: a new key set for the zone called `name`, and nothing published.
+    /// It fails only if there is no memory.
     pub(crate) fn new(alloc: Global, name: Name<Vec<u8>>) -> Result<Self, AllocError>
         ensures { IfOk result (λ zone. IsZoneAfter name [] [] zone) }
     {
@@ -57,7 +58,8 @@ impl ZoneState {
         })
     }
 
-    /// A copy after the same calls. It takes its memory from `alloc`.
+    /// A copy, on which a call may be tried while this state stays as it is. It takes its memory
+    /// from `alloc`, and fails only if there is none.
     pub(crate) fn try_clone(&self, alloc: Global) -> Result<Self, AllocError>
         ensures { IfOk result (λ copy. (name : List ℕ) (calls : List Call) (entries : List Entry) →
             IsZoneAfter name calls entries self.now → IsZoneAfter name calls entries copy) }
@@ -76,7 +78,11 @@ impl ZoneState {
         })
     }
 
-    /// Makes the call of a statement.
+    /// Makes the call of `statement`, a line of a script, and answers its reply with the moment
+    /// that it was given. It updates the whole state, also which keys the rolls listed. A refused
+    /// call, also one that ran out of memory, counts in the record, and changes neither keys nor
+    /// what is published. If there is no memory to note the call, it fails, and this state is of no
+    /// more use.
     pub(crate) fn take(
         &mut self,
         alloc: Global,
@@ -90,8 +96,11 @@ impl ZoneState {
         }
     }
 
-    /// Makes the call of a statement, for a caller who doesn't ask what the rolls listed: nothing
-    /// is kept of them.
+    /// Makes the call of `statement`, a line of a script, and answers its reply with the moment
+    /// that it was given. It updates the key set, the published sets and the judge, but not
+    /// `courses`: it is for a caller who doesn't ask which keys the rolls listed. A refused call
+    /// only counts in the record. If there is no memory to note the call, it fails, and this state
+    /// is of no more use.
     pub(crate) fn run(
         &mut self,
         alloc: Global,
@@ -105,8 +114,10 @@ impl ZoneState {
         }
     }
 
-    /// Makes the call, and keeps what the rolls listed. A refused call counts in the record too,
-    /// also one that ran out of memory.
+    /// Makes `call` on the key set, and answers its reply with the moment that it was given. It
+    /// also updates the published sets, the judge, and which keys the rolls listed. A refused call
+    /// counts in the record too, also one that ran out of memory, but changes neither keys nor what
+    /// is published.
     ///
     /// # Errors
     ///
@@ -123,7 +134,10 @@ impl ZoneState {
         Ok(made)
     }
 
-    /// Makes the call, with its record and its verdict.
+    /// Makes `call` on the key set, hands what is then published to the judge, and answers the
+    /// reply with the moment of the call. A refused call only counts in the record. Only `recorder`
+    /// and `judge` change. If there is no memory to note the call, it fails, and this state is of
+    /// no more use.
     fn advance(&mut self, alloc: Global, call: Call<'_>) -> Result<TimedReply, AllocError>
         ensures known { IfOk result (λ made.
             (name : List ℕ) (calls : List Call) (entries : List Entry) →
@@ -152,11 +166,13 @@ impl ZoneState {
         })
     }
 
-    /// Makes the call of a statement, and has the line of its answer.
+    /// Makes the call of `statement`, a line of a script, and updates the whole state. It answers
+    /// the reply with the moment of the call, and the line to write for it, with its line feed.
     ///
     /// # Errors
     ///
-    /// If there is no memory, for the call too. This state is then of no more use.
+    /// If there is no memory, also if the call was refused for lack of it. This state is then of no
+    /// more use.
     pub(crate) fn answer(
         &mut self,
         alloc: Global,
@@ -174,9 +190,11 @@ impl ZoneState {
         Ok((made, answer))
     }
 
-    /// Lets go of room to spare, if there is memory for a copy without it: a map takes its first
-    /// room for nine keys, a roll leaves room, and most zones at rest have two keys or three. What
-    /// the judge keeps may be much, and stays in its place.
+    /// Gives memory to spare back if the zone has at most `FITTED_KEYS` keys: a copy of the
+    /// recorder without it replaces the recorder. If there is little to spare, or no memory for the
+    /// copy, all stays as it is. A map takes its first room for nine keys, a roll leaves room, and
+    /// most zones have two or three keys between rolls. The judge isn't copied, since it may be
+    /// large. No later answer changes by it.
     pub(crate) fn fit(&mut self, alloc: Global)
         ensures { (name : List ℕ) (calls : List Call) (entries : List Entry) →
             IsZoneAfter name calls entries self.old → IsZoneAfter name calls entries self.new }
@@ -189,8 +207,9 @@ impl ZoneState {
         }
     }
 
-    /// Whether it has few keys, and either room for twice as many, or room of rolls that have
-    /// ended.
+    /// Whether a copy of the recorder would give enough memory back to be worth its cost: the zone
+    /// has at most `FITTED_KEYS` keys, and either these are fewer than half of what their map has
+    /// room for, rounded down, or the map of rolls has room though no roll is in progress.
     fn has_room_to_spare(&self) -> bool {
         let keys = self.keyset().keys();
         let rolls = self.keyset().rollstates();
@@ -198,14 +217,16 @@ impl ZoneState {
             && (keys.len() < keys.capacity() / 2 || rolls.is_empty() && rolls.capacity() > 0)
     }
 
-    /// The key set.
+    /// The key set after the calls so far.
     pub(crate) fn keyset(&self) -> &KeySet
         ensures { result.now ≡ self.now.recorder.keyset }
     {
         self.recorder.keyset()
     }
 
-    /// Writes the sets that are published after the last call, and the verdict on the record.
+    /// Appends to `text` the two lines that end the answers: the sets that are published after the
+    /// last call, and the verdict on all calls so far. If memory runs out, it fails, and `text` may
+    /// end in a part of this.
     pub(crate) fn push_closing(&self, text: &mut String) -> Result<(), AllocError>
         ensures { OnOk result ((name : List ℕ) (calls : List Call) (entries : List Entry) →
             Follows name calls entries self.now → (closing : List ℕ)
@@ -217,7 +238,9 @@ impl ZoneState {
     }
 }
 
-/// Writes the line of an answer.
+/// Appends to `text` the line that answers a call with this `reply`: `ok` with the actions that are
+/// due, if any, or `refused: ` with the cause. If memory runs out, it fails, and `text` may end in
+/// a part of this.
 pub(crate) fn push_answer(text: &mut String, reply: &Reply) -> Result<(), AllocError>
     ensures { OnOk result (string_bytes text.new
         ≡ string_bytes text.old ++ reply_text reply.now ++ codes "\n") }
@@ -236,7 +259,9 @@ pub(crate) fn push_answer(text: &mut String, reply: &Reply) -> Result<(), AllocE
     }
 }
 
-/// Writes the line of a refusal. It isn't inlined, so that an accepted call needs no room for it.
+/// Appends to `text` the line that answers a refused call, with the words for its `error`. It isn't
+/// inlined, so that an accepted call needs no room for it. If memory runs out, it fails, and `text`
+/// may end in a part of this.
 #[inline(never)]
 fn push_refusal(text: &mut String, error: &Error) -> Result<(), AllocError>
     ensures { OnOk result (string_bytes text.new
@@ -245,7 +270,7 @@ fn push_refusal(text: &mut String, error: &Error) -> Result<(), AllocError>
     write!(text, "refused: {error}\n")
 }
 
-/// Whether a call with this reply was accepted.
+/// Whether the call that got this `reply` was accepted, and so not refused.
 pub(crate) fn is_accepted(reply: &Reply) -> bool
     ensures { result ≡ is_accepted reply.now }
 {
@@ -255,7 +280,7 @@ pub(crate) fn is_accepted(reply: &Reply) -> bool
     }
 }
 
-/// The name of an action, as answers have it.
+/// The name of an action, as the answers to calls spell it.
 #[tactic(auto, using(std::proofs::lemmas::Grind::common_steps))]
 pub fn action_name(action: Action) -> &'static str
     ensures { result.now ≡ action_name action }
@@ -275,7 +300,9 @@ pub fn action_name(action: Action) -> &'static str
     }
 }
 
-/// Writes the sets that are published after the last call.
+/// Appends to `text` the line with the references of the keys that have a DS, are in the DNSKEY
+/// set, sign it, and sign the zone, as `ds=K dnskey=K,Z signers=K zone=Z`. If memory runs out, it
+/// fails, and `text` may end in a part of this.
 #[tactic(auto, using(std::proofs::lemmas::Grind::common_steps))]
 fn push_published(text: &mut String, published: &Published) -> Result<(), AllocError>
     ensures { OnOk result (string_bytes text.new
@@ -292,7 +319,8 @@ fn push_published(text: &mut String, published: &Published) -> Result<(), AllocE
     text.push_str("\n")
 }
 
-/// Writes a set: its references with commas between them, or `-` for none.
+/// Appends to `text` the references of `keys` with commas between them, or `-` if there is no key.
+/// If memory runs out, it fails, and `text` may end in a part of this.
 fn push_set(text: &mut String, keys: &[PublishedKey]) -> Result<(), AllocError>
     ensures { OnOk result (string_bytes text.new ≡ string_bytes text.old ++ set_text keys.now) }
 {
@@ -307,7 +335,9 @@ fn push_set(text: &mut String, keys: &[PublishedKey]) -> Result<(), AllocError>
     Ok(())
 }
 
-/// Writes the verdict on the record.
+/// Appends to `text` the line with the `verdict` on all calls: `chain safe` if it is `None`, or
+/// else `chain broken` with the first three sets without a chain. If memory runs out, it fails, and
+/// `text` may end in a part of this.
 fn push_chain_line(text: &mut String, verdict: Option<Broken>) -> Result<(), AllocError>
     ensures { OnOk result (string_bytes text.new ≡ string_bytes text.old ++ chain_line verdict) }
 {
@@ -321,7 +351,10 @@ fn push_chain_line(text: &mut String, verdict: Option<Broken>) -> Result<(), All
     }
 }
 
-/// Writes the positions of the first sets without a chain.
+/// Appends to `text` where the chain of trust breaks first, as `at=7 ds=2 dnskey=5 zone=5`: after
+/// call `at` caches may hold the DS set of call `ds`, the DNSKEY set of call `dnskey` and the zone
+/// signers of call `zone`. Calls count from 1, and 0 is the new key set. If memory runs out, it
+/// fails, and `text` may end in a part of this.
 fn push_broken(text: &mut String, broken: Broken) -> Result<(), AllocError>
     ensures { OnOk result (string_bytes text.new ≡ string_bytes text.old ++ broken_text broken) }
 {
@@ -335,7 +368,8 @@ fn push_broken(text: &mut String, broken: Broken) -> Result<(), AllocError>
     push_number(text, broken.zone)
 }
 
-/// Writes a number in decimal.
+/// Appends `number` in decimal digits to `text`. If memory runs out, it fails, and `text` may end
+/// in a part of this.
 fn push_number(text: &mut String, number: usize) -> Result<(), AllocError>
     ensures { OnOk result (string_bytes text.new ≡ string_bytes text.old ++ decimal number) }
 {

@@ -27,7 +27,7 @@ pub struct ByKind<T> {
 }
 
 impl<T: Copy> ByKind<T> {
-    /// That of a kind.
+    /// The value that belongs to sets of the kind `kind`.
     pub fn of(self, kind: SetKind) -> T
         ensures { result ≡ at_kind self (kind_of kind) }
     {
@@ -39,10 +39,10 @@ impl<T: Copy> ByKind<T> {
     }
 }
 
-/// Whether a report of the roll retires sets of this kind: those that the actions due ask to
-/// report. Once the report's TTL is over, it retires those from before the roll's last start or
-/// first wait (RFC 6781, section 4.1; RFC 7583, section 3). The second report of a roll retires
-/// other kinds than the first.
+/// Whether the report of this half of a roll retires older sets of the kind `kind`: those that were
+/// published before the roll's last start or end of its first wait. It does so for each kind that
+/// the actions due before it ask to report. A retired set is in no cache any more once the report's
+/// TTL has passed (RFC 6781, section 4.1; RFC 7583, section 3).
 ///
 /// ```rust
 /// // After the DS report of a KSK roll and its TTL no cache holds the DS set of before the wait.
@@ -58,7 +58,8 @@ pub fn retires(roll: RollType, half: Half, kind: SetKind) -> bool
     }
 }
 
-/// The action that asks to report the sets of this kind.
+/// The action by which a roll asks its operator to report that all servers have the new set of the
+/// kind `kind`.
 fn report_of(kind: SetKind) -> Action
     ensures { result ≡ report_of (kind_of kind) }
 {

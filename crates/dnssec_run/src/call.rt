@@ -137,16 +137,16 @@ pub(crate) struct Meaning<'a> {
     pub(crate) mark: Mark,
     /// The reference of the key that it sets by hand, if any.
     pub(crate) reference_set: Option<&'a str>,
-    /// The lists that show what it sets by hand.
+    /// The published lists that show what it sets by hand.
     pub(crate) sets_shown: ByList,
-    /// Whether these show the key then, if the call alone says so.
+    /// Whether these lists show that key after the call, if the call alone says so.
     pub(crate) is_shown: Option<bool>,
     /// Which key it adds or deletes, if it is accepted.
     pub(crate) change: KeyChange<'a>,
 }
 
 impl Meaning<'_> {
-    /// That of the end of a roll: no moment, no key, and nothing for the caches.
+    /// What the end of a roll means: no moment, no key, and nothing for the caches.
     const NONE: Meaning<'static> = Meaning {
         moment: None,
         mark: Mark::Other,
@@ -158,7 +158,9 @@ impl Meaning<'_> {
 }
 
 impl<'a> Call<'a> {
-    /// What the call means.
+    /// What the call means for a record. It is read from the arguments alone, before the call is
+    /// made: the moment, the mark (what it means for caches), the key that is set by hand, the
+    /// lists that show this, whether they then have the key, and the key that is added or deleted.
     ///
     /// # Errors
     ///
@@ -177,6 +179,7 @@ impl<'a> Call<'a> {
             ≡ reference_deleted (call_of self.now)) }
         ensures err { IfErr result (λ e. e ≡ OutOfMemory) }
     {
+        // By value: a borrowed field has the whole call copied, 47 instructions of each line.
         match *self {
             Call::AddKeyKsk { ref pubref, .. }
             | Call::AddKeyZsk { ref pubref, .. }
@@ -256,7 +259,7 @@ impl<'a> Call<'a> {
         }
     }
 
-    /// Makes the call.
+    /// Makes the call on the key set, and answers its reply. A refused call leaves `set` as it was.
     // Inline, so that no call is copied for it. Adds, setters and the deletion share one answer,
     // so that only one is cleared.
     #[inline(always)]
@@ -328,7 +331,8 @@ impl<'a> Call<'a> {
     }
 }
 
-/// The reply of an add, a setter or a deletion.
+/// The reply to an add, a setter or a deletion, from what the key set answered: `Done`, or the
+/// cause of the refusal.
 fn reply_done(answer: Result<(), Error>) -> Reply
     ensures { reply_of result ≡ reply_done answer }
 {
@@ -338,7 +342,8 @@ fn reply_done(answer: Result<(), Error>) -> Reply
     }
 }
 
-/// The reply of a call on a roll.
+/// The reply to a call on a roll, from what the key set answered: the actions that are due, or the
+/// cause of the refusal.
 fn reply_list(answer: Result<Vec<Action>, Error>) -> Reply
     ensures { reply_of result ≡ reply_list answer }
 {

@@ -8,7 +8,8 @@ use crate::record::{Published, PublishedKey};
 use dnssec_keyset::Error;
 use std::alloc::Global;
 
-/// Copies of keys of a record.
+/// A copy of a list of published keys: the same references and positions in the same order. It
+/// takes its memory from `alloc`, and the only error is `OutOfMemory`.
 fn copy_keys(alloc: Global, keys: &[PublishedKey]) -> Result<Vec<PublishedKey>, Error>
     ensures ok { IfOk result (λ copies. map id_of copies.items ≡ map id_of keys.now) }
     ensures err { IfErr result (λ e. e ≡ OutOfMemory) }
@@ -23,7 +24,8 @@ fn copy_keys(alloc: Global, keys: &[PublishedKey]) -> Result<Vec<PublishedKey>, 
     Ok(copies)
 }
 
-/// A copy of what is published.
+/// A copy of the four lists of what is published, to keep in an entry of a record. It takes its
+/// memory from `alloc`, and the only error is `OutOfMemory`.
 pub(crate) fn copy_sets(alloc: Global, sets: &Published) -> Result<Published, Error>
     ensures ok { IfOk result (λ copy. HasSameKeys copy sets.now) }
     ensures err { IfErr result (λ e. e ≡ OutOfMemory) }

@@ -8,7 +8,8 @@ use dnssec_keyset::Key;
 use std::alloc::{AllocError, Global};
 use std::collections::HashMap;
 
-/// The keys with their references, in the order of the references.
+/// The keys of a key set with their references, in the order of the references' bytes. Only the
+/// list takes memory, from `alloc`.
 ///
 /// # Errors
 ///

@@ -1,6 +1,6 @@
 //! The four lists of what is published.
 
-/// The sets of an entry.
+/// The four lists of what is published.
 #[derive(Clone, Copy, Debug, PartialEq, Eq)]
 pub enum Shown {
     Ds,
@@ -9,7 +9,7 @@ pub enum Shown {
     ZoneSigners,
 }
 
-/// One answer for each list.
+/// One yes or no for each of the four published lists.
 #[derive(Clone, Copy, Drop)]
 pub(crate) struct ByList {
     pub(crate) ds: bool,

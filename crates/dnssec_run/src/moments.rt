@@ -31,7 +31,7 @@ impl Model for Moments {
     ghost view = { λ moments. moments.by_call.items };
 }
 
-/// The start of 1970.
+/// The start of 1970, which is how late it is before any call is given a moment.
 fn start() -> UnixTime
     ensures { result ≡ 0 }
 {
@@ -39,7 +39,7 @@ fn start() -> UnixTime
 }
 
 impl Moments {
-    /// No call is made yet. They take their memory from `alloc`.
+    /// The moments before the first call. They take their memory from `alloc` once calls are taken.
     pub fn new(alloc: Global) -> Self
         ensures { result ≡ [] }
     {
@@ -48,7 +48,8 @@ impl Moments {
         }
     }
 
-    /// Those of a record.
+    /// The moments of the calls of a record: for each entry the greatest moment up to it, which is
+    /// the start of 1970 as long as no call was given one.
     ///
     /// # Errors
     ///
@@ -63,7 +64,7 @@ impl Moments {
         Ok(moments)
     }
 
-    /// A copy, which goes on by itself.
+    /// A copy. A call that one of the two takes from then on doesn't change the other.
     ///
     /// # Errors
     ///
@@ -76,11 +77,12 @@ impl Moments {
         })
     }
 
-    /// Takes the next call by its moment, if it is given one. A refused call is taken too.
+    /// Adds the next call to the list. `moment` is what the call was given as `now`, if anything.
+    /// The greatest moment stays if it is earlier or missing. A refused call is added too.
     ///
     /// # Errors
     ///
-    /// If there is no memory. Nothing is then taken.
+    /// If there is no memory. Nothing is then added.
     pub fn take(&mut self, moment: Option<UnixTime>) -> Result<(), AllocError>
         ensures ok { OnOk result ((entries : List Entry) (entry : Entry) →
             self.old ≡ moments_of entries → entry.moment ≡ moment →
@@ -92,7 +94,7 @@ impl Moments {
         Ok(())
     }
 
-    /// The greatest moment so far.
+    /// The greatest moment of all calls so far. It is the start of 1970 if no call was given one.
     fn latest(&self) -> UnixTime
         ensures { (entries : List Entry) → self.now ≡ moments_of entries →
             result ≡ time_at entries (length entries) }
@@ -100,8 +102,8 @@ impl Moments {
         self.of_call(self.by_call.len()).unwrap_or(start())
     }
 
-    /// The greatest moment of the calls up to this one; none if there is no such call. Calls count
-    /// from 1.
+    /// The greatest moment of the calls up to that at `position`, or `None` if there is no such
+    /// call. Positions count from 1. It is the start of 1970 if none of these calls was given one.
     pub fn of_call(&self, position: usize) -> Option<UnixTime>
         ensures { result ≡ moment_of_call self.now position }
     {

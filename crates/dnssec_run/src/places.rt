@@ -16,8 +16,15 @@ use dnssec_keyset::{Error, KeySet, KeyType};
 use std::alloc::Global;
 use std::collections::BTreeMap;
 
-/// Renews what is published of one key, and says whether that has changed. `says` is whether the
-/// sets that are touched show the key, if the call says so. Notes the frames of the changes.
+/// Brings the published lists `sets` up to date after a call that set the key `reference` by hand,
+/// and answers whether they have changed. Only the lists in `touched` may change, and only this key
+/// comes or goes.
+///
+/// `says` is whether these lists show the key, if the call alone says so. Otherwise the key is
+/// looked up in the key set. `added` has the position of each key's add. `frames` then says how
+/// many keys at the front and at the back of each list stayed.
+///
+/// The only error is `OutOfMemory`. The lists and `frames` are then of no more use.
 pub(crate) fn renew_key(
     alloc: Global,
     keyset: &KeySet,
@@ -71,8 +78,9 @@ pub(crate) fn renew_key(
     Ok(ds | dnskey | signers | zone)
 }
 
-/// The lists that show a key: all or none if the call says so, and else by the key, which is looked
-/// up.
+/// Which of the four published lists show the key `reference`. If `says` isn't `None`, it is the
+/// answer for each list. Otherwise the flags of the key decide, and no list shows a key that isn't
+/// in the key set.
 fn lists_with(keyset: &KeySet, reference: &str, says: Option<bool>) -> ByList
     ensures said { (is_shown : Bool) → says ≡ Some is_shown → (list : Shown) →
         at_list result list ≡ is_shown }
@@ -89,7 +97,7 @@ fn lists_with(keyset: &KeySet, reference: &str, says: Option<bool>) -> ByList
     }
 }
 
-/// The lists that show a key of this kind, in its state.
+/// Which of the four published lists show a key of this kind, by the flags of its roles.
 fn lists_showing(keytype: &KeyType) -> ByList
     ensures { (list : Shown) → at_list result list ≡ shows list keytype.now }
 {
@@ -101,8 +109,12 @@ fn lists_showing(keytype: &KeyType) -> ByList
     }
 }
 
-/// Puts a key into a list that shows it, or takes it out of one that doesn't, if the list may have
-/// changed. Says whether it has, and notes what stands around the place of the key.
+/// Brings one published list up to date for the key `reference`, and answers whether it has
+/// changed. If the call touched the list (`is_touched`), `keys` then has the key only if
+/// `is_shown`, with the position of its add, which `added` has. Any other list stays.
+///
+/// `frame` then says how many keys at the front and at the back of the list stayed. The only error
+/// is `OutOfMemory`. The list and `frame` are then of no more use.
 // It only tests, so that a list that stays costs no call.
 #[inline(always)]
 fn renew_place(
@@ -135,8 +147,13 @@ fn renew_place(
     place_key(alloc, is_shown, added, keys, reference, frame)
 }
 
-/// Puts a key into a list at the position of its add, or takes it out. Says whether the list has
-/// changed, and notes what stands around the place of the key.
+/// Puts the key `reference` into the list `keys` if `is_shown`, or else takes it out, and answers
+/// whether the list has changed. A key comes in with the position of its add, which `added` has,
+/// and at its place in the order of the references. A key that is there already stays, and one
+/// without a position doesn't come in.
+///
+/// `frame` then says how many keys stand before and after that place. The only error is
+/// `OutOfMemory`. The list and `frame` are then of no more use.
 #[inline(never)]
 fn place_key(
     alloc: Global,

@@ -30,8 +30,9 @@ pub enum Reply {
 }
 
 impl Reply {
-    /// The lists that the call may have changed: those that show what it set by hand, and those
-    /// that its reply asks to publish.
+    /// Which of the four published lists the call with this reply may have changed: those in
+    /// `by_hand`, which show what it set by hand, and those that the actions of the reply ask to
+    /// publish. With the DNSKEY set come the keys that sign it.
     pub(crate) fn touched(&self, by_hand: ByList) -> ByList
         ensures { (list : Shown) → at_list result list
             ≡ (at_list by_hand list || list_any (updates (kind_shown list)) (asked_by self.now)) }
@@ -79,7 +80,8 @@ pub struct Published {
 }
 
 impl Published {
-    /// Four empty sets.
+    /// Four empty lists, since a new zone publishes nothing. They take their memory from `alloc`
+    /// once keys come in.
     pub(crate) fn none(alloc: Global) -> Published
         ensures ds { result.ds.items ≡ [] }
         ensures dnskey { result.dnskey.items ≡ [] }
@@ -94,7 +96,9 @@ impl Published {
         }
     }
 
-    /// The set of a kind, with its signers. Only a DNSKEY set has some.
+    /// The published set of this kind as two lists of keys: its keys, and the keys that sign it.
+    /// The second list is empty unless it is the DNSKEY set. For `ZoneSigners` the first one has
+    /// the keys that sign the zone.
     pub fn of(&self, kind: SetKind) -> (&[PublishedKey], &[PublishedKey])
         ensures { (map id_of result.0.now, map id_of result.1.now)
             ≡ set_in (kind_of kind) self.now }
@@ -107,8 +111,8 @@ impl Published {
     }
 }
 
-/// What stands around the change of a list: so many keys at its front and at its back are those of
-/// the list before, in their order.
+/// What a change of a published list has left: so many keys at its front and at its back are those
+/// of the list before, in their order.
 #[derive(Clone, Copy, Debug, PartialEq, Eq)]
 pub struct Frame {
     pub front: usize,
@@ -138,7 +142,9 @@ impl Frames {
         zone_signers: Frame::NONE,
     };
 
-    /// Those of the set of a kind, and of its signers. Only a DNSKEY set has some.
+    /// The frame of the published set of this kind, and that of the keys that sign it: how many
+    /// keys at the front and at the back of each list the change has left. The second is
+    /// `Frame::NONE` unless it is the DNSKEY set.
     pub fn of(&self, kind: SetKind) -> (Frame, Frame)
         ensures { result ≡ frames_in (kind_of kind) self.now }
     {
@@ -153,10 +159,10 @@ impl Frames {
 /// What an accepted call means for the caches that hold what was published before.
 #[derive(Clone, Copy, Debug, PartialEq)]
 pub enum Mark {
-    /// Any other call, and each refused one. It may change what is published, as a second wait or a
-    /// setter does.
+    /// Any other call, and each refused one. It may change what is published, as the end of a
+    /// second wait or a setter does.
     Other,
-    /// A start or a first wait of the roll: what its next report counts from.
+    /// A start of the roll, or the end of its first wait: what its next report counts from.
     Step(RollType),
     /// A report of the roll, with the TTL that it was given, in seconds. If the report is true, no
     /// cache holds older data for longer than that.
@@ -202,12 +208,13 @@ pub struct Run {
 /// call between the two has changed it. A set that comes back comes anew.
 pub type Origins = ByKind<usize>;
 
-/// The last step of a roll: its last accepted start or first wait.
+/// The last step of a roll: its last accepted start or end of its first wait.
 #[derive(Clone, Copy, Debug)]
 pub struct LastStep {
     /// Its position.
     pub at: usize,
-    /// Those of the sets that it left. Of a kind that it has changed, that is its position.
+    /// The origins of the sets that are published after it. A set that it has changed has its
+    /// position.
     pub origins: Origins,
 }
 
@@ -225,7 +232,7 @@ pub struct Steps {
 }
 
 impl Origins {
-    /// Those of position 0.
+    /// The origins before the first call: each set came at position 0, where nothing is published.
     fn first() -> Self
         ensures { (kind : AnyKind) → origin_in result kind ≡ 0 }
     {
@@ -236,7 +243,9 @@ impl Origins {
         }
     }
 
-    /// Those at position `at`, which comes after the position `before`.
+    /// The origins of the sets that are published at position `at` of the record `entries`. `self`
+    /// has those of the position `before`, which comes right before it. A kind of sets that is the
+    /// same at both keeps its origin, and any other has the origin `at`.
     fn after(self, entries: &[Entry], before: usize, at: usize) -> Self
         ensures { (kind : AnyKind) → origin_in result kind
             ≡ (if same_set (set_at kind (position_at entries.now before))
@@ -249,6 +258,10 @@ impl Origins {
         }
     }
 
+    /// The origin of the set of this kind that is published at position `at` of the record
+    /// `entries`: the position of the call that brought it. `self` has the origins at the position
+    /// `before`, which comes right before it. The answer is `at` if the keys of the set, or those
+    /// that sign it, differ between the two positions, and else the origin in `self`.
     fn after_of(self, kind: SetKind, entries: &[Entry], before: usize, at: usize) -> usize
         ensures { result ≡ (if same_set (set_at (kind_of kind) (position_at entries.now before))
             (set_at (kind_of kind) (position_at entries.now at))
@@ -264,7 +277,9 @@ impl Origins {
     }
 }
 
-/// The set of a kind at a position, with its signers.
+/// The set of this kind that is published at a position of the record, as two lists of keys: its
+/// keys, and the keys that sign it, which only a DNSKEY set has here. Positions count from 1. Both
+/// lists are empty at position 0, and after the record's end.
 fn set_at(kind: SetKind, entries: &[Entry], position: usize) -> (&[PublishedKey], &[PublishedKey])
     ensures { (map id_of result.0.now, map id_of result.1.now)
         ≡ set_at (kind_of kind) (position_at entries.now position) }
@@ -278,7 +293,8 @@ fn set_at(kind: SetKind, entries: &[Entry], position: usize) -> (&[PublishedKey]
     }
 }
 
-/// Whether the lists have the same keys.
+/// Whether the two lists have the same keys in the same order. A key is the same only if it has the
+/// same reference and was added by the same call.
 fn are_same(one: &[PublishedKey], other: &[PublishedKey]) -> bool
     ensures { result ≡ same_ids (map id_of one.now) (map id_of other.now) }
 {
@@ -296,14 +312,16 @@ fn are_same(one: &[PublishedKey], other: &[PublishedKey]) -> bool
 }
 
 impl Steps {
-    /// No roll has a step.
+    /// The steps before the first call: no roll has one.
     pub fn new() -> Self
         ensures { (roll : RollType) → step_of result roll ≡ None }
     {
         Steps { by_roll: [None; 6] }
     }
 
-    /// The last steps of a record.
+    /// The last step of each roll by a whole record: its last accepted start or end of its first
+    /// wait. With it come the origins of the sets that were then published: the positions of the
+    /// calls that brought them. A roll without such a call has no step.
     pub fn of_record(entries: &[Entry]) -> Self
         ensures { AreStepsOf entries.now result }
     {
@@ -316,15 +334,18 @@ impl Steps {
         steps
     }
 
-    /// The last step of the roll, if any.
+    /// The last accepted start of the roll or end of its first wait, which its next report counts
+    /// from. `None` if the roll has made none.
     pub fn of(self, roll: RollType) -> Option<LastStep>
         ensures { result ≡ step_of self roll }
     {
         self.by_roll[roll as usize]
     }
 
-    /// Notes a call with this mark at the position, and the origins of the sets that are published
-    /// there.
+    /// Takes the next call, which stands at position `at` and has this mark. `origins` has for each
+    /// set that is published after it the position of the call that brought the set. If the mark is
+    /// that of an accepted start or end of a first wait, the call becomes the last step of its
+    /// roll. Any other call changes nothing.
     pub fn note(&mut self, mark: Mark, at: usize, origins: Origins)
         ensures { (roll : RollType) → step_of self.new roll ≡ (if is_step roll mark
             then Some (record { at = at; origins = origins }) else step_of self.old roll) }

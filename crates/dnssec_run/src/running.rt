@@ -27,7 +27,9 @@ use dnssec_keyset::{Error, KeySet};
 use std::alloc::Global;
 use std::collections::BTreeMap;
 
-/// Notes the position of a key that was added, or that a key is gone. Says whether there was one.
+/// Keeps `added`, the position of each key's add by its reference, up to date after the accepted
+/// call at position `at`. `change` is which key the call added or deleted. Answers whether it added
+/// or deleted one. The only error is `OutOfMemory`, and `added` is then of no more use.
 #[tactic(auto, using(std::proofs::lemmas::Map::Text::text_keys))]
 fn note(
     added: &mut BTreeMap<String, usize>,
@@ -81,8 +83,8 @@ pub struct Recorder {
 }
 
 impl Recorder {
-    /// A new key set for the zone of this name, before its first call. It takes its memory from
-    /// `alloc`.
+    /// A recorder with a new key set for the zone of this name, before its first call. It takes its
+    /// memory from `alloc`.
     pub fn new(alloc: Global, name: Name<Vec<u8>>) -> Self
         ensures { Records name [] [] result }
     {
@@ -96,10 +98,12 @@ impl Recorder {
         }
     }
 
-    /// Makes the next call, and says what it came to. A refused call has an outcome too, also one
-    /// that was refused because memory ran out.
+    /// Makes the next call on the key set, and answers its outcome: an entry without the published
+    /// sets. A refused call has an outcome too, also one that was refused because memory ran out.
+    /// It counts as a position of the record, and changes nothing else.
     ///
-    /// The sets are read anew only after an accepted call that may have changed them.
+    /// The published sets and `frames` are renewed only after an accepted call that may have
+    /// changed them.
     ///
     /// # Errors
     ///
@@ -158,7 +162,9 @@ impl Recorder {
         })
     }
 
-    /// Makes the next call, and answers its entry, as a record has it.
+    /// Makes the next call on the key set, and answers its entry of the record, with a copy of what
+    /// is then published. A refused call has an entry too, also one that was refused because memory
+    /// ran out.
     ///
     /// # Errors
     ///
@@ -188,8 +194,8 @@ impl Recorder {
         &self.published
     }
 
-    /// What is published after the calls so far, if the last call may have changed it. `outcome` is
-    /// what that call came to.
+    /// What is published after the calls so far, or `None` if the last call can't have changed it.
+    /// `outcome` is what `advance` answered for that call.
     pub fn news(&self, outcome: &Outcome) -> Option<&Published>
         ensures { option_map (λ sets. sets.now) result
             ≡ (if outcome.now.may_publish then Some self.now.published else None) }
@@ -231,7 +237,7 @@ impl Recorder {
         })
     }
 
-    /// The key set after the calls so far.
+    /// Gives up the recorder, and answers its key set after the calls so far.
     pub fn into_keyset(self) -> KeySet
         ensures { result ≡ self.keyset }
     {
@@ -247,20 +253,22 @@ impl Recorder {
 /// A list is plain if it sets no flag and no time by hand, and the first wait of an algorithm roll
 /// is over before the first roll of KSKs or CSKs. Another signer's key may be published and taken
 /// out by hand at any time. In a plain list every position of the record is safe. That is: take any
-/// DS set, DNSKEY set and zone signers that no report has retired. Either there is no DS, or a key
-/// that the DS names is in that DNSKEY set and signs it, and a key of that set signs the zone (RFC
-/// 4035, section 5).
+/// DS set, DNSKEY set and zone signers that were published up to there, and that no report has
+/// retired whose TTL has passed. Either there is no DS, or a key that the DS names is in that
+/// DNSKEY set and signs it, and a key of that set signs the zone (RFC 4035, section 5).
 ///
 /// A plain list keeps the sets whole if after each accepted start the algorithms of its KSKs are
 /// among those of its ZSKs, and only an algorithm roll gives the KSKs a new one. Keys count that
 /// aren't old and are in a set; a CSK counts as both. Then each algorithm of the DS set has such a
 /// chain by its keys alone, for validators that ask for it (RFC 4035, section 2.2).
 ///
-/// If nothing is set by hand but other signers' keys, no wait lacks a stamp, and between the rolls
-/// each role of a key is future, active or stale. A started roll goes on by its reports, waits and
-/// its end. Each key that it listed as old is then stale or was deleted, and each that it listed as
-/// new is at work. If also the moments never fall, a wait is over once the TTL of its report has
-/// passed since the event that it waits on (RFC 7583, section 3).
+/// If nothing is set by hand but other signers' keys, no wait lacks a stamp. While no roll is in
+/// progress, each role of a key is future (in no set, and not old), active (present, signing, not
+/// old, and as a KSK with a DS) or stale (in no set, and old). A report, and the end of a roll, is
+/// accepted in its phase. After that end each key that the roll listed as old is stale or was
+/// deleted, and each that it listed as new is active. If also the moments never fall, a wait is
+/// over once the TTL of its report has passed since that report. Both waits of a
+/// `ZskDoubleSignatureRoll` count from its first report (RFC 7583, section 3).
 ///
 /// An early end of a roll gives each key that the roll's start listed the flags that it had before
 /// that start. Only a key that was deleted, or had a flag set by hand since, is left as it is. The

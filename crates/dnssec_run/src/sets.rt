@@ -25,7 +25,9 @@ use std::mem;
 const MANY: usize = 16;
 
 impl Shown {
-    /// Whether the set shows a key of this kind, in its state.
+    /// Whether this published list has a key of this kind, by the flags of its roles: a DS at the
+    /// parent, present in the DNSKEY set, or a signer of the DNSKEY set or of the zone. Another
+    /// signer's key is only in the DNSKEY set.
     pub(crate) fn shows(self, keytype: KeyType) -> bool
         ensures { result ≡ shows self keytype }
     {
@@ -61,7 +63,8 @@ struct Renewal {
 }
 
 impl Renewal {
-    /// Takes the keys of before out of their place. None of them is read yet.
+    /// Begins to read a list anew. It takes the keys out of `before`, which is then empty, and none
+    /// of them is read yet. `is_touched` is whether the list may have changed.
     fn new(alloc: Global, before: &mut Vec<PublishedKey>, is_touched: bool) -> Self
         ensures none { ids_read result ≡ [] }
         ensures fits { result.read ≤ vec_len result.keys }
@@ -78,8 +81,11 @@ impl Renewal {
         }
     }
 
-    /// Reads the next key of all by its kind, and has it in the set if the set shows it. It is
-    /// called four times for each key, and mostly nothing changes.
+    /// Reads the next key of the key set, in the order of the references. The list then has it as
+    /// its last read key if `shown` shows a key of this kind. `added` is the position of the call
+    /// that added the key. A list that isn't touched stays as it is. The only error is
+    /// `OutOfMemory`, and the list is then of no more use. It is inlined, since it is called four
+    /// times for each key, and mostly nothing changes.
     #[inline(always)]
     fn show(
         &mut self,
@@ -117,9 +123,12 @@ impl Renewal {
         }
     }
 
-    /// Puts a key in if the set shows it, or else takes the next key of before out. After many such
-    /// changes in place it drops what is left of before. So a set takes time for its keys, and not
-    /// for their square.
+    /// Changes the list at the place that is read next. If `is_shown`, it puts in the key at
+    /// `reference`, with the position `added` of the call that added the key. Otherwise it takes
+    /// out the old key that stands there, if there is one. `around` then says how many keys at the
+    /// front and at the back are as before. After `MANY` changes it first drops all old keys that
+    /// aren't read yet, so that the time doesn't grow with the square of their number. The only
+    /// error is `OutOfMemory`. The list is then of no more use.
     fn change(
         &mut self,
         alloc: Global,
@@ -163,7 +172,8 @@ impl Renewal {
         Ok(())
     }
 
-    /// Drops the keys of before that weren't met yet.
+    /// Drops the old keys that weren't read yet. The keys that were read stay, and no key at the
+    /// back of the list counts as unchanged any more.
     fn drop_rest(&mut self)
         requires { self.old.read ≤ vec_len self.old.keys }
         ensures same { ids_read self.new ≡ ids_read self.old }
@@ -181,7 +191,9 @@ impl Renewal {
         self.keys.truncate(self.read);
     }
 
-    /// The set, after all keys were read. Notes what stands around its changes.
+    /// Ends the reading, after all keys were read, and answers the list. Old keys that weren't read
+    /// are dropped from a list that the call touched. `frame` then says how many keys at the front
+    /// and at the back are as before.
     fn into_keys(self, frame: &mut Frame) -> Vec<PublishedKey>
         ensures touched { self.is_touched ≡ true → map id_of result.items ≡ ids_read self }
         ensures left { self.is_touched ≡ false → result.items ≡ self.keys.items }
@@ -215,7 +227,7 @@ pub(crate) struct WalkOrder {
 }
 
 impl WalkOrder {
-    /// The order of no keys.
+    /// No order yet. It counts as stale, so that the first walk sorts the references.
     pub(crate) fn new(alloc: Global) -> Self {
         WalkOrder {
             places: Vec::new(alloc),
@@ -223,9 +235,12 @@ impl WalkOrder {
         }
     }
 
-    /// The keys of a set with their references, as a walk over the map lends them. After a key
-    /// came or went it brings them into order. Most of them stand where they stood before, so the
-    /// sort begins with the last order.
+    /// The keys of a key set with their references, in the order in which the map gives them. If
+    /// `self` is stale, as a key came or went since the last walk, it also sorts the references by
+    /// their bytes and keeps their order in `self`, which isn't stale any more. Most places are as
+    /// before, so the sort begins with the last order.
+    ///
+    /// The only error is `OutOfMemory`. The order is then as it was.
     fn walk<'a>(
         &mut self,
         alloc: Global,
@@ -256,8 +271,9 @@ impl WalkOrder {
     }
 }
 
-/// The key at a reference: that of the entry at this place, if it is there. Else it is looked up.
-/// Few keys have no entries, and are walked over, which costs less than a look-up.
+/// The key with this reference, or `None` if there is none. `entries` are those of a walk over the
+/// keys, and `place` is where the key should stand among them. If it doesn't, it is looked up. For
+/// few keys `entries` is empty: they are walked over, which costs less.
 fn key_at<'a>(
     keys: &'a HashMap<String, Key>,
     entries: &[(&'a String, &'a Key)],
@@ -282,9 +298,16 @@ fn key_at<'a>(
     keys.get(reference.as_str())
 }
 
-/// Renews the sets that a call has touched, and says whether there are any. After a setter it looks
-/// only at the key that was set, and says whether they have changed. `says` is whether these sets
-/// show that key, if the call says so. Notes the frames of the changes.
+/// Brings the published lists `sets` up to date after an accepted call. Only the lists in `touched`
+/// are read anew. `added` has the position of the call that added each key. If the answer is
+/// `true`, `frames` says how many keys at the front and at the back of each list stayed.
+///
+/// If the call set a key by hand, `only` is its reference. Then only this key is looked at, and the
+/// answer is whether the lists have changed. `says` is whether the touched lists show this key, or
+/// `None` if its flags decide. Without `only` all keys are read, and the answer is whether a list
+/// is touched, so that it may have changed. `order` keeps the order of the keys for the next call.
+///
+/// The only error is `OutOfMemory`. The lists are then of no more use.
 #[inline(always)]
 pub(crate) fn renew(
     alloc: Global,
@@ -321,9 +344,12 @@ pub(crate) fn renew(
     Ok(true)
 }
 
-/// Renews the sets that a call has touched: reads all keys with their positions, in one walk in the
-/// order of the references, and uses again what was published before. Notes the frames of the
-/// changes.
+/// Brings the lists of `sets` that are in `touched` up to date from the whole key set: a walk over
+/// all keys, in the order of their references, reads each with its position from `added`. Keys
+/// that were published before stay in place. `order` keeps that order for the next call. `frames`
+/// then says how many keys at the front and at the back of each list stayed.
+///
+/// The only error is `OutOfMemory`. The lists are then of no more use.
 // Out of line, so that a call that touches no set doesn't clear the room for its lists.
 #[inline(never)]
 fn renew_all(

@@ -27,8 +27,8 @@ use std::time::Duration;
 /// How many bytes are looked at together.
 const LANES: usize = 16;
 
-/// The text up to the first such byte, and what comes after it; none if it has no such byte. Each
-/// byte of a script is read here first, so it looks at many at a time.
+/// The text before the first `byte`, and the text after it. Without such a byte it is the whole
+/// text, and `None`. Each byte of a script is read here first, so it looks at many at a time.
 pub(crate) fn split_once(text: &[u8], byte: u8) -> (&[u8], Option<&[u8]>)
     ensures { slice_split (λ b. b == byte) text.now ≡ result.0.now ∷ parts_left byte result.1 }
 {
@@ -52,7 +52,8 @@ pub(crate) fn split_once(text: &[u8], byte: u8) -> (&[u8], Option<&[u8]>)
     (text, None)
 }
 
-/// Whether the text is visible ASCII characters, except the comma, and not a single `-`.
+/// Whether the text has the form of a key's reference: one or more visible ASCII characters, except
+/// the comma, and not a single `-`.
 #[tactic(auto, unfolding(crate::specs::Script::is_reference))]
 fn is_reference(text: &[u8]) -> bool
     ensures { result ≡ is_reference text.now }
@@ -64,7 +65,7 @@ fn is_reference(text: &[u8]) -> bool
             .all(|byte| byte.is_ascii_graphic() && *byte != b',')
 }
 
-/// A flag, from `yes` or `no`.
+/// The flag that the text says: true for `yes`, false for `no`, and `None` for any other text.
 #[tactic(auto, using(crate::proofs::Ascii::steps), unfolding(crate::specs::Script::as_yes_no))]
 fn yes_no(text: &[u8]) -> Option<bool>
     ensures { option_map Flag result ≡ as_yes_no text.now }
@@ -78,7 +79,7 @@ fn yes_no(text: &[u8]) -> Option<bool>
     }
 }
 
-/// The text, if it is ASCII.
+/// The bytes as a text, or `None` if they aren't all ASCII.
 #[tactic(auto, using(crate::proofs::Ascii::steps))]
 fn ascii(text: &[u8]) -> Option<&str>
     ensures same { IfSome result (λ ascii. ascii.now ≡ text.now) }
@@ -90,7 +91,8 @@ fn ascii(text: &[u8]) -> Option<&str>
     Some(unsafe { str::from_utf8_unchecked(text) })
 }
 
-/// A number up to `most`.
+/// The number that 1 to 20 decimal digits write, or `None` for any other text, and for a number
+/// above `most`.
 #[tactic(auto, unfolding(crate::specs::Script::is_number))]
 fn number(most: u64, text: &[u8]) -> Option<u64>
     ensures bound { IfSome result (λ n. n ≤ most) }
@@ -111,7 +113,7 @@ fn number(most: u64, text: &[u8]) -> Option<u64>
     if number <= most { Some(number) } else { None }
 }
 
-/// A key's reference.
+/// The text as a key's reference, or `None` if it doesn't have the form of one.
 #[tactic(auto, using(crate::proofs::Ascii::steps), unfolding(crate::specs::Script::as_reference))]
 fn reference(text: &[u8]) -> Option<&str>
     ensures read { option_map (λ q. Reference q.now) result ≡ as_reference text.now }
@@ -125,7 +127,8 @@ fn reference(text: &[u8]) -> Option<&str>
     Some(unsafe { str::from_utf8_unchecked(text) })
 }
 
-/// A private reference, or none from `-`.
+/// What the text says of a key's private part: `Some(None)` for `-`, which says that there is none,
+/// or its reference. `None` if the text has neither form.
 #[tactic(auto, unfolding(crate::specs::Script::as_private, crate::specs::Script::as_reference))]
 fn private(text: &[u8]) -> Option<Option<&str>>
     ensures { option_map (λ q. Private (option_map now q)) result ≡ as_private text.now }
@@ -137,7 +140,8 @@ fn private(text: &[u8]) -> Option<Option<&str>>
     }
 }
 
-/// An algorithm, by its number or its name.
+/// The algorithm that the text names, by its number up to 255 or by its name, or `None` for any
+/// other text.
 #[tactic(auto, using(crate::proofs::Ascii::steps), unfolding(crate::specs::Script::as_algorithm))]
 fn algorithm(text: &[u8]) -> Option<SecurityAlgorithm>
     ensures { option_map Number result ≡ as_algorithm text.now }
@@ -166,14 +170,16 @@ impl<'a> Model for Fields<'a> {
 }
 
 impl<'a> Fields<'a> {
-    /// The fields of a line.
+    /// All fields of a line, the texts between its single spaces. None of them is read yet. An
+    /// empty line has one field, which is empty.
     pub fn of(line: &'a [u8]) -> Self
         ensures { result ≡ fields_of line.now }
     {
         Fields { rest: Some(line) }
     }
 
-    /// The next field, and those after it.
+    /// The next field, and those after it, or `None` if no field is left. Between two spaces in a
+    /// row stands an empty field.
     pub fn next(self) -> Option<(&'a [u8], Fields<'a>)>
         ensures { option_map (λ x. (x.0.now, x.1)) result ≡ first_field self.entry }
     {
@@ -181,7 +187,7 @@ impl<'a> Fields<'a> {
         Some((field, Fields { rest }))
     }
 
-    /// Whether no field is left.
+    /// `Some` if no field is left, and `None` if one is: that line has a field too many.
     pub fn end(self) -> Option<()>
         ensures { option_map (λ _. []) result ≡ values_of [] self.entry }
     {
@@ -191,7 +197,8 @@ impl<'a> Fields<'a> {
         }
     }
 
-    /// The word with which a line begins, and the fields after it.
+    /// The word with which a line begins, and the fields after it, or `None` if a script has no
+    /// such word.
     #[tactic(auto, using(crate::proofs::Ascii::steps), unfolding(crate::specs::Script::word_named))]
     pub(crate) fn after_word(line: &'a [u8]) -> Option<(Word, Fields<'a>)>
         ensures { option_map (λ x. (x.0, x.1)) result ≡ word_at (fields_of line.now) }
@@ -223,7 +230,8 @@ impl<'a> Fields<'a> {
         Some((word, Fields { rest }))
     }
 
-    /// The next field as a reference.
+    /// Reads the next field as a key's reference. Answers it and the fields after it, or `None` if
+    /// it is missing or has another form.
     pub(crate) fn reference(self) -> Option<(&'a str, Fields<'a>)>
         ensures { option_map (λ x. (Reference x.0.now, x.1)) result
             ≡ value_at as_reference self.entry }
@@ -232,7 +240,8 @@ impl<'a> Fields<'a> {
         Some((reference(text)?, fields))
     }
 
-    /// The next field as a private reference, or none.
+    /// Reads the next field as the reference of a key's private part, or `-` for none. Answers it
+    /// and the fields after it, or `None` if it is missing or has another form.
     pub(crate) fn private(self) -> Option<(Option<&'a str>, Fields<'a>)>
         ensures { option_map (λ x. (Private (option_map now x.0), x.1)) result
             ≡ value_at as_private self.entry }
@@ -241,7 +250,8 @@ impl<'a> Fields<'a> {
         Some((private(text)?, fields))
     }
 
-    /// The next field as yes or no.
+    /// Reads the next field as `yes` or `no`. Answers that flag and the fields after it, or `None`
+    /// if it is missing or has another form.
     #[inline(always)]
     pub(crate) fn yes_no(self) -> Option<(bool, Fields<'a>)>
         ensures { option_map (λ x. (Flag x.0, x.1)) result ≡ value_at as_yes_no self.entry }
@@ -250,7 +260,8 @@ impl<'a> Fields<'a> {
         Some((yes_no(text)?, fields))
     }
 
-    /// The next field as a roll.
+    /// Reads the next field as the name of a roll, as `ksk-roll`. Answers the roll and the fields
+    /// after it, or `None` if it is missing or names no roll.
     #[tactic(auto, using(crate::proofs::Rolls::rolls), unfolding(crate::specs::Script::as_roll))]
     pub(crate) fn roll(self) -> Option<(RollType, Fields<'a>)>
         ensures { option_map (λ x. (Roll x.0, x.1)) result ≡ value_at as_roll self.entry }
@@ -259,7 +270,8 @@ impl<'a> Fields<'a> {
         Some((ascii(text)?.parse().ok()?, fields))
     }
 
-    /// The next field as an algorithm.
+    /// Reads the next field as an algorithm, by its number up to 255 or by its name. Answers it and
+    /// the fields after it, or `None` if it is missing or has another form.
     pub(crate) fn algorithm(self) -> Option<(SecurityAlgorithm, Fields<'a>)>
         ensures { option_map (λ x. (Number x.0, x.1)) result ≡ value_at as_algorithm self.entry }
     {
@@ -267,7 +279,8 @@ impl<'a> Fields<'a> {
         Some((algorithm(text)?, fields))
     }
 
-    /// The next field as a key tag.
+    /// Reads the next field as a key tag, a number up to 65535. Answers it and the fields after it,
+    /// or `None` if it is missing or has another form.
     pub(crate) fn tag(self) -> Option<(u16, Fields<'a>)>
         ensures { option_map (λ x. (Number x.0, x.1)) result ≡ value_at as_tag self.entry }
     {
@@ -275,7 +288,8 @@ impl<'a> Fields<'a> {
         Some((number as u16, fields))
     }
 
-    /// The next field as a TTL.
+    /// Reads the next field as a TTL in seconds, a number of 32 bits. Answers it and the fields
+    /// after it, or `None` if it is missing or has another form.
     pub fn ttl(self) -> Option<(u32, Fields<'a>)>
         ensures { option_map (λ x. (Number x.0, x.1)) result ≡ value_at as_ttl self.entry }
     {
@@ -283,7 +297,8 @@ impl<'a> Fields<'a> {
         Some((number as u32, fields))
     }
 
-    /// The next field as a number up to `most`.
+    /// Reads the next field as a number up to `most`, in 1 to 20 decimal digits. Answers it and the
+    /// fields after it, or `None` if it is missing or has another form.
     #[inline(always)]
     #[tactic(auto, unfolding(crate::specs::Script::as_number))]
     pub fn number(self, most: u64) -> Option<(u64, Fields<'a>)>
@@ -295,7 +310,8 @@ impl<'a> Fields<'a> {
         Some((number(most, text)?, fields))
     }
 
-    /// The next field as a moment.
+    /// Reads the next field as a moment in whole seconds since 1970. Answers it and the fields
+    /// after it, or `None` if it is missing or has another form.
     #[inline(always)]
     #[tactic(auto, unfolding(crate::specs::Script::as_time))]
     pub fn time(self) -> Option<(UnixTime, Fields<'a>)>
@@ -306,7 +322,8 @@ impl<'a> Fields<'a> {
         Some((UnixTime::from(Duration::from_secs(seconds)), fields))
     }
 
-    /// The moment that is the last field.
+    /// Reads the last field as a moment in whole seconds since 1970. `None` if it has another form,
+    /// or if it isn't the only field that is left.
     pub(crate) fn last_time(self) -> Option<UnixTime>
         ensures { option_map (λ t. Moment t ∷ []) result ≡ values_of (as_time ∷ []) self.entry }
     {
@@ -315,7 +332,8 @@ impl<'a> Fields<'a> {
         Some(time)
     }
 
-    /// The next field as a list: references with single commas between them, or `-` for none.
+    /// Reads the next field as a list: references with single commas between them, or `-` for none.
+    /// Answers it and the fields after it, or `None` if it is missing or has another form.
     #[tactic(auto, unfolding(crate::specs::Script::as_list))]
     pub(crate) fn list(self) -> Option<(ReferenceList<'a>, Fields<'a>)>
         ensures { option_map (λ x. (References x.0, x.1)) result ≡ value_at as_list self.entry }
@@ -357,7 +375,8 @@ impl<'a> Model for ReferenceList<'a> {
 }
 
 impl<'a> ReferenceList<'a> {
-    /// Its references.
+    /// The references of the list, in their order, as parts of the line. The list `-` has none.
+    /// Only the vector takes memory, from `alloc`, and the only error is a lack of it.
     pub(crate) fn references(self, alloc: Global) -> Result<Vec<&'a str>, AllocError>
         ensures { IfOk result (λ references. map now references.items ≡ self.entry) }
     {

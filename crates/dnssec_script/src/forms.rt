@@ -22,7 +22,9 @@ pub(crate) struct KeyTraits {
     pub(crate) available: bool,
 }
 
-/// The fields of an add of a key of the set.
+/// Reads the fields after a word that adds a KSK, a ZSK or a CSK: the key's reference, that of its
+/// private part, and its `KeyTraits`. `None` if they have another form. The only error is that
+/// there is no memory for the references; fields of another form take none.
 pub(crate) fn signing_key(
     alloc: Global,
     fields: Fields<'_>,
@@ -42,7 +44,8 @@ pub(crate) fn signing_key(
     }
 }
 
-/// The same fields, with texts that are parts of the line.
+/// Reads the fields after a word that adds a KSK, a ZSK or a CSK. The references are parts of the
+/// line, and no memory is taken. `None` if the fields have another form.
 fn signing_key_texts<'a>(fields: Fields<'a>) -> Option<(&'a str, Option<&'a str>, KeyTraits)>
     ensures { option_map (λ x.
         Reference x.0.now ∷ Private (option_map now x.1) ∷ traits_say x.2) result
@@ -53,7 +56,8 @@ fn signing_key_texts<'a>(fields: Fields<'a>) -> Option<(&'a str, Option<&'a str>
     Some((pubref, privref, traits(fields)?))
 }
 
-/// A copy of a text that may be missing.
+/// A copy of a text that may be missing. The only error is that there is no memory for the copy; a
+/// missing text takes none.
 fn copy_of(alloc: Global, text: Option<&str>) -> Result<Option<String>, AllocError>
     ensures { IfOk result (λ copy. option_map string_bytes copy ≡ option_map now text.entry) }
 {
@@ -63,7 +67,9 @@ fn copy_of(alloc: Global, text: Option<&str>) -> Result<Option<String>, AllocErr
     }
 }
 
-/// The fields of an add of a key of another signer.
+/// Reads the fields after a word that adds a key of another signer: the key's reference and its
+/// `KeyTraits`. `None` if they have another form. The only error is that there is no memory for the
+/// reference; fields of another form take none.
 pub(crate) fn public_key(
     alloc: Global,
     fields: Fields<'_>,
@@ -79,7 +85,8 @@ pub(crate) fn public_key(
     }
 }
 
-/// The same fields, with a text that is part of the line.
+/// Reads the fields after a word that adds a key of another signer. The reference is part of the
+/// line, and no memory is taken. `None` if the fields have another form.
 fn public_key_texts<'a>(fields: Fields<'a>) -> Option<(&'a str, KeyTraits)>
     ensures { option_map (λ x. Reference x.0.now ∷ traits_say x.1) result
         ≡ values_of public_key_forms fields.entry }
@@ -88,8 +95,11 @@ fn public_key_texts<'a>(fields: Fields<'a>) -> Option<(&'a str, KeyTraits)>
     Some((pubref, traits(fields)?))
 }
 
-/// The last fields of an add. They are inlined, since a moment that comes from a call is copied
-/// with each statement, also if that has none.
+/// Reads the last fields of an add: the algorithm, the key tag, the moment when the key was made
+/// (in whole seconds since 1970), and whether a roll may take the key as a new one. `None` if they
+/// have another form, or if there are more or fewer fields.
+// Inlined, since a moment that a call answers is copied with each statement, also with those that
+// have none.
 #[inline(always)]
 fn traits(fields: Fields<'_>) -> Option<KeyTraits>
     ensures { option_map traits_say result ≡ values_of trait_forms fields.entry }
@@ -107,7 +117,8 @@ fn traits(fields: Fields<'_>) -> Option<KeyTraits>
     })
 }
 
-/// The fields of a setter of a flag.
+/// Reads the fields after `set-decoupled`, `set-signer` or `set-at-parent`: the key's reference,
+/// and the flag. `None` if they have another form, or if there are more or fewer fields.
 #[inline(always)]
 pub(crate) fn flag<'a>(fields: Fields<'a>) -> Option<(&'a str, bool)>
     ensures { option_map (λ x. Reference x.0.now ∷ Flag x.1 ∷ []) result
@@ -119,7 +130,9 @@ pub(crate) fn flag<'a>(fields: Fields<'a>) -> Option<(&'a str, bool)>
     Some((pubref, value))
 }
 
-/// The fields of a setter of a flag with a moment.
+/// Reads the fields after `set-present`: the key's reference, the flag, and the moment when it is
+/// set, in whole seconds since 1970. `None` if they have another form, or if there are more or
+/// fewer fields.
 pub(crate) fn timed_flag<'a>(fields: Fields<'a>) -> Option<(&'a str, bool, UnixTime)>
     ensures { option_map (λ x. Reference x.0.now ∷ Flag x.1 ∷ Moment x.2 ∷ []) result
         ≡ values_of (as_reference ∷ as_yes_no ∷ as_time ∷ []) fields.entry }
@@ -129,7 +142,9 @@ pub(crate) fn timed_flag<'a>(fields: Fields<'a>) -> Option<(&'a str, bool, UnixT
     Some((pubref, value, fields.last_time()?))
 }
 
-/// The fields of a setter of a stamp.
+/// Reads the fields after `set-visible`, `set-ds-visible` or `set-rrsig-visible`: the key's
+/// reference, and the stamp's moment, in whole seconds since 1970. `None` if they have another
+/// form, or if there are more or fewer fields.
 #[inline(always)]
 pub(crate) fn stamp<'a>(fields: Fields<'a>) -> Option<(&'a str, UnixTime)>
     ensures { option_map (λ x. Reference x.0.now ∷ Moment x.1 ∷ []) result
@@ -139,7 +154,8 @@ pub(crate) fn stamp<'a>(fields: Fields<'a>) -> Option<(&'a str, UnixTime)>
     Some((pubref, fields.last_time()?))
 }
 
-/// The only field of a word for a key.
+/// Reads the only field after `set-stale` or `delete`: the key's reference. `None` if it has
+/// another form, or there is another number of fields.
 pub(crate) fn key<'a>(fields: Fields<'a>) -> Option<&'a str>
     ensures { option_map (λ q. Reference q.now ∷ []) result
         ≡ values_of (as_reference ∷ []) fields.entry }
@@ -149,7 +165,9 @@ pub(crate) fn key<'a>(fields: Fields<'a>) -> Option<&'a str>
     Some(pubref)
 }
 
-/// The fields of a report, with the TTL in seconds.
+/// Reads the fields after `report1` or `report2`: the roll, the highest TTL in seconds that a cache
+/// may still have, and the moment of the report, in whole seconds since 1970. `None` if they have
+/// another form, or if there are more or fewer fields.
 pub(crate) fn report(fields: Fields<'_>) -> Option<(RollType, u32, UnixTime)>
     ensures { option_map (λ x. Roll x.0 ∷ Number x.1 ∷ Moment x.2 ∷ []) result
         ≡ values_of (as_roll ∷ as_ttl ∷ as_time ∷ []) fields.entry }
@@ -159,7 +177,8 @@ pub(crate) fn report(fields: Fields<'_>) -> Option<(RollType, u32, UnixTime)>
     Some((rolltype, ttl, fields.last_time()?))
 }
 
-/// The fields of the end of a wait.
+/// Reads the fields after `wait1` or `wait2`: the roll, and the moment of the call, in whole
+/// seconds since 1970. `None` if they have another form, or if there are more or fewer fields.
 pub(crate) fn wait(fields: Fields<'_>) -> Option<(RollType, UnixTime)>
     ensures { option_map (λ x. Roll x.0 ∷ Moment x.1 ∷ []) result
         ≡ values_of (as_roll ∷ as_time ∷ []) fields.entry }
@@ -168,7 +187,8 @@ pub(crate) fn wait(fields: Fields<'_>) -> Option<(RollType, UnixTime)>
     Some((rolltype, fields.last_time()?))
 }
 
-/// The only field of a word that ends a roll.
+/// Reads the only field after `done` or `abort`: the roll. `None` if it names no roll, or there is
+/// another number of fields.
 pub(crate) fn roll(fields: Fields<'_>) -> Option<RollType>
     ensures { option_map (λ r. Roll r ∷ []) result ≡ values_of (as_roll ∷ []) fields.entry }
 {

@@ -23,13 +23,15 @@ pub enum ReadFault {
 impl From<AllocError> for ReadFault {
     ghost from_gives = { λ _ fault. fault ≡ OutOfMemory };
 
+    /// The fault `OutOfMemory`, for a request for memory that failed.
     fn from(_: AllocError) -> Self {
         ReadFault::OutOfMemory
     }
 }
 
-/// The lines of a text, for a caller who reads other lines than those of a script. A line feed at
-/// the very end only ends the last line.
+/// The lines of a text, without their line feeds, for a caller who reads other lines than those of
+/// a script. A line feed at the very end only ends the last line. An empty text has one line, which
+/// is empty. Only the list takes memory.
 ///
 /// # Errors
 ///
@@ -42,7 +44,8 @@ pub fn all_lines(alloc: Global, text: &[u8]) -> Result<Vec<&[u8]>, AllocError>
         .collect(alloc)
 }
 
-/// The script without a line feed at its end.
+/// The script without the line feed at its very end. A script that doesn't end with one is answered
+/// as it is.
 #[tactic(auto, using(crate::proofs::Judging::ends))]
 fn without_end(script: &[u8]) -> &[u8]
     ensures { result.now ≡ without_end script.now }
@@ -53,7 +56,8 @@ fn without_end(script: &[u8]) -> &[u8]
     }
 }
 
-/// The name of the zone, if this is the first line of a script.
+/// The name of the zone that the first line of a script names: `zone `, and then a domain name,
+/// without a line feed. `None` if the line doesn't have this form.
 ///
 /// # Errors
 ///
@@ -70,7 +74,8 @@ pub fn read_zone(alloc: Global, line: &[u8]) -> Result<Option<Name<Vec<u8>>>, Al
     }
 }
 
-/// The name that the text spells.
+/// The domain name that the text spells, or `None` if it spells none. The only error is that there
+/// is no memory for the name.
 fn zone_name(alloc: Global, text: &[u8]) -> Result<Option<Name<Vec<u8>>>, AllocError>
     ensures found { IfOk result (λ found. IfSome found (names.Spells text.now)) }
     ensures none { IfOk result (λ found.
@@ -98,7 +103,8 @@ pub struct Lines<'a> {
 }
 
 impl<'a> Lines<'a> {
-    /// The name of the zone of a script, and the lines after the first one, which names it.
+    /// Begins to read a script. Answers the name of the zone that the first line names, and the
+    /// lines after that one. None of them is read yet.
     ///
     /// # Errors
     ///

@@ -39,7 +39,7 @@ pub struct Start<'a> {
 }
 
 impl<'a> Start<'a> {
-    /// The call that starts the roll.
+    /// The call that starts the roll. It borrows its lists from this start, and no memory is taken.
     pub fn call(&self) -> Call<'_>
         ensures { call_says result ≡ start_says self.now }
     {
@@ -53,7 +53,14 @@ impl<'a> Start<'a> {
 }
 
 impl<'a> Statement<'a> {
-    /// Has a recorder make the call, and answers its entry, as a record has it.
+    /// Makes the call of the line on `recorder`, and answers its entry of the record. A refused
+    /// call has an entry too, also if it was refused for lack of memory. It leaves the key set and
+    /// the published sets as they were.
+    ///
+    /// # Errors
+    ///
+    /// Only `OutOfMemory`, if there is no memory for the entry. The recorder is then of no more
+    /// use: begin anew with the first line.
     pub fn make(self, alloc: Global, recorder: &mut Recorder) -> Result<Entry, Error>
         ensures { IfOk result (MakesEntry (statement_says self.entry) recorder.old recorder.new) }
     {
@@ -65,11 +72,13 @@ impl<'a> Statement<'a> {
 }
 
 impl<'a> Lines<'a> {
-    /// What the next line says; none after the last line.
+    /// Reads the next line, and answers what it says, or `None` after the last line. After an error
+    /// too, the next call goes on with the line after it.
     ///
     /// # Errors
     ///
-    /// - `Malformed` with the number of the line if it doesn't have its form.
+    /// - `Malformed` with the number of the line if it doesn't have its form. Line 1 is that of the
+    ///   zone.
     /// - `OutOfMemory` if there is no memory for its call. A line that makes no call takes none.
     pub fn next(&mut self, alloc: Global) -> Result<Option<Statement<'a>>, ReadFault>
         ensures ok { IfOk result (λ found. (script name : List ℕ) (calls : List Call) →
@@ -96,7 +105,8 @@ impl<'a> Lines<'a> {
     }
 }
 
-/// What a line says, if it has the form of a script's line.
+/// What a line of a script says, without its line feed, or `None` if it doesn't have the form of
+/// such a line. The line that names the zone says no call, so that is `None` too.
 ///
 /// # Errors
 ///
@@ -127,7 +137,9 @@ pub fn read_line<'a>(alloc: Global, line: &'a [u8]) -> Result<Option<Statement<'
     }
 }
 
-/// The call of a word that adds a key, made from the fields after it. Another word has none.
+/// The call of a word that adds a key, made from the fields after the word. `None` for any other
+/// word, and if the fields don't have their form. The only error is that there is no memory for the
+/// references.
 fn call_that_adds<'a>(
     alloc: Global,
     word: Word,
@@ -190,7 +202,9 @@ fn call_that_adds<'a>(
     Ok(Some(Statement::Call(call)))
 }
 
-/// The call of a word, made from parts of the line. A word whose call takes memory has none here.
+/// The call of a word that neither adds a key nor starts a roll, made from the fields after the
+/// word. It borrows from the line, and takes no memory. `None` for an add or a start, and if the
+/// fields don't have their form.
 fn call_of_parts<'a>(word: Word, fields: Fields<'a>) -> Option<Statement<'a>>
     ensures { option_map statement_says result
         ≡ if takes_memory word then None else said_after_word word fields.entry }
@@ -256,7 +270,7 @@ fn call_of_parts<'a>(word: Word, fields: Fields<'a>) -> Option<Statement<'a>>
     }
 }
 
-/// Whether the key may come in, as an add takes it.
+/// The argument of an add that says whether a roll may take the key as a new one.
 fn availability(may_come_in: bool) -> Available
     ensures { is_available result ≡ may_come_in }
 {
@@ -267,7 +281,10 @@ fn availability(may_come_in: bool) -> Available
     }
 }
 
-/// The fields of a start, with lists that are parts of the line.
+/// Reads the fields after the word that starts a roll: the roll, the references of its old keys and
+/// of its new ones, and the moment of the start, in whole seconds since 1970. The lists are parts
+/// of the line, and no memory is taken. `None` if the fields have another form, or if there are
+/// more or fewer.
 fn start_fields<'a>(
     fields: Fields<'a>,
 ) -> Option<(RollType, ReferenceList<'a>, ReferenceList<'a>, UnixTime)>

@@ -4,7 +4,8 @@ ghost use Rattle.dnssec_status.specs.Json.{array_json, escaped, flag_json, hex_d
 
 use std::alloc::{AllocError, Global};
 
-/// Writes bytes as they are.
+/// Appends `bytes` to `out` as they are, without escapes. If memory runs out, it fails, and `out`
+/// may end in a part of this.
 pub(crate) fn push_bytes(out: &mut Vec<u8>, bytes: &[u8]) -> Result<(), AllocError>
     ensures { OnOk result (out.new.items ≡ out.old.items ++ bytes.now) }
 {
@@ -12,7 +13,8 @@ pub(crate) fn push_bytes(out: &mut Vec<u8>, bytes: &[u8]) -> Result<(), AllocErr
     Ok(())
 }
 
-/// Writes a text between quotes.
+/// Appends `before`, the JSON in front of the value, and then `text` as a JSON string: in quotes,
+/// and with escapes. If memory runs out, it fails, and `out` may end in a part of this.
 pub(crate) fn push_text(out: &mut Vec<u8>, before: &[u8], text: &[u8]) -> Result<(), AllocError>
     ensures { OnOk result (out.new.items ≡ (out.old.items ++ before.now) ++ text_json text.now) }
 {
@@ -24,7 +26,9 @@ pub(crate) fn push_text(out: &mut Vec<u8>, before: &[u8], text: &[u8]) -> Result
     push_bytes(out, b"\"")
 }
 
-/// Writes a byte of a text, escaped if JSON asks for that.
+/// Appends one `byte` of a JSON string to `out`. A quote, a backslash and a byte below 32 are
+/// escaped, and any other byte stays as it is. If memory runs out, it fails, and `out` may end in a
+/// part of this.
 fn push_escaped(out: &mut Vec<u8>, byte: u8) -> Result<(), AllocError>
     ensures { OnOk result (out.new.items ≡ out.old.items ++ escaped byte) }
 {
@@ -41,7 +45,7 @@ fn push_escaped(out: &mut Vec<u8>, byte: u8) -> Result<(), AllocError>
     push_bytes(out, &[byte])
 }
 
-/// The hexadecimal digit of a number.
+/// The ASCII code of the hexadecimal digit for `number`. Letters are small.
 fn hex_digit(number: u8) -> u8
     requires { number < 16 }
     ensures { result ≡ hex_digit number }
@@ -53,7 +57,9 @@ fn hex_digit(number: u8) -> u8
     }
 }
 
-/// Writes a number.
+/// Appends `before`, the JSON in front of the value, and then `number` in decimal digits. The
+/// digits take their memory from `alloc`. If memory runs out, it fails, and `out` may end in a part
+/// of this.
 pub(crate) fn push_number(
     alloc: Global,
     out: &mut Vec<u8>,
@@ -67,7 +73,8 @@ pub(crate) fn push_number(
     push_bytes(out, digits.as_bytes())
 }
 
-/// Writes that a value is missing.
+/// Appends `before`, the JSON in front of the value, and then `null`, since the value is missing.
+/// If memory runs out, it fails, and `out` may end in a part of this.
 pub(crate) fn push_null(out: &mut Vec<u8>, before: &[u8]) -> Result<(), AllocError>
     ensures { OnOk result (out.new.items ≡ (out.old.items ++ before.now) ++ codes "null") }
 {
@@ -75,7 +82,8 @@ pub(crate) fn push_null(out: &mut Vec<u8>, before: &[u8]) -> Result<(), AllocErr
     push_bytes(out, b"null")
 }
 
-/// Writes a flag.
+/// Appends `before`, the JSON in front of the value, and then `flag` as `true` or `false`. If
+/// memory runs out, it fails, and `out` may end in a part of this.
 #[tactic(auto, unfolding(crate::specs::Json::flag_json))]
 pub(crate) fn push_flag(out: &mut Vec<u8>, before: &[u8], flag: bool) -> Result<(), AllocError>
     ensures { OnOk result (out.new.items ≡ (out.old.items ++ before.now) ++ flag_json flag) }
@@ -88,17 +96,19 @@ pub(crate) fn push_flag(out: &mut Vec<u8>, before: &[u8], flag: bool) -> Result<
     }
 }
 
-/// What writes the elements of an array.
+/// Writes the elements of a JSON array, one at a time.
 pub(crate) trait Writer<T> {
     // The text of an element.
     ghost json: { Self → T → List ℕ };
 
-    /// Writes an element.
+    /// Appends the JSON text of `element` to `out`. If memory runs out, it fails, and `out` may end
+    /// in a part of this.
     fn push(&self, out: &mut Vec<u8>, element: &T) -> Result<(), AllocError>
         ensures { OnOk result (out.new.items ≡ out.old.items ++ json self.now element.now) };
 }
 
-/// Writes an array.
+/// Appends `elements` to `out` as a JSON array, in their order. `writer` writes each of them. If
+/// memory runs out, it fails, and `out` may end in a part of this.
 #[tactic(auto, unfolding(crate::specs::Json::array_json, crate::specs::Json::further_json))]
 pub(crate) fn push_array<T, W: Writer<T>>(
     out: &mut Vec<u8>,

@@ -20,7 +20,7 @@ use dnssec_record::Part;
 use std::alloc::{AllocError, Global};
 use std::time::Duration;
 
-/// What writes keys at their references, with the rolls in progress that listed them.
+/// Writes keys with their references, and with the rolls in progress that listed them.
 #[derive(Drop)]
 pub(crate) struct KeyWriter<'a> {
     pub(crate) alloc: Global,
@@ -30,14 +30,17 @@ pub(crate) struct KeyWriter<'a> {
 impl<'a, 'b> Writer<(&'b String, &'b Key)> for KeyWriter<'a> {
     ghost json = { λ keys entry. entry_json keys.listings.now entry };
 
-    /// Writes a key at its reference.
+    /// Appends a key to `out` as a JSON object. `entry` has the key's public reference and the key.
+    /// If memory runs out, it fails, and `out` may end in a part of this.
     fn push(&self, out: &mut Vec<u8>, entry: &(&'b String, &'b Key)) -> Result<(), AllocError> {
         push_front(self.alloc, out, entry.0, entry.1)?;
         push_end(self.alloc, out, self.listings, entry.0, entry.1)
     }
 }
 
-/// Writes what the key itself says.
+/// Appends the first members of a key's object to `out`: its `reference`, its kind with its roles,
+/// its algorithm, key tag, private part and whether it is decoupled, and its stamps. `push_end`
+/// appends the others. If memory runs out, it fails, and `out` may end in a part of this.
 fn push_front(
     alloc: Global,
     out: &mut Vec<u8>,
@@ -55,7 +58,9 @@ fn push_front(
     Ok(())
 }
 
-/// Writes whether a key may come in or be deleted, and its part in the rolls in progress.
+/// Appends the last members of a key's object to `out`, and its end: whether the start of a roll
+/// may list the key as new, whether it may be deleted, and which rolls in progress listed it as old
+/// or as new. If memory runs out, it fails, and `out` may end in a part of this.
 fn push_end(
     alloc: Global,
     out: &mut Vec<u8>,
@@ -76,14 +81,17 @@ fn push_end(
     Ok(())
 }
 
-/// Whether some roll takes the key in.
+/// Whether the start of some roll may list this key as new: it isn't another signer's, and each of
+/// its roles is available, isn't old, doesn't sign, isn't in the DNSKEY set and has no DS. Rolls in
+/// progress don't count here, though they may keep that roll from starting.
 fn may_come_in(key: &Key) -> bool
     ensures { result ≡ may_come_in key.now.keytype }
 {
     is_listed_by_some(key.keytype()) && key.is_fresh()
 }
 
-/// Whether some roll may list keys of this kind. None lists those of another signer.
+/// Whether the start of some roll may list keys of this kind, as old or as new. That is so of all
+/// but another signer's keys (`Include`).
 fn is_listed_by_some(keytype: KeyType) -> bool
     ensures { result ≡ is_listed_by_some keytype }
 {
@@ -93,7 +101,9 @@ fn is_listed_by_some(keytype: KeyType) -> bool
     }
 }
 
-/// Writes the names of the rolls that listed a key as this.
+/// Appends a JSON array to `out`: the names of the rolls in progress whose start listed the key at
+/// `reference` as this `part` (old if it goes out, new if it comes in). If memory runs out, it
+/// fails, and `out` may end in a part of this.
 fn push_rolls_of(
     alloc: Global,
     out: &mut Vec<u8>,
@@ -108,7 +118,9 @@ fn push_rolls_of(
     push_array(out, &Names, &rolls)
 }
 
-/// Writes what an add says of the key.
+/// Appends four members of a key's object to `out`: the number of its algorithm, its key tag, the
+/// reference of its private part, and whether it is decoupled from the caller's storage of keys. If
+/// memory runs out, it fails, and `out` may end in a part of this.
 fn push_traits(alloc: Global, out: &mut Vec<u8>, key: &Key) -> Result<(), AllocError>
     ensures { OnOk result (out.new.items ≡ out.old.items ++ traits_json key.now) }
 {
@@ -120,7 +132,9 @@ fn push_traits(alloc: Global, out: &mut Vec<u8>, key: &Key) -> Result<(), AllocE
     Ok(())
 }
 
-/// Writes the private reference, or null.
+/// Appends `before`, the JSON in front of the value, and then `privref`, the reference of the
+/// private part of a key, as a JSON string. It is `null` if there is none. If memory runs out, it
+/// fails, and `out` may end in a part of this.
 #[tactic(auto, unfolding(crate::specs::Json::option_json))]
 fn push_private(out: &mut Vec<u8>, before: &[u8], privref: Option<&str>) -> Result<(), AllocError>
     ensures { OnOk result (out.new.items ≡ (out.old.items ++ before.now)
@@ -132,7 +146,9 @@ fn push_private(out: &mut Vec<u8>, before: &[u8], privref: Option<&str>) -> Resu
     }
 }
 
-/// Writes when the key passed the stages of its life.
+/// Appends the six stamps of a key to `out`, the moments of its life from its creation to its
+/// withdrawal. Each is in whole seconds since 1970, or `null` if the key doesn't have it. If memory
+/// runs out, it fails, and `out` may end in a part of this.
 fn push_stamps(alloc: Global, out: &mut Vec<u8>, stamps: &KeyTimestamps) -> Result<(), AllocError>
     ensures { OnOk result (out.new.items ≡ out.old.items ++ stamps_json stamps.now) }
 {
@@ -145,7 +161,9 @@ fn push_stamps(alloc: Global, out: &mut Vec<u8>, stamps: &KeyTimestamps) -> Resu
     Ok(())
 }
 
-/// Writes a stamp in whole seconds, or null.
+/// Appends `before`, the JSON in front of the value, and then `stamp` in seconds since 1970,
+/// rounded down. It is `null` if there is no stamp. If memory runs out, it fails, and `out` may end
+/// in a part of this.
 #[tactic(auto, unfolding(crate::specs::Json::option_json))]
 fn push_stamp(
     alloc: Global,
@@ -165,7 +183,9 @@ fn push_stamp(
     }
 }
 
-/// Writes the kind of a key and its roles.
+/// Appends the kind of a key to `out` (`ksk`, `zsk`, `csk`, or `public` for another signer's), and
+/// the array of its roles with their states. If memory runs out, it fails, and `out` may end in a
+/// part of this.
 #[tactic(auto, unfolding(crate::specs::Keys::kind_json))]
 fn push_kind(out: &mut Vec<u8>, keytype: KeyType) -> Result<(), AllocError>
     ensures { OnOk result (out.new.items ≡ out.old.items ++ kind_json keytype) }
@@ -187,7 +207,9 @@ fn push_kind(out: &mut Vec<u8>, keytype: KeyType) -> Result<(), AllocError>
     }
 }
 
-/// Writes the only role of a key.
+/// Appends the kind of a key that has one role, and the array with that role. `before` is the JSON
+/// with the kind and the start of the array, `role` the role's name, and `is_active` says whether
+/// the role is active. If memory runs out, it fails, and `out` may end in a part of this.
 #[tactic(auto, using(crate::proofs::Chains::assoc))]
 fn push_only(
     out: &mut Vec<u8>,
@@ -205,7 +227,9 @@ fn push_only(
     Ok(())
 }
 
-/// Writes the two roles of a CSK.
+/// Appends the kind `csk` to `out`, and the array of its two roles: the KSK role in the state
+/// `ksk`, and the ZSK role in the state `zsk`. If memory runs out, it fails, and `out` may end in a
+/// part of this.
 fn push_csk(out: &mut Vec<u8>, ksk: KeyState, zsk: KeyState) -> Result<(), AllocError>
     ensures { OnOk result (out.new.items ≡ out.old.items ++ kind_json (KeyType.Csk ksk zsk)) }
 {
@@ -217,7 +241,9 @@ fn push_csk(out: &mut Vec<u8>, ksk: KeyState, zsk: KeyState) -> Result<(), Alloc
     Ok(())
 }
 
-/// Writes a role, given whether it is at work.
+/// Appends a role of a key to `out` as a JSON object: its name, the word for its state, and its
+/// four flags. `is_active` says whether the role is active (see `is_active_ksk` and
+/// `is_active_zsk`). If memory runs out, it fails, and `out` may end in a part of this.
 fn push_role(
     out: &mut Vec<u8>,
     role: &str,
@@ -235,7 +261,10 @@ fn push_role(
     push_bytes(out, b"}")
 }
 
-/// One word for a role's state, given whether it is at work.
+/// The word for the `state` of a role in the status: `active` if `is_active`, else `future` if the
+/// role is neither old nor in use, `stale` if it is old and no more in use, `leaving` if it is old
+/// and still in use, or else `incoming`. In use is a role that signs, is in the DNSKEY set or has a
+/// DS.
 #[tactic(auto, unfolding(crate::specs::Keys::state_word))]
 fn state_word(is_active: bool, state: KeyState) -> &'static str
     ensures { result.now ≡ state_word is_active state }
@@ -253,42 +282,48 @@ fn state_word(is_active: bool, state: KeyState) -> &'static str
     }
 }
 
-/// Whether a role has not begun to come in.
+/// Whether a role has not begun to come in: it isn't old, doesn't sign, isn't in the DNSKEY set,
+/// and has no DS.
 fn is_future(state: KeyState) -> bool
     ensures { result ≡ is_future state }
 {
     !state.old() && !is_used(state)
 }
 
-/// Whether a role is leaving, and not yet gone.
+/// Whether a role is on its way out, and not yet gone: it is old, but still signs, is in the DNSKEY
+/// set, or has a DS.
 fn is_leaving(state: KeyState) -> bool
     ensures { result ≡ is_leaving state }
 {
     state.old() && is_used(state)
 }
 
-/// Whether a KSK role is at work.
+/// Whether a KSK role is active: it isn't old, is in the DNSKEY set and signs it, and has a DS at
+/// the parent.
 fn is_active_ksk(state: KeyState) -> bool
     ensures { result ≡ is_active_ksk state }
 {
     is_active_zsk(state) && state.at_parent()
 }
 
-/// Whether a ZSK role is at work.
+/// Whether a ZSK role, or the role of another signer's key, is active: it isn't old, is in the
+/// DNSKEY set, and signs the zone. A KSK role also needs a DS for that (see `is_active_ksk`).
 fn is_active_zsk(state: KeyState) -> bool
     ensures { result ≡ is_active_zsk state }
 {
     !state.old() && state.present() && state.signer()
 }
 
-/// Whether a role signs, is in the DNSKEY set, or has a DS at the parent.
+/// Whether a role is in use: it signs, is in the DNSKEY set, or has a DS at the parent.
 fn is_used(state: KeyState) -> bool
     ensures { result ≡ is_used state }
 {
     state.signer() || state.present() || state.at_parent()
 }
 
-/// Writes the flags of a role's state.
+/// Appends four members to `out`: whether the role is old (on its way out), signs, is in the DNSKEY
+/// set, and has a DS at the parent. If memory runs out, it fails, and `out` may end in a part of
+/// this.
 #[tactic(auto, using(crate::proofs::Chains::assoc), unfolding(crate::specs::Keys::flags_json))]
 fn push_flags(out: &mut Vec<u8>, state: KeyState) -> Result<(), AllocError>
     ensures { OnOk result (out.new.items ≡ out.old.items ++ flags_json state) }

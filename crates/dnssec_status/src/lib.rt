@@ -30,18 +30,20 @@ use std::alloc::{AllocError, Global};
 
 /// The status of a zone after the calls of a session, as one line of JSON with its line feed.
 ///
-/// Every member is always there, and what is missing is `null`. Moments are whole seconds. Keys
-/// stand in the order of their references' bytes, rolls in that of their kinds.
+/// Every member is always there, and what is missing is `null`. Moments are whole seconds since
+/// 1970. Keys stand in the order of their references' bytes, rolls in that of `RollType`.
 ///
 /// - `zone`: its name
-/// - `chain`: the verdict on the record
-/// - `published`: the references of the four sets
-/// - `keys`: each key with its kind and roles, what it was added with, its stamps, whether it may
-///   come in by a roll or be deleted, and the rolls in progress that listed it as old or new
+/// - `chain`: the verdict on all calls: safe, or the first three sets without a chain of trust
+/// - `published`: the references of the keys with a DS, in the DNSKEY set, that sign it, and that
+///   sign the zone
+/// - `keys`: each key with its kind and roles, what it was added with, its stamps, whether a roll
+///   may list it as new, whether it may be deleted, and the rolls in progress that listed it as old
+///   or new
 /// - `rolls`: each roll in progress with its phase, the call that leaves it, the first second from
 ///   which a wait is accepted, for whom it waits, and what is due
-/// - `ended`: each roll that was ended early, with what its end asked for, until a roll starts that
-///   may not go beside it
+/// - `ended`: each roll that was ended early, with what its end asked for, until it starts again or
+///   a roll starts that may not be in progress at the same time
 ///
 /// # Errors
 ///
@@ -79,7 +81,9 @@ pub fn status(alloc: Global, session: &Session) -> Result<Vec<u8>, AllocError>
     Ok(out)
 }
 
-/// Writes the zone, the verdict, and what is published.
+/// Appends the first members of the status to `out`: the name `zone`, the `verdict` on all calls so
+/// far (`None` if they were safe), and the references of the published `sets`. `push_rest` appends
+/// the others. If memory runs out, it fails, and `out` may end in a part of this.
 fn push_zone(
     alloc: Global,
     out: &mut Vec<u8>,
@@ -100,7 +104,9 @@ fn push_zone(
     Ok(())
 }
 
-/// Writes the keys and the rolls.
+/// Appends the other members of the status to `out`, with the end of the object and of the line.
+/// These are the `keys` with the rolls that listed them, the `rolls` in progress, and those that
+/// were `ended` early. If memory runs out, it fails, and `out` may end in a part of this.
 fn push_rest(
     alloc: Global,
     out: &mut Vec<u8>,

@@ -38,7 +38,9 @@ impl<'a> Model for Listings<'a> {
 }
 
 impl<'a> Listings<'a> {
-    /// The listings in order.
+    /// Takes up the listings `listed`: each says that the start of a roll in progress listed a key
+    /// as old (it goes out) or as new (it comes in). It sorts references to them, so that those of
+    /// one key are found fast. It fails only if there is no memory.
     pub(crate) fn of(alloc: Global, listed: &'a [Listing]) -> Result<Self, AllocError>
         ensures { IfOk result (λ listings. IsPermutation (map as_listed listed.now) listings) }
     {
@@ -47,7 +49,8 @@ impl<'a> Listings<'a> {
         Ok(Listings { ordered })
     }
 
-    /// Those of the key at a reference.
+    /// The listings of the key at `reference`. They say which rolls in progress listed it, and as
+    /// what. The answer is empty if none did.
     fn of_key(&self, reference: &String) -> &[&'a Listing]
         ensures { (roll : AnyRoll) (part : AnyPart) →
             list_any (lists roll part (string_bytes reference.now)) result.now
@@ -62,14 +65,16 @@ impl<'a> Listings<'a> {
     }
 }
 
-/// The listings, as they are lent.
+/// References to the listings in a new vector, in their order, to be sorted without a copy of the
+/// listings. It fails only if there is no memory.
 fn lent(alloc: Global, listed: &[Listing]) -> Result<Vec<&Listing>, AllocError>
     ensures { IfOk result (λ lent. map now lent.items ≡ listed.now) }
 {
     listed.iter().collect(alloc)
 }
 
-/// The rolls that listed a key as this, in the order of their kinds.
+/// The rolls in progress whose start listed the key at `reference` as this `part` (old if it goes
+/// out, new if it comes in), in the order of `RollType`. It fails only if there is no memory.
 pub(crate) fn rolls_of(
     alloc: Global,
     listings: &Listings<'_>,
@@ -87,7 +92,9 @@ pub(crate) fn rolls_of(
     Ok(rolls)
 }
 
-/// Notes the roll, if it listed a key as this.
+/// Appends `roll` to `rolls` if one of the listings `listed` says that it listed the key at
+/// `reference` as this `part` (old or new). Else `rolls` stays as it is. It fails only if there is
+/// no memory, and `rolls` is then of no more use.
 fn note(
     rolls: &mut Vec<RollType>,
     listed: &[&Listing],
@@ -104,14 +111,16 @@ fn note(
     Ok(())
 }
 
-/// Whether the roll listed a key as this.
+/// Whether one of the listings `listed` says that `roll` listed the key at `reference` as this
+/// `part` (old if it goes out, new if it comes in).
 fn is_listed(listed: &[&Listing], roll: RollType, part: Part, reference: &String) -> bool
     ensures { result ≡ list_any (lists roll part (string_bytes reference.now)) listed.now }
 {
     listed.iter().any(|key| lists(key, roll, part, reference))
 }
 
-/// Whether this is a listing of the key for the roll and as this part.
+/// Whether the listing `listed` says that `roll` listed the key at `reference` as this `part` (old
+/// if it goes out, new if it comes in).
 fn lists(listed: &Listing, roll: RollType, part: Part, reference: &String) -> bool
     ensures { result ≡ has_listed roll part (string_bytes reference.now) (as_listed listed.now) }
 {

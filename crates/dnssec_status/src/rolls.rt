@@ -24,7 +24,9 @@ pub(crate) struct RollInProgress {
     pub(crate) end: Option<WaitEnd>,
 }
 
-/// The rolls in progress, in the order of their kinds.
+/// The rolls in progress in `keyset`, in the order of `RollType`, each with its phase and the end
+/// of its wait. That is `None` if the roll doesn't wait, or if a key lacks the stamp that the wait
+/// checks. It fails only if there is no memory.
 pub(crate) fn in_progress(alloc: Global, keyset: &KeySet) -> Result<Vec<RollInProgress>, AllocError>
     ensures all { IfOk result (λ rolls.
         map phase_pair rolls.items ≡ rolls_in_progress keyset.now) }
@@ -38,7 +40,10 @@ pub(crate) fn in_progress(alloc: Global, keyset: &KeySet) -> Result<Vec<RollInPr
     Ok(rolls)
 }
 
-/// Notes a roll, if it is in progress.
+/// Appends `roll` to `rolls`, with its phase and the end of its wait, if it is in progress in
+/// `keyset`. Else `rolls` stays as it is. The end is `None` if the roll doesn't wait, or if a key
+/// lacks the stamp that the wait checks. It fails only if there is no memory, and `rolls` is then
+/// of no more use.
 #[tactic(auto, unfolding(crate::specs::Rolls::with_its_phase))]
 fn note(rolls: &mut Vec<RollInProgress>, keyset: &KeySet, roll: RollType) -> Result<(), AllocError>
     ensures all { OnOk result (map phase_pair rolls.new.items ≡ map phase_pair rolls.old.items
@@ -61,7 +66,7 @@ fn note(rolls: &mut Vec<RollInProgress>, keyset: &KeySet, roll: RollType) -> Res
     }
 }
 
-/// What writes rolls in progress.
+/// Writes rolls in progress.
 #[derive(Drop)]
 pub(crate) struct ProgressWriter {
     pub(crate) alloc: Global,
@@ -70,7 +75,8 @@ pub(crate) struct ProgressWriter {
 impl Writer<RollInProgress> for ProgressWriter {
     ghost json = { λ _ going. going_json going };
 
-    /// Writes a roll in progress, with what is due.
+    /// Appends a roll in progress to `out` as a JSON object, with the actions that are due in its
+    /// phase. If memory runs out, it fails, and `out` may end in a part of this.
     #[tactic(auto, unfolding(crate::specs::Rolls::going_json))]
     fn push(&self, out: &mut Vec<u8>, going: &RollInProgress) -> Result<(), AllocError> {
         let due = going.roll.actions_in(going.phase);
@@ -78,7 +84,9 @@ impl Writer<RollInProgress> for ProgressWriter {
     }
 }
 
-/// Writes a roll in progress by its parts.
+/// Appends a roll in progress to `out` as a JSON object. `end` says when its wait is over: `None`
+/// if it doesn't wait, or if a key lacks a stamp for that. `due` has the actions that are due in
+/// its `phase`. If memory runs out, it fails, and `out` may end in a part of this.
 #[tactic(auto, using(crate::proofs::Chains::assoc), unfolding(crate::specs::Rolls::parts_json))]
 fn push_parts(
     alloc: Global,
@@ -117,7 +125,9 @@ const THEN_WAIT2: &[u8] = b",\"next\":\"wait2\"";
 
 const DONE: &[u8] = b",\"phase\":\"done\",\"ttl\":null,\"next\":\"done\"";
 
-/// Writes the phase of a roll, its TTL and the next call.
+/// Appends three members to `out`: the name of the `phase`, as `cache-expire1`, the TTL that was
+/// reported, in seconds (`null` unless the roll waits for caches), and the name of the call that
+/// leaves the phase, as `wait1`. If memory runs out, it fails, and `out` may end in a part of this.
 fn push_phase(alloc: Global, out: &mut Vec<u8>, phase: RollState) -> Result<(), AllocError>
     ensures { OnOk result (out.new.items ≡ out.old.items ++ phase_json phase) }
 {
@@ -130,7 +140,8 @@ fn push_phase(alloc: Global, out: &mut Vec<u8>, phase: RollState) -> Result<(), 
     }
 }
 
-/// Writes a TTL between two pieces.
+/// Appends `before`, then `ttl` (seconds) in decimal digits, and then `after`. The other two are
+/// the JSON around the TTL. If memory runs out, it fails, and `out` may end in a part of this.
 #[tactic(auto, using(crate::proofs::Chains::assoc))]
 fn push_ttl(
     alloc: Global,
@@ -147,7 +158,10 @@ fn push_ttl(
     Ok(())
 }
 
-/// Writes the first whole second from which a wait is accepted.
+/// Appends `before`, the JSON in front of the value, and then the first second since 1970 at which
+/// a wait that is over at `end` is accepted: `end` rounded up. It is `null` without an end, and
+/// `"past-time"` if no call can name that second. If memory runs out, it fails, and `out` may end
+/// in a part of this.
 #[tactic(auto, unfolding(crate::specs::Rolls::end_json, crate::specs::Rolls::second_json))]
 fn push_end(
     alloc: Global,
@@ -173,7 +187,8 @@ fn push_end(
     }
 }
 
-/// Writes that no call can name the second.
+/// Appends `before`, the JSON in front of the value, and then `"past-time"`: the wait ends at a
+/// second that no call can name. If memory runs out, it fails, and `out` may end in a part of this.
 fn push_past_time(out: &mut Vec<u8>, before: &[u8]) -> Result<(), AllocError>
     ensures { OnOk result (out.new.items
         ≡ (out.old.items ++ before.now) ++ codes "\"past-time\"") }
@@ -182,7 +197,9 @@ fn push_past_time(out: &mut Vec<u8>, before: &[u8]) -> Result<(), AllocError>
     push_bytes(out, b"\"past-time\"")
 }
 
-/// Writes for whom a roll waits.
+/// Appends to `out` for whom a roll in this `phase` waits: for `"caches"` while caches expire, in
+/// another phase for the `"parent"` if `due` has `UpdateDsRrset`, or else for `"you"`. If memory
+/// runs out, it fails, and `out` may end in a part of this.
 #[tactic(auto, unfolding(crate::specs::Rolls::waits_for))]
 fn push_waits_for(out: &mut Vec<u8>, phase: RollState, due: &[Action]) -> Result<(), AllocError>
     ensures { OnOk result (out.new.items ≡ out.old.items ++ waits_for phase due.now) }
@@ -199,28 +216,30 @@ fn push_waits_for(out: &mut Vec<u8>, phase: RollState, due: &[Action]) -> Result
     }
 }
 
-/// Whether some action is for the parent.
+/// Whether one of the actions `due` is for the parent: an update of the DS set (`UpdateDsRrset`).
 fn has_parent_action(due: &[Action]) -> bool
     ensures { result ≡ list_any is_for_parent due.now }
 {
     due.iter().any(|action| is_for_parent(*action))
 }
 
-/// Whether the parent has to act.
+/// Whether the `action` is for the parent. Only `UpdateDsRrset` is: the parent publishes the DS
+/// set.
 fn is_for_parent(action: Action) -> bool
     ensures { result ≡ is_for_parent action }
 {
     matches!(action, Action::UpdateDsRrset)
 }
 
-/// What writes rolls that were ended early.
+/// Writes rolls that were ended early.
 #[derive(Drop)]
 pub(crate) struct EarlyEndWriter;
 
 impl Writer<RollType> for EarlyEndWriter {
     ghost json = { λ _ roll. ended_json roll };
 
-    /// Writes a roll that was ended early, with what its end asked for.
+    /// Appends a roll that was ended early to `out` as a JSON object, with the actions that its end
+    /// asked for. If memory runs out, it fails, and `out` may end in a part of this.
     #[tactic(auto, unfolding(crate::specs::Rolls::ended_json))]
     fn push(&self, out: &mut Vec<u8>, roll: &RollType) -> Result<(), AllocError> {
         push_bytes(out, b"{\"roll\":")?;

@@ -7,7 +7,9 @@ use crate::json::{Writer, push_array, push_bytes, push_number, push_text};
 use dnssec_record::{Broken, Published, PublishedKey};
 use std::alloc::{AllocError, Global};
 
-/// Writes the four sets.
+/// Appends the published sets to `out` as a JSON object, by the references of their keys: those
+/// with a DS, those in the DNSKEY set, those that sign it, and those that sign the zone. If memory
+/// runs out, it fails, and `out` may end in a part of this.
 #[tactic(auto, using(crate::proofs::Chains::assoc), unfolding(crate::specs::Sets::sets_json))]
 pub(crate) fn push_sets(out: &mut Vec<u8>, sets: &Published) -> Result<(), AllocError>
     ensures { OnOk result (out.new.items ≡ out.old.items ++ sets_json sets.now) }
@@ -20,7 +22,8 @@ pub(crate) fn push_sets(out: &mut Vec<u8>, sets: &Published) -> Result<(), Alloc
     Ok(())
 }
 
-/// Writes a set after a piece, by its references.
+/// Appends `before`, the JSON in front of the value, and then the references of `keys` as a JSON
+/// array. If memory runs out, it fails, and `out` may end in a part of this.
 fn push_set(out: &mut Vec<u8>, before: &[u8], keys: &[PublishedKey]) -> Result<(), AllocError>
     ensures { OnOk result (out.new.items ≡ out.old.items
         ++ (before.now ++ array_json published_json keys.now)) }
@@ -29,19 +32,23 @@ fn push_set(out: &mut Vec<u8>, before: &[u8], keys: &[PublishedKey]) -> Result<(
     push_array(out, &References, keys)
 }
 
-/// What writes the references of keys.
+/// Writes the references of keys.
 #[derive(Drop)]
 struct References;
 
 impl Writer<PublishedKey> for References {
     ghost json = { λ _ key. published_json key };
 
+    /// Appends the reference of `key` to `out` as a JSON string. If memory runs out, it fails, and
+    /// `out` may end in a part of this.
     fn push(&self, out: &mut Vec<u8>, key: &PublishedKey) -> Result<(), AllocError> {
         push_text(out, b"", key.reference.as_bytes())
     }
 }
 
-/// Writes the verdict.
+/// Appends the `verdict` on all calls so far to `out` as a JSON object. `verdict` is `None` if
+/// there was always a chain of trust or no DS, else it has the first three sets without a chain. If
+/// memory runs out, it fails, and `out` may end in a part of this.
 #[tactic(auto, unfolding(crate::specs::Sets::chain_json))]
 pub(crate) fn push_chain(
     alloc: Global,
@@ -59,7 +66,10 @@ pub(crate) fn push_chain(
     }
 }
 
-/// Writes the positions of the first sets without a chain.
+/// Appends to `out`, as a JSON object, that the chain of trust is broken: after call `at` caches
+/// may hold the DS set of call `ds`, the DNSKEY set of call `dnskey` and the zone signers of call
+/// `zone`. Calls count from 1, and 0 is the new key set. If memory runs out, it fails, and `out`
+/// may end in a part of this.
 fn push_broken(alloc: Global, out: &mut Vec<u8>, broken: &Broken) -> Result<(), AllocError>
     ensures { OnOk result (out.new.items ≡ out.old.items ++ chain_json (Some broken.now)) }
 {

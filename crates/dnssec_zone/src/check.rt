@@ -1,4 +1,4 @@
-//! Why a start is refused for its keys. Nothing is changed here.
+//! Why a start is refused for its keys. No key is changed here.
 ghost use Rattle.std.specs.Prelude.{◌≡◌, ℕ, Bool, List, [], false, not, ◌&&◌, ◌||◌, length, None};
 ghost use Rattle.std.specs.Prelude.{Some, Option, IfOk, IfErr, OnOk, nat_eq};
 ghost use Rattle.std.specs.Prelude.{if◌then◌else◌};
@@ -23,10 +23,10 @@ use dnssec_key::{
     Column, Error, Key, KeyType, RollType, Side, Want, is_kept_at_parent, is_kept_present,
 };
 
-/// A list of more entries is long.
+/// A list with more entries than this is long.
 const ENTRIES_OF_SHORT_LIST: usize = 4;
 
-/// What a start asks of its new keys together: their algorithms, and the kinds among them.
+/// What a start asks of its new keys together: their algorithms, and which kinds are among them.
 #[derive(Clone, Copy)]
 pub struct NewKeys {
     pub algorithms: AlgorithmSet,
@@ -35,7 +35,7 @@ pub struct NewKeys {
     csk: bool,
 }
 
-/// What a start asks of no keys.
+/// The algorithms and kinds of no keys.
 const NO_KEYS: NewKeys = NewKeys {
     algorithms: [0; 4],
     ksk: false,
@@ -44,7 +44,9 @@ const NO_KEYS: NewKeys = NewKeys {
 };
 
 impl NewKeys {
-    /// Adds one more key, or refuses it: it has to be fresh, and not listed before.
+    /// Adds the algorithm and the kind of one more new key to `self`. Refuses the key with
+    /// `WrongKeyState` if it isn't fresh (available, not old, and in no use), or if `is_taken` says
+    /// that the start lists it before: `self` then stays as it was.
     fn add(&mut self, key: &Key, is_taken: bool) -> Result<(), Error>
         ensures sound { OnOk result (freshness_fault key.now is_taken ≡ None) }
         ensures fault { IfErr result (λ fault. freshness_fault key.now is_taken ≡ Some fault) }
@@ -68,7 +70,9 @@ impl NewKeys {
     }
 }
 
-/// Whether a key serves in its state, if it isn't listed as old.
+/// Whether a key of this kind and state is one to go on with after a start, as `want` asks, unless
+/// the start lists it as old. The role that is asked for must not be old, and has to be in the
+/// DNSKEY set, or for `KskAtParent` to have a DS at the parent.
 fn serves_as_kept(want: Want, keytype: KeyType) -> bool
     ensures { result ≡ serves_as_kept want keytype }
 {
@@ -81,7 +85,8 @@ fn serves_as_kept(want: Want, keytype: KeyType) -> bool
     }
 }
 
-/// Whether the roll of this column may go from keys of some algorithms to keys of others.
+/// Whether the roll of this column may go from old keys with the algorithms in `old` to new keys
+/// with those in `new`: the two sets are equal, or the roll may change algorithms.
 pub fn may_go_over(column: &Column, old: &AlgorithmSet, new: &AlgorithmSet) -> bool
     ensures same { result ≡ (column.now.changes_algorithms || bytes_eq old.now new.now) }
     ensures within { (at : List ℕ → Option KeyParts) (olds news : List (List ℕ))
@@ -93,7 +98,7 @@ pub fn may_go_over(column: &Column, old: &AlgorithmSet, new: &AlgorithmSet) -> b
     column.changes_algorithms || *old == *new
 }
 
-/// Whether a reference stands in a list.
+/// Whether `reference`, the public reference of a key, stands in the list `references`.
 fn is_listed(references: &[&str], reference: &str) -> bool
     ensures { result ≡ is_listed (texts references.now) reference.now }
 {
@@ -102,7 +107,9 @@ fn is_listed(references: &[&str], reference: &str) -> bool
 
 /// Why a start is refused for its keys.
 impl Keys {
-    /// The key that an entry names, or what is wrong with the entry, old or new.
+    /// The key that `reference` names, an entry in the list of old or of new keys of a start.
+    /// Refuses the entry with `KeyNotFound` if there is no such key, and with `WrongKeyType` if
+    /// `roll` doesn't change keys of its kind.
     fn listed_key(&self, roll: RollType, reference: &str) -> Result<&Key, Error>
         ensures key { IfOk result (λ key. map.get self.now reference.now ≡ Some key.now) }
         ensures sound { IfOk result (λ key.
@@ -121,7 +128,8 @@ impl Keys {
         }
     }
 
-    /// Puts the tag of the key at a reference into a set, if there is such a key.
+    /// Puts the tag of the key at `reference` into the set `tags`, if there is such a key. The tags
+    /// in the set stay in it.
     fn add_tag(&self, tags: &mut TagSet, reference: &str)
         ensures len { length tags.new ≡ length tags.old }
         ensures listed { (listed : List ℕ → Bool) → HasListed tags.old self.now listed
@@ -132,7 +140,9 @@ impl Keys {
         }
     }
 
-    /// Refuses the first old entry that has a fault, or answers the algorithms of the old keys.
+    /// Checks the old keys that a start of `roll` lists by their public references, and answers the
+    /// set of their algorithms. The first entry with a fault is refused: with `KeyNotFound`, or
+    /// with `WrongKeyType` if `roll` doesn't change keys of this kind.
     pub fn check_old(&self, roll: RollType, old: &[&str]) -> Result<AlgorithmSet, Error>
         ensures fault { AnswersExactly
             (old_fault roll (map.get self.now) (texts old.now)) result }
@@ -147,9 +157,13 @@ impl Keys {
         Ok(algorithms)
     }
 
-    /// Refuses the first new entry that has a fault, or answers what a start asks of the new keys.
-    /// Was an entry listed before? Short lists are read, long ones are put into a set of tags: to
-    /// clear the set costs more than to read a few entries.
+    /// Checks the new keys that a start of `roll` lists by their public references, and answers
+    /// their algorithms and kinds. The first entry of `new` with a fault is refused: with
+    /// `KeyNotFound`, `WrongKeyType` if `roll` doesn't change keys of this kind, or `WrongKeyState`
+    /// for a key that isn't fresh (available, not old, and in no use), or is listed in `old` or
+    /// earlier in `new`.
+    // To find an entry that is listed before, short lists are read, and long ones are put into a
+    // set of tags: to clear the set costs more than to read a few entries.
     #[tactic(auto, using(crate::proofs::Marks::lists))]
     pub fn check_new(&self, roll: RollType, old: &[&str], new: &[&str]) -> Result<NewKeys, Error>
         ensures fault { AnswersExactly
@@ -170,7 +184,12 @@ impl Keys {
         Ok(keys)
     }
 
-    /// The same for long lists: the tags of the keys that they name are put into a set.
+    /// Checks the new keys that a start of `roll` lists in `new`, if `old` or `new` is long, and
+    /// answers their algorithms and kinds. Both lists have public references. The first entry of
+    /// `new` with a fault is refused: with `KeyNotFound`, with `WrongKeyType` if `roll` doesn't
+    /// change keys of this kind, or with `WrongKeyState` for a key that isn't fresh (available, not
+    /// old, and in no use), or is listed in `old` or earlier in `new`.
+    // A set of tags tells which keys are listed already.
     // Out of line, so that a start with short lists doesn't pay for the place of the set.
     #[inline(never)]
     #[tactic(auto, using(crate::proofs::Marks::lists))]
@@ -194,8 +213,10 @@ impl Keys {
         Ok(keys)
     }
 
-    /// Refuses a start that leaves no key to go on with: for each want a new key has to serve, or a
-    /// key that isn't listed as old.
+    /// Refuses with `NoSuitableKeyPresent` a start that leaves no key to go on with. Each of
+    /// `wants` has to be met by a new key, of the kinds in `new`, or by a key whose flags are as
+    /// asked (not old, and in the DNSKEY set, or for `KskAtParent` with a DS at the parent) and
+    /// that isn't listed as old by its public reference in `old`.
     pub fn check_suitability(
         &self,
         wants: &[Want],
@@ -223,7 +244,9 @@ impl Keys {
         }
     }
 
-    /// Whether a key that isn't listed as old serves: more keys serve than are listed.
+    /// Whether there is a key to go on with after a start, as `want` asks, beside the new ones: its
+    /// flags are as asked, and it isn't listed as old by its public reference in `old`.
+    // It is so if more keys have such flags than are listed.
     #[tactic(auto, using(crate::proofs::Counted::counts))]
     fn has_kept(&self, want: Want, old: &[&str]) -> bool
         ensures { result ≡ some_kept (serves_as_kept want) self.now (texts old.now) }
@@ -231,7 +254,9 @@ impl Keys {
         self.count_listed(want, old) < self.count(want)
     }
 
-    /// How many keys of a list serve, if they aren't listed as old: each is counted once.
+    /// How many of the keys that a start lists as old, by their public references in `old`, would
+    /// be keys to go on with, as `want` asks, if they weren't listed. A key that is listed twice is
+    /// counted once.
     fn count_listed(&self, want: Want, old: &[&str]) -> usize
         ensures { result ≡
             count_in (listed_passes (serves_as_kept want) (texts old.now)) self.now }
@@ -243,7 +268,9 @@ impl Keys {
         }
     }
 
-    /// The same for a short list: an entry counts if none before it is the same.
+    /// How many of the keys that a start lists as old, by their public references in the short list
+    /// `old`, would be keys to go on with, as `want` asks, if they weren't listed. An entry isn't
+    /// counted if the same one stands before it.
     fn count_few_listed(&self, want: Want, old: &[&str]) -> usize
         ensures { result ≡
             count_in (listed_passes (serves_as_kept want) (texts old.now)) self.now }
@@ -255,7 +282,9 @@ impl Keys {
         count
     }
 
-    /// The same for a long list: the tags of the keys so far are put into a set.
+    /// How many of the keys that a start lists as old, by their public references in the long list
+    /// `old`, would be keys to go on with, as `want` asks, if they weren't listed. A set of the
+    /// tags so far tells which keys are counted already.
     #[inline(never)]
     fn count_many_listed(&self, want: Want, old: &[&str]) -> usize
         ensures { result ≡
@@ -270,7 +299,9 @@ impl Keys {
         count
     }
 
-    /// Whether the key at a reference serves, and isn't listed earlier.
+    /// Whether the key at `reference`, an entry in a start's list of old keys, has the flags that
+    /// `want` asks for, and the same entry isn't in `earlier`, the entries before it. `false` if
+    /// there is no such key.
     fn serves_but_for(&self, want: Want, reference: &str, earlier: &[&str]) -> bool
         ensures { result ≡ option_map_or (λ k. serves_as_kept want k.keytype
             && not (is_listed (texts earlier.now) reference.now))
@@ -282,7 +313,9 @@ impl Keys {
         }
     }
 
-    /// Whether the key at a reference serves, and isn't listed earlier, by the tags.
+    /// Whether the key at `reference`, an entry in a start's list of old keys, has the flags that
+    /// `want` asks for, and its tag isn't in `earlier`, the tags of the keys before it. `false` if
+    /// there is no such key.
     fn serves_first(&self, want: Want, reference: &str, earlier: &TagSet) -> bool
         ensures { result ≡ option_map_or (λ k. serves_as_kept want k.keytype
             && not (is_set earlier.now k.key_tag)) (map.get self.now reference.now) false }

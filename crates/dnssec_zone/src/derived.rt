@@ -1,6 +1,6 @@
 //! What is derived of the keys of a zone, so that calls needn't walk over them: their tags, how
 //! many of them a start could go on with, and the waits in progress. Each change of the keys is
-//! followed here, and in no other place.
+//! followed here, except the marks of a start, which `Keys::mark` follows.
 ghost use Rattle.std.specs.Prelude.{◌≡◌, ℕ, None, Some, true, false, nat_eq, IfOk, OnOk, OnErr};
 ghost use Rattle.std.specs.Prelude.{IsOkUnless, if◌then◌else◌, length, ◌≤◌, ◌<◌, ◌^◌, IsSome};
 ghost use Rattle.std.specs.{List.fold, Option.option_map, String.string_eq};
@@ -24,7 +24,8 @@ use std::alloc::Global;
 /// Up to this many keys we read each key's tag; more keys have an index of their tags.
 const KEYS_WITHOUT_INDEX: usize = 16;
 
-/// Whether a setter may change the counts. None of them asks whether a key signs.
+/// Whether a setter may change how many keys meet some `Want`: it may if it sets whether a key is
+/// present, has a DS at the parent, or is stale. No count asks whether a key signs.
 fn moves_counts(setting: &Setting) -> bool
     ensures { result ≡ moves_counts (setting_of setting.now) }
 {
@@ -34,12 +35,12 @@ fn moves_counts(setting: &Setting) -> bool
     )
 }
 
-/// What is derived of the keys. Others only read it.
+/// What is derived of the keys. Only `keys` uses it.
 #[derive(Drop)]
 pub(crate) struct Derived {
-    /// The tags of the keys, after there were many.
+    /// The tags of the keys: an index, as soon as there were many keys.
     pub(crate) tags: TagIndex,
-    /// How many keys a start could go on with.
+    /// For each `Want` of a start, how many keys meet it by their flags.
     pub(crate) counts: Counts,
     /// The waits in progress; one that is asked for is kept too. An add, a start and its early end
     /// drop them. A deletion never does: no wait checks a stale key.
@@ -47,7 +48,7 @@ pub(crate) struct Derived {
 }
 
 impl Derived {
-    /// What is derived of no keys.
+    /// What is derived of no keys: no index of tags, all counts zero, and no wait that is known.
     pub(crate) fn none() -> Derived
         ensures tags { (t : ℕ) → has result.tags t ≡ None }
         ensures counts { result.counts ≡ no_counts }
@@ -60,7 +61,8 @@ impl Derived {
         }
     }
 
-    /// A copy, if there is memory for the index.
+    /// A copy, or `OutOfMemory`. The index of tags is copied into memory of `alloc`, if there is
+    /// one. Nothing else takes memory.
     pub(crate) fn try_clone(&self, alloc: Global) -> Result<Derived, Error>
         ensures tags { IfOk result (λ copy. (t : ℕ) → has copy.tags t ≡ has self.now.tags t) }
         ensures counts { IfOk result (λ copy. copy.counts ≡ self.now.counts) }
@@ -74,8 +76,10 @@ impl Derived {
         })
     }
 
-    /// Begins an index of the tags if there is none, and there are many keys with one more. First
-    /// it refuses a reference that a key already has: a refused add takes no memory.
+    /// Prepares for one more key beside `keys`, at the public reference `pubref`. If there is no
+    /// index of tags yet, and there are at least `KEYS_WITHOUT_INDEX` keys, it begins one in memory
+    /// of `alloc`. Before that it refuses with `KeyExists` a reference that a key has, so that a
+    /// refused add takes no memory. After an error, also `OutOfMemory`, `self` is as before.
     // Inline, so that most adds make no call for it.
     #[inline(always)]
     #[tactic(auto, using(crate::proofs::Counted::all_shown))]
@@ -105,7 +109,8 @@ impl Derived {
         Ok(())
     }
 
-    /// A key has come in.
+    /// Brings what is derived up to date with a new key of this kind, with this tag: notes the tag
+    /// as in use, and counts the key. What was known of waits is forgotten.
     pub(crate) fn add(&mut self, key_tag: u16, keytype: &KeyType)
         ensures tags { (t : ℕ) → has self.new.tags t ≡ option_map
             (λ b. if nat_eq key_tag t then true else b) (has self.old.tags t) }
@@ -117,7 +122,8 @@ impl Derived {
         self.counts.count(keytype, Counting::OneMore);
     }
 
-    /// A stale key has gone: it was in no count, and in no wait.
+    /// Brings what is derived up to date after a stale key was deleted: notes its tag as no longer
+    /// in use. The rest stays, for a stale key is in no count, and in no wait.
     pub(crate) fn delete(&mut self, key_tag: u16)
         ensures tags { (t : ℕ) → has self.new.tags t ≡ option_map
             (λ b. if nat_eq key_tag t then false else b) (has self.old.tags t) }
@@ -127,7 +133,9 @@ impl Derived {
         self.tags.note(key_tag, false);
     }
 
-    /// Changes a key by hand. What is known of a wait stays if the wait sees no change.
+    /// Changes `key` by hand as `setting` says, and brings the counts up to date. Updates each wait
+    /// too, or drops it if only a walk over the keys tells when it is over. The index of tags
+    /// stays.
     pub(crate) fn set(&mut self, key: &mut Key, setting: &Setting)
         ensures key { key.new ≡ set_by (setting_of setting.now) key.old }
         ensures tags { self.new.tags ≡ self.old.tags }
@@ -152,7 +160,8 @@ impl Derived {
         self.counts.count(&key.keytype(), Counting::OneMore);
     }
 
-    /// Flags of keys have changed: all are counted again.
+    /// Counts all `keys` again after the flags of many have changed, and forgets what was known of
+    /// waits. The index of tags stays.
     pub(crate) fn recount(&mut self, keys: &KeyMap)
         ensures tags { self.new.tags ≡ self.old.tags }
         ensures counts { CountsAgree self.new.counts (keys_in_map keys.now) }
@@ -162,9 +171,11 @@ impl Derived {
         self.counts = count_all(keys);
     }
 
-    /// A phase has ended. Tools ask often for the wait that a report begins, so what a walk finds
-    /// out about it is kept. A wait has moved the keys on. They are counted again if that may
-    /// change a count.
+    /// Brings what is derived up to date after the end of a phase in this half of `roll` has
+    /// changed `keys`. After a report it finds by a walk when the wait that now begins is over.
+    /// After a wait it forgets that wait, and counts the keys again if that may change a count. The
+    /// wait of another roll, if there is one, is found anew by a walk. The index of tags stays.
+    // Tools ask often for the wait that a report begins, so what a walk finds out about it is kept.
     pub(crate) fn end_phase(&mut self, keys: &KeyMap, end: PhaseEnd, roll: RollType, half: Half)
         ensures tags { self.new.tags ≡ self.old.tags }
         ensures moved { end_moves_kept end roll half ≡ true
@@ -185,7 +196,7 @@ impl Derived {
     }
 }
 
-/// An index of the tags of the keys.
+/// An index of the tags of `keys`, in memory of `alloc`, or `OutOfMemory`.
 fn index_of(alloc: Global, keys: &KeyMap) -> Result<TagIndex, Error>
     ensures ok { IfOk result (λ index. (t : ℕ) →
         has index t ≡ Some (has_tag t (keys_in_map keys.now))) }
@@ -198,14 +209,17 @@ fn index_of(alloc: Global, keys: &KeyMap) -> Result<TagIndex, Error>
     Ok(index)
 }
 
-/// The counts of the keys.
+/// For each `Want` of a start, how many of `keys` meet it by their flags. For `PresentKsk` these
+/// are the KSKs in the DNSKEY set that aren't old. A walk counts all of them anew.
 fn count_all(keys: &KeyMap) -> Counts
     ensures { CountsAgree result (keys_in_map keys.now) }
 {
     count_one_by_one(keys)
 }
 
-/// The counts by a walk over the keys.
+/// For each `Want` of a start, how many of `keys` meet it by their flags. For `PresentKsk` these
+/// are the KSKs in the DNSKEY set that aren't old. The contract says it as a walk that adds one key
+/// after the other, for `count_all` to conclude from.
 fn count_one_by_one(keys: &KeyMap) -> Counts
     ensures walk { result ≡ fold (λ c k. with_key k.keytype c) no_counts (hash.values keys.now) }
     ensures unique { hash.IsUnique string_eq keys.now }

@@ -1,6 +1,6 @@
 //! What answers for the keys of a zone without a walk over them: the tags in use, and how many keys
-//! a start could go on with. Sets of numbers are bits in words of 64, which take no memory of the
-//! allocator.
+//! a start could go on with. A set of tags or algorithms is an array of words, with a bit for each
+//! number. Only the index of tags takes memory of the allocator, for its set.
 ghost use Rattle.std.specs.Prelude.{◌≡◌, ◌<◌, ◌/◌, ℕ, length, nat_eq, false};
 ghost use Rattle.std.specs.Prelude.{None, Some, is_none, if◌then◌else◌, IfOk, IsOkUnless};
 ghost use Rattle.std.specs.Option.{option_map};
@@ -17,7 +17,8 @@ pub(crate) type TagSet = [u64; 1024];
 /// A bit for each algorithm.
 pub type AlgorithmSet = [u64; 4];
 
-/// Whether a number is in a set.
+/// Whether `number` is in the set of key tags or of algorithms that `words` are: each word has the
+/// bits of 64 numbers. A number for which there is no word isn't in it.
 pub(crate) fn is_set(words: &[u64], number: u16) -> bool
     ensures { result ≡ is_set words.now number }
 {
@@ -27,7 +28,9 @@ pub(crate) fn is_set(words: &[u64], number: u16) -> bool
     }
 }
 
-/// Puts a number into a set that has a bit for it, or takes it out.
+/// Puts `number` into the set of key tags or of algorithms that `words` are, or takes it out if
+/// `is_in` is `false`. Each word has the bits of 64 numbers, and there has to be one for `number`.
+/// All other numbers stay in the set, or out of it.
 pub(crate) fn set(words: &mut [u64], number: u16, is_in: bool)
     requires { number / 64 < length words.old }
     ensures len { length words.new ≡ length words.old }
@@ -43,22 +46,23 @@ pub(crate) fn set(words: &mut [u64], number: u16, is_in: bool)
     };
 }
 
-/// The tags in use, a bit for each; or no index, if there are so few keys that each is asked.
+/// An index of the key tags in use, a bit for each. As long as there were few keys there is none,
+/// and the tag of each key is read.
 #[derive(Drop)]
 pub(crate) struct TagIndex {
     tags: Option<Box<TagSet>>,
 }
 
 impl TagIndex {
-    /// No index.
+    /// No index of the key tags in use: there are so few keys that the tag of each can be read.
     pub(crate) fn none() -> TagIndex
         ensures { (t : ℕ) → has result t ≡ None }
     {
         TagIndex { tags: None }
     }
 
-    /// An index in which no tag is.
-    // Out of line, as the next function, so that other calls need no stack for the bits.
+    /// An index in which no key tag is in use yet, in memory of `alloc`, or `OutOfMemory`.
+    // Out of line, as `try_clone`, so that other calls need no stack for the bits.
     #[inline(never)]
     pub(crate) fn empty(alloc: Global) -> Result<TagIndex, Error>
         ensures empty { IfOk result (λ index. (t : ℕ) → has index t ≡ Some false) }
@@ -67,7 +71,8 @@ impl TagIndex {
         boxed(alloc, [0; 1024])
     }
 
-    /// A copy of the index, or of none.
+    /// A copy of the index in memory of `alloc`, or `OutOfMemory`. If there is no index, the copy
+    /// has none either, and takes no memory.
     #[inline(never)]
     pub(crate) fn try_clone(&self, alloc: Global) -> Result<TagIndex, Error>
         ensures same { IfOk result (λ index. (t : ℕ) → has index t ≡ has self.now t) }
@@ -79,14 +84,14 @@ impl TagIndex {
         }
     }
 
-    /// Whether there is no index.
+    /// Whether there is no index of the key tags in use.
     pub(crate) fn is_none(&self) -> bool
         ensures { (t : ℕ) → result ≡ is_none (has self.now t) }
     {
         self.tags.is_none()
     }
 
-    /// Whether a tag is in use; `None` if there is no index.
+    /// Whether a key has this key tag, as the index says. `None` if there is no index.
     pub(crate) fn has(&self, key_tag: u16) -> Option<bool>
         ensures { result ≡ has self.now key_tag }
     {
@@ -96,7 +101,8 @@ impl TagIndex {
         }
     }
 
-    /// Notes that a tag is in use from now on, or no longer, if there is an index.
+    /// Notes in the index that this key tag is in use from now on, or no longer if `in_use` is
+    /// `false`. Nothing happens if there is no index.
     pub(crate) fn note(&mut self, key_tag: u16, in_use: bool)
         ensures { (t : ℕ) → has self.new t ≡ option_map
             (λ b. if nat_eq key_tag t then in_use else b) (has self.old t) }
@@ -108,7 +114,7 @@ impl TagIndex {
     }
 }
 
-/// An index with these tags.
+/// An index in which exactly these key tags are in use, in memory of `alloc`, or `OutOfMemory`.
 fn boxed(alloc: Global, tags: TagSet) -> Result<TagIndex, Error>
     ensures ok { IfOk result (λ index. (t : ℕ) → has index t ≡ Some (is_set tags t)) }
     ensures err { IsOkUnless result OutOfMemory }
@@ -117,8 +123,9 @@ fn boxed(alloc: Global, tags: TagSet) -> Result<TagIndex, Error>
     Ok(TagIndex { tags: Some(tags) })
 }
 
-/// For each want, how many keys meet it by the states of their roles, whether a start lists them as
-/// old or not.
+/// For each `Want` of a start, how many keys meet it by their flags: the role that it asks for
+/// isn't old, and is in the DNSKEY set, or for `KskAtParent` has a DS at the parent. Keys that the
+/// start is to list as old are counted too.
 #[derive(Clone, Copy)]
 pub(crate) struct Counts {
     present_ksk: usize,
@@ -136,7 +143,9 @@ pub(crate) enum Counting {
 }
 
 impl Counting {
-    /// Changes a count, if the key serves.
+    /// Adds one to `count`, the number of keys that a start could go on with, for a key that comes
+    /// in, or takes one off for a key that goes out. `count` stays if the key isn't among them, as
+    /// `serves` says.
     fn change(self, count: &mut usize, serves: bool)
         ensures { count.new ≡ count_after serves self count.old }
     {
@@ -150,7 +159,7 @@ impl Counting {
 }
 
 impl Counts {
-    /// The counts of no keys.
+    /// The counts of no keys: zero for each `Want`.
     pub(crate) fn none() -> Counts
         ensures { result ≡ no_counts }
     {
@@ -163,7 +172,9 @@ impl Counts {
         }
     }
 
-    /// How many keys meet a want.
+    /// How many keys meet `want` by their flags: the role that it asks for isn't old, and is in the
+    /// DNSKEY set, or for `KskAtParent` has a DS at the parent. Keys that a start lists as old are
+    /// counted too.
     pub(crate) fn of(&self, want: Want) -> usize
         ensures { result ≡ count_of self.now want }
     {
@@ -176,7 +187,9 @@ impl Counts {
         }
     }
 
-    /// Counts a key, or counts it no longer.
+    /// Brings the counts up to date when a key of this kind and state comes in or goes out, as
+    /// `counting` says. The count of each `Want` that the key meets by its flags changes by one,
+    /// and the other counts stay. Another signer's key is in no count.
     pub(crate) fn count(&mut self, keytype: &KeyType, counting: Counting)
         ensures { self.new ≡ counts_after counting keytype.now self.old }
     {

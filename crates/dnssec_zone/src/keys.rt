@@ -57,7 +57,8 @@ fn some_has_tag(keys: &KeyMap, key_tag: u16) -> bool
     keys.values().any(|key| key.key_tag() == key_tag)
 }
 
-/// Puts a key at a reference that no other key has.
+/// Puts `key` into `map` at the public reference `pubref`. Refuses it with `KeyExists` if a key has
+/// this reference, or with `OutOfMemory`: the keys in `map` are then as before.
 #[inline(always)]
 fn put_new(map: &mut KeyMap, pubref: String, key: Key) -> Result<(), Error>
     ensures reply { Answers
@@ -75,7 +76,9 @@ fn put_new(map: &mut KeyMap, pubref: String, key: Key) -> Result<(), Error>
     }
 }
 
-/// Undoes a start on a key that it listed as old, or as new.
+/// Undoes what the start of `roll` did to the flags of `key`, if the roll listed it: as old if its
+/// tag is in `olds`, as new if it is in `news`. Its stamps stay, and a key that wasn't listed stays
+/// whole.
 fn unmark_key(roll: RollType, olds: &TagSet, news: &TagSet, key: &mut Key)
     ensures { key.new ≡ after_early_end roll
         (is_set olds.now key.old.key_tag) (is_set news.now key.old.key_tag) key.old }
@@ -90,7 +93,7 @@ fn unmark_key(roll: RollType, olds: &TagSet, news: &TagSet, key: &mut Key)
 }
 
 impl Keys {
-    /// No keys.
+    /// The keys of a zone that has none yet. They will take their memory from `alloc`.
     pub fn new(alloc: Global) -> Self
         ensures { result ≡ map.empty }
     {
@@ -100,7 +103,8 @@ impl Keys {
         }
     }
 
-    /// A copy, if there is memory for it.
+    /// A copy of all keys, with what is derived of them, or `OutOfMemory`. The index of tags is
+    /// copied into memory of `alloc`.
     pub fn try_clone(&self, alloc: Global) -> Result<Keys, Error>
         ensures same { IfOk result (λ keys. keys ≡ self.now) }
         ensures err { IsOkUnless result OutOfMemory }
@@ -111,7 +115,7 @@ impl Keys {
         })
     }
 
-    /// The map itself, for callers to read. No two keys have one tag.
+    /// The keys by their public references, to read. No two keys have one tag.
     #[tactic(auto, using(crate::proofs::Walks::shown))]
     pub fn as_map(&self) -> &HashMap<String, Key>
         ensures shown { keys_in_map result.now ≡ self.now }
@@ -121,7 +125,8 @@ impl Keys {
         &self.map
     }
 
-    /// Whether some key has the tag.
+    /// Whether some key has the tag: by the index of tags, or by a walk over the keys if there is
+    /// none.
     fn has_tag(&self, key_tag: u16) -> bool
         ensures { result ≡ has_tag key_tag self.now }
     {
@@ -131,14 +136,18 @@ impl Keys {
         }
     }
 
-    /// How many keys meet a want in their state, whether a start lists them as old or not.
+    /// How many keys meet `want` by their flags: the role that it asks for isn't old, and is in the
+    /// DNSKEY set, or for `KskAtParent` has a DS at the parent. Keys that a start lists as old are
+    /// counted too.
     pub(crate) fn count(&self, want: Want) -> usize
         ensures { result ≡ count_in (passes (serves_as_kept want)) self.now }
     {
         self.derived.counts.of(want)
     }
 
-    /// Adds a key. Its tag is looked for first, then its reference.
+    /// Adds `key` at the public reference `pubref`. Refuses it with `DuplicateKeyTag` if a key has
+    /// its tag, else with `KeyExists` if a key has the reference, or with `OutOfMemory`. No key is
+    /// then changed. `alloc` gives the memory for the index of tags that many keys have.
     // Inline, as `put_new` below and the key set's `add`, so that a key is made where it stays.
     #[inline(always)]
     #[tactic(auto, using(crate::proofs::Walks::shown))]
@@ -159,8 +168,9 @@ impl Keys {
         Ok(())
     }
 
-    /// Takes out the key at a reference, if it is stale: such a key is in no count. Answers its
-    /// tag.
+    /// Deletes the key at the public reference `pubref`, and answers its tag. Refuses it with
+    /// `KeyNotFound`, or with `KeyNotOld` unless the key is stale in each of its roles: old, not
+    /// signing, not in the DNSKEY set, and without a DS at the parent. No key is then changed.
     #[tactic(auto, using(crate::proofs::Walks::shown))]
     pub fn delete(&mut self, pubref: &str) -> Result<u16, Error>
         ensures reply { AnswersExactly (deletion_refusal (map.get self.old pubref.now)) result }
@@ -182,7 +192,10 @@ impl Keys {
         Ok(key_tag)
     }
 
-    /// Changes the key at a reference by hand. Answers its tag.
+    /// Changes the key at the public reference `pubref` by hand as `setting` says, and answers its
+    /// tag. Refuses it with `KeyNotFound`, or with `WrongKeyType` if `setting` is about the DS of a
+    /// key that is neither KSK nor CSK, or about whether another signer's key signs. No key is then
+    /// changed.
     #[tactic(auto, using(crate::proofs::Walks::shown))]
     pub fn set(&mut self, pubref: &str, setting: &Setting) -> Result<u16, Error>
         ensures reply { AnswersExactly
@@ -205,7 +218,9 @@ impl Keys {
         Ok(key_tag)
     }
 
-    /// Marks the keys that a start lists.
+    /// Marks the keys that a start lists by their public references, as `mark` says: as old, or as
+    /// new ones of its roll, which sets flags and may stamp them as published. Other keys stay. An
+    /// entry that names no key is passed over. What was known of waits is forgotten.
     pub fn mark(&mut self, references: &[&str], mark: &KeyMark)
         ensures { (q : List ℕ) → map.get self.new q
             ≡ option_map (λ k. if is_listed (texts references.now) q then marked mark.now k else k)
@@ -226,7 +241,9 @@ impl Keys {
         self.derived.waits.of_zsks = None;
     }
 
-    /// Undoes a start on the keys that it listed as old, or as new, by their tags.
+    /// Undoes what the start of `roll` did to the keys that it listed, for an early end. Keys whose
+    /// tag is in `olds` are no longer old. Keys whose tag is in `news` lose the flags by which they
+    /// came in. Other flags, all stamps and all other keys stay.
     pub(crate) fn unmark(&mut self, roll: RollType, olds: &TagSet, news: &TagSet)
         ensures { (q : List ℕ) → map.get self.new q ≡ option_map (λ k. after_early_end roll
             (is_set olds.now k.key_tag) (is_set news.now k.key_tag) k) (map.get self.old q) }
@@ -238,7 +255,8 @@ impl Keys {
         self.derived.recount(&self.map);
     }
 
-    /// Changes every key as the end of a phase does.
+    /// Changes every key as the end of a phase in this half of `roll` does, at the moment `now`: a
+    /// report writes stamps, and the end of a wait also changes flags. No key comes in or goes out.
     pub fn end_phase(&mut self, end: PhaseEnd, roll: RollType, half: Half, now: UnixTime)
         ensures { (q : List ℕ) → map.get self.new q
             ≡ option_map (after_end end roll half now) (map.get self.old q) }
@@ -251,8 +269,9 @@ impl Keys {
         self.derived.end_phase(&self.map, end, roll, half);
     }
 
-    /// The nanosecond since 1970 from which a wait of `ttl` seconds is over, or `None` if a stamp
-    /// is missing.
+    /// The nanosecond since 1970 from which the wait in this half of `roll` for a TTL of `ttl`
+    /// seconds is over: 0 if it checks no key. `None` if a key that the wait checks lacks the stamp
+    /// that it reads.
     pub fn over_from(&self, roll: RollType, half: Half, ttl: u32) -> Option<u128>
         ensures over { IfSome result (λ end.
             IsOverFrom roll half ttl self.now end) }
@@ -264,7 +283,10 @@ impl Keys {
         }
     }
 
-    /// The same. What a walk over the keys finds is kept, so that the next call needs no walk.
+    /// The nanosecond since 1970 from which the wait in this half of `roll` for a TTL of `ttl`
+    /// seconds is over. `None` if a key that the wait checks lacks the stamp that it reads, else 0
+    /// if it checks no key or `ttl` is 0. No key changes: `self` only keeps what a walk over them
+    /// finds, so that the next call needs no walk.
     pub fn find_wait(&mut self, roll: RollType, half: Half, ttl: u32) -> Option<u128>
         ensures over { IfSome result (IsOverFrom roll half ttl self.old) }
         ensures missing { IfNone result (LacksStamp roll half ttl self.old) }

@@ -1,8 +1,9 @@
 //! The parts of a key set: the keys of a zone by their references, its rolls in progress, and what
 //! the starts of rolls listed. Also why a start is refused, and from when on a wait is over.
 //!
-//! `dnssec_keyset` puts them together. Here only `keys`, with what it calls of `derived` and
-//! `wait_end`, opens the map of keys, and only `rolls` that of rolls.
+//! `dnssec_keyset` puts them together. Only `keys` changes the map of keys. It hands the map to
+//! `derived` and `wait_end` to read, and one key at a time to change. `check` and `rolls` read the
+//! map by `Keys::as_map`. Only `rolls` changes the map of the rolls' phases.
 #![tactic(auto)]
 
 mod check;

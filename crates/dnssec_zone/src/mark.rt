@@ -1,7 +1,7 @@
-//! What a start marks a key as.
+//! How the start of a roll marks the keys that it lists.
 use dnssec_key::{RollType, UnixTime};
 
-/// What a start marks the keys as that it lists: as old, or as new by a roll from a moment on.
+/// How the start of a roll marks a key: as old, or as a new one of this roll at this moment.
 #[derive(Clone, Copy)]
 pub enum KeyMark {
     AsOld,

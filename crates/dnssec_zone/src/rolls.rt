@@ -1,5 +1,4 @@
-//! The rolls in progress: the phase of each, and the keys that the start of each has listed, while
-//! the roll may be ended early. No other module opens the map that has the phases.
+//! The phases of the rolls in progress, and the keys that each start listed, until a first report.
 ghost use Rattle.std.specs.Prelude.{◌≡◌, not, ◌&&◌, is_some, IsSome, None, Some, IfOk, ℕ, List, []};
 ghost use Rattle.std.specs.Prelude.{IsOkUnless, OnOk, OnErr, ◌++◌, ◌≤◌, ◌+◌, length, vec_len};
 ghost use Rattle.std.specs.FinMap as map;
@@ -24,7 +23,7 @@ use std::alloc::Global;
 use std::collections::HashMap;
 use std::marker::Model;
 
-/// The rolls, in the order of their kinds.
+/// The six kinds of rolls, each once, in the order in which `RollType` has them.
 pub fn all_rolls() -> &'static [RollType]
     ensures { result.now ≡ all_rolls }
 {
@@ -56,7 +55,7 @@ impl Model for Rolls {
 }
 
 impl Rolls {
-    /// No roll is in progress.
+    /// The rolls of a zone with none in progress. They will take their memory from `alloc`.
     pub fn new(alloc: Global) -> Self
         ensures { result ≡ no_rolls }
     {
@@ -65,7 +64,7 @@ impl Rolls {
         }
     }
 
-    /// A copy, if there is memory for it.
+    /// A copy of the rolls in progress with their phases, or `OutOfMemory`.
     pub fn try_clone(&self) -> Result<Rolls, Error>
         ensures same { IfOk result (λ rolls. rolls ≡ self.now) }
         ensures err { IsOkUnless result OutOfMemory }
@@ -74,7 +73,7 @@ impl Rolls {
         Ok(Rolls { phases })
     }
 
-    /// The map itself, for callers to read.
+    /// The rolls in progress, each with its phase, to read.
     #[tactic(auto, using(crate::proofs::Phases::phases))]
     pub fn as_map(&self) -> &HashMap<RollType, RollState>
         ensures shown { rolls_in_map result.now ≡ self.now }
@@ -92,7 +91,7 @@ impl Rolls {
         self.phases.get(&roll).copied()
     }
 
-    /// Puts a roll into a phase. Without memory for it nothing is changed.
+    /// Puts `roll` into `phase`, also if it wasn't in progress. Nothing changes on `OutOfMemory`.
     #[tactic(auto, using(crate::proofs::Phases::phases))]
     pub fn put_in(&mut self, roll: RollType, phase: RollState) -> Result<(), Error>
         ensures ok { OnOk result (self.new ≡ with_phase self.old roll (Some phase)) }
@@ -103,7 +102,7 @@ impl Rolls {
         Ok(())
     }
 
-    /// Moves a roll in progress to another phase.
+    /// Moves `roll`, which has to be in progress, on to `phase`. No memory is taken.
     #[tactic(auto, using(crate::proofs::Phases::phases))]
     pub fn move_to(&mut self, roll: RollType, phase: RollState)
         requires { IsSome (phase_of self.old roll) }
@@ -114,8 +113,8 @@ impl Rolls {
         }
     }
 
-    /// Moves a roll on by a report, or refuses a report that the roll isn't waiting for. The roll
-    /// is looked up once, and no memory is taken.
+    /// Moves `roll` on to its wait of `ttl` seconds by the report of this half. Refuses the report
+    /// with `WrongStateForRollOperation` if the roll doesn't wait for it: nothing changes then.
     #[tactic(auto, using(crate::proofs::Phases::phases))]
     pub fn take_report(&mut self, roll: RollType, half: Half, ttl: u32) -> Result<(), Error>
         ensures reply { AnswersExactly
@@ -134,7 +133,7 @@ impl Rolls {
         Ok(())
     }
 
-    /// Ends a roll.
+    /// Ends `roll`: it is no longer in progress. Nothing changes if it wasn't.
     #[tactic(auto, using(crate::proofs::Phases::phases))]
     pub fn take_out(&mut self, roll: RollType)
         ensures { self.new ≡ with_phase self.old roll None }
@@ -142,7 +141,7 @@ impl Rolls {
         self.phases.remove(&roll);
     }
 
-    /// Whether a roll is in progress beside which this one may not begin.
+    /// Whether `roll` is in progress, or another roll is that may not be in progress with it.
     fn has_conflict(&self, roll: RollType) -> bool
         ensures { result ≡ has_conflict roll self.now }
     {
@@ -150,7 +149,8 @@ impl Rolls {
             && !go_together(roll, *other))
     }
 
-    /// Refuses a roll that is in progress, or that doesn't go with one in progress.
+    /// Refuses the start of `roll` with `WrongStateForRollOperation` if it is in progress, else
+    /// with `ConflictingRollInProgress` if another is, unless one is KSK-only, and one ZSK-only.
     #[tactic(auto, unfolding(crate::specs::Start::conflict))]
     pub fn check_conflict(&self, roll: RollType) -> Result<(), Error>
         ensures { AnswersExactly (conflict roll self.now) result }
@@ -168,7 +168,7 @@ impl Rolls {
         Ok(())
     }
 
-    /// Refuses the end of a roll that isn't in its last phase.
+    /// Refuses with `WrongStateForRollOperation` to end `roll`, unless it is in phase `Done`.
     pub fn check_end(&self, roll: RollType) -> Result<(), Error>
         ensures { AnswersExactly (end_refusal (phase_of self.now roll)) result }
     {
@@ -178,7 +178,8 @@ impl Rolls {
         }
     }
 
-    /// Refuses an early end of a roll after its first report.
+    /// Refuses with `WrongStateForRollOperation` to end `roll` early, unless it waits for its first
+    /// report: after that, caches may hold what its start changed.
     pub fn check_early_end(&self, roll: RollType) -> Result<(), Error>
         ensures { AnswersExactly (early_end_refusal (phase_of self.now roll)) result }
     {
@@ -188,7 +189,7 @@ impl Rolls {
         }
     }
 
-    /// The TTL that a wait goes by, if the roll is in the phase of this wait.
+    /// The TTL, in seconds, that `roll` waits for in this half. `None` if it isn't in this wait.
     pub fn ttl_in(&self, roll: RollType, half: Half) -> Option<u32>
         ensures { result ≡ ttl_in half (phase_of self.now roll) }
     {
@@ -200,7 +201,7 @@ impl Rolls {
     }
 }
 
-/// Whether a roll in a phase waits for a report.
+/// Whether a roll in `phase` waits for the report of this half, and so accepts it.
 fn awaits_report(phase: RollState, half: Half) -> bool
     ensures { result ≡ not (is_some (report_refusal half (Some phase))) }
 {
@@ -210,7 +211,7 @@ fn awaits_report(phase: RollState, half: Half) -> bool
     )
 }
 
-/// Whether two rolls may be in progress together: they change no key in common.
+/// Whether two rolls may be in progress together: one changes only KSKs, the other only ZSKs.
 pub fn go_together(one: RollType, other: RollType) -> bool
     ensures { result ≡ together one other }
 {
@@ -220,16 +221,14 @@ pub fn go_together(one: RollType, other: RollType) -> bool
     )
 }
 
-/// The part that a key plays in a roll.
+/// The part that a key plays in a roll: an old key goes out, a new one comes in.
 #[derive(Clone, Copy, Debug, PartialEq, Eq)]
 pub enum Part {
-    /// It goes out.
     Old,
-    /// It comes in.
     New,
 }
 
-/// Whether the two parts are one.
+/// Whether the two parts are the same: both old, or both new.
 pub fn same_part(part: Part, other: Part) -> bool
     ensures { result ≡ same_part part other }
 {
@@ -247,15 +246,14 @@ pub(crate) struct ListedKey {
     pub(crate) key_tag: u16,
 }
 
-/// The keys that starts have listed: the new ones, and the old ones that were not old before. They
-/// are kept by their tags, so that no text is copied.
+/// By their tags, the keys that starts listed: the new ones, and old ones that weren't old before.
 #[derive(Drop)]
 pub struct Lists {
     entries: Vec<ListedKey>,
 }
 
 impl ListedKey {
-    /// Whether the start of this roll has listed it.
+    /// Whether the start of `roll` has listed this key, as old or as new.
     #[tactic(auto, using(crate::proofs::Phases::phases))]
     fn is_of_roll(self, roll: RollType) -> bool
         ensures { result ≡ is_of_roll roll self }
@@ -263,14 +261,14 @@ impl ListedKey {
         roll == self.roll
     }
 
-    /// The tag of the key.
+    /// The key tag of the listed key (RFC 4034, appendix B).
     fn key_tag(self) -> u16
         ensures { result ≡ self.key_tag }
     {
         self.key_tag
     }
 
-    /// Whether the start of this roll has listed it as this.
+    /// Whether the start of `roll` has listed this key as `part`, old or new.
     fn is_of(self, roll: RollType, part: Part) -> bool
         ensures { result ≡ is_of roll part self }
     {
@@ -279,7 +277,7 @@ impl ListedKey {
 }
 
 impl Lists {
-    /// No start has listed a key.
+    /// Lists in which no start has listed a key. They will take their memory from `alloc`.
     pub fn new(alloc: Global) -> Lists
         ensures { result.entries.items ≡ [] }
     {
@@ -288,7 +286,7 @@ impl Lists {
         }
     }
 
-    /// A copy, if there is memory for it.
+    /// A copy of all that starts have listed, or `OutOfMemory`.
     pub fn try_clone(&self) -> Result<Lists, Error>
         ensures same { IfOk result (λ lists. lists.entries.items ≡ self.now.entries.items) }
         ensures err { IsOkUnless result OutOfMemory }
@@ -297,7 +295,7 @@ impl Lists {
         Ok(Lists { entries })
     }
 
-    /// Makes room for what a start lists.
+    /// Reserves memory for the keys in a start's two lists. No entry changes, even on an error.
     pub fn make_room(&mut self, old: &[&str], new: &[&str]) -> Result<(), Error>
         ensures same { self.new.entries.items ≡ self.old.entries.items }
         ensures room { OnOk result (vec_len self.new.entries + (length old.now + length new.now)
@@ -309,7 +307,8 @@ impl Lists {
         Ok(())
     }
 
-    /// Lists what a start lists, in place of what its roll listed before. There has to be room.
+    /// Lists, in place of what `roll` had listed, the keys of `old` and `new` (references) that are
+    /// there and not old yet. Call `make_room` for them before it, and change their flags after it.
     pub fn start(&mut self, keys: &Keys, roll: RollType, old: &[&str], new: &[&str])
         requires { vec_len self.old.entries + (length old.now + length new.now)
             ≤ vec_capacity self.old.entries }
@@ -321,7 +320,7 @@ impl Lists {
         self.list(keys, roll, Part::New, new);
     }
 
-    /// Lists the keys that are not old. No new key of a start is old.
+    /// Adds an entry, as this part in `roll`, for each key that isn't old and `references` names.
     fn list(&mut self, keys: &Keys, roll: RollType, part: Part, references: &[&str])
         requires { vec_len self.old.entries + length references.now
             ≤ vec_capacity self.old.entries }
@@ -345,7 +344,7 @@ impl Lists {
         }
     }
 
-    /// Drops what is kept for a roll.
+    /// Drops all that the start of `roll` has listed. What other starts have listed stays.
     pub fn take_out(&mut self, roll: RollType)
         ensures items { self.new.entries.items ≡ without_roll roll self.old.entries.items }
         ensures len { vec_len self.new.entries ≤ vec_len self.old.entries }
@@ -354,7 +353,8 @@ impl Lists {
         self.entries.retain(|entry| !entry.is_of_roll(roll));
     }
 
-    /// After its first report a roll can't be ended early, and nothing is kept for it.
+    /// Updates the lists for the report of this half of `roll`. The first one drops what the start
+    /// listed, since no early end may come after it. The second one changes nothing.
     pub fn report(&mut self, roll: RollType, half: Half)
         ensures { self.new.entries.items
             ≡ entries_after_report roll half self.old.entries.items }
@@ -365,14 +365,14 @@ impl Lists {
         }
     }
 
-    /// Takes a key out of all lists.
+    /// Drops the entries of the key with this tag, so that no early end of a roll changes it.
     pub fn forget(&mut self, key_tag: u16)
         ensures { self.new.entries.items ≡ without_tag key_tag self.old.entries.items }
     {
         self.entries.retain(|entry| entry.key_tag != key_tag);
     }
 
-    /// Undoes the start of a roll on the keys that it listed.
+    /// Undoes in `keys` what the start of `roll` did to the flags of its listed keys. Stamps stay.
     // Out of line, so that other calls need no stack for the two sets.
     #[inline(never)]
     pub fn unmark(&self, roll: RollType, keys: &mut Keys)
@@ -385,7 +385,7 @@ impl Lists {
         keys.unmark(roll, &olds, &news);
     }
 
-    /// The tags of the keys that a roll listed as this.
+    /// The set of the tags of all keys that the start of `roll` listed as this part, old or new.
     fn tags(&self, roll: RollType, part: Part) -> TagSet
         ensures { (t : ℕ) → is_set result t ≡ has_entry roll part t self.now.entries.items }
     {

@@ -24,11 +24,11 @@ pub(crate) struct ReportedWait {
     pub(crate) ttl: u32,
     /// The nanosecond since 1970 from which it is over, or `None` if a key lacks its stamp.
     pub(crate) over: Option<u128>,
-    /// The same by all keys but one, if a setter had changed that one before the walk.
+    /// When it is over for all keys but one, if a setter had changed that one before the walk.
     pub(crate) others: Option<Others>,
 }
 
-/// From when on a wait is over by all keys but the one with a tag.
+/// When a wait is over for all keys but the one with the tag `but`, in nanoseconds since 1970.
 #[derive(Clone, Copy)]
 pub(crate) struct Others {
     pub(crate) but: u16,
@@ -36,7 +36,7 @@ pub(crate) struct Others {
 }
 
 impl ReportedWait {
-    /// Whether it is this wait.
+    /// Whether this is the wait in this half of `roll` for a TTL of `ttl` seconds.
     fn is_of(&self, roll: RollType, half: Half, ttl: u32) -> bool
         ensures roll { IsTrue result → self.now.roll ≡ roll }
         ensures half { IsTrue result → self.now.half ≡ half }
@@ -47,8 +47,9 @@ impl ReportedWait {
         self.roll == roll && self.half == half && self.ttl == ttl
     }
 
-    /// The nanosecond since 1970 from which it is over for a key, or `None` if it lacks its stamp.
-    // Out of line, so that a setter, which finds no wait as a rule, stays short.
+    /// From which nanosecond since 1970 the wait is over for `key`. It is 0 if the wait doesn't
+    /// check the key, else `None` if the key lacks its stamp.
+    // Out of line, as `seen` and `follow`, so that a setter, which mostly finds no wait, is short.
     #[inline(never)]
     fn over_for(&self, key: &Key) -> Option<u128>
         ensures { result ≡ over_at self.now.roll self.now.half self.now.ttl key.now }
@@ -56,8 +57,8 @@ impl ReportedWait {
         over_for(self.roll, self.half, self.ttl, key)
     }
 
-    /// The same wait after it saw a change in the key with a tag, if it is known by the others, or
-    /// by the latest moment so far.
+    /// This wait, updated after a setter moved its end for the key with this tag from `before` to
+    /// `after`, in nanoseconds since 1970. `None` if only a walk tells when it is over.
     #[inline(never)]
     fn beside(
         &self,
@@ -81,8 +82,8 @@ impl ReportedWait {
     }
 }
 
-/// The latest of the moments of all keys after that of one has changed: as it was, or the new one.
-/// It isn't known if the latest of all may have become earlier.
+/// The end of a wait for all keys, `latest` before a setter moved that of one key from `before` to
+/// `after`: `None` if one of these is, or if it may be earlier now. In nanoseconds since 1970.
 fn moved(before: Option<u128>, after: Option<u128>, latest: u128) -> Option<u128>
     ensures { result ≡ moved before after latest }
 {
@@ -94,7 +95,7 @@ fn moved(before: Option<u128>, after: Option<u128>, latest: u128) -> Option<u128
     }
 }
 
-/// The later of two moments, if both are known.
+/// The later of two moments in nanoseconds since 1970, or `None` if one isn't known.
 fn later(one: Option<u128>, other: Option<u128>) -> Option<u128>
     ensures { result ≡ later one other }
 {
@@ -104,7 +105,7 @@ fn later(one: Option<u128>, other: Option<u128>) -> Option<u128>
     }
 }
 
-/// All that a wait sees of a key.
+/// The nanosecond `wait` is over for `key`: 0 if unchecked, `None` without wait or stamp.
 fn seen(wait: &Option<ReportedWait>, key: &Key) -> Option<u128>
     ensures { result ≡ over_for wait.now key.now }
 {
@@ -114,7 +115,8 @@ fn seen(wait: &Option<ReportedWait>, key: &Key) -> Option<u128>
     }
 }
 
-/// What is known of a wait after it saw a change in the key with a tag.
+/// `wait`, updated after a setter moved its end for the key with this tag from `before` to `after`,
+/// in nanoseconds since 1970. `None` without a wait, or if only a walk tells when it is over.
 fn beside(
     wait: &Option<ReportedWait>,
     key_tag: u16,
@@ -129,22 +131,18 @@ fn beside(
     }
 }
 
-/// What is known of the waits in progress. Two rolls at most go side by side, one of KSKs and one
-/// of ZSKs; a roll of both stands in the place of the KSKs.
-///
-/// A setter costs no walk. Nor does a wait after it, if the setter moved a key that isn't the last
-/// one, or moved the last one to a later moment. Else the next refused wait walks, and keeps what
-/// it finds by that key and by the others; further changes of that key then cost no walk. So in the
-/// worst case the last of all keys, another one each time, is moved back, and each such wait walks.
+/// What is known of the waits in progress: that of a roll of only ZSKs, and that of any other roll.
+/// A setter costs no walk over the keys. The next question walks only if the end may be earlier, or
+/// isn't known. It keeps the end for the other keys too: only a setter on those may cost one again.
 #[derive(Clone, Copy)]
 pub(crate) struct Waits {
     pub(crate) of_ksks: Option<ReportedWait>,
     pub(crate) of_zsks: Option<ReportedWait>,
-    /// The tag of the key in which a wait last saw a setter's change.
+    /// The tag of the key for which a setter last moved the end of a wait.
     changed: Option<u16>,
 }
 
-/// What the waits see of a key.
+/// The nanosecond since 1970 from which each wait is over for one key, as far as it is known.
 #[derive(Clone, Copy)]
 pub(crate) struct Sights {
     pub(crate) of_ksks: Option<u128>,
@@ -152,7 +150,7 @@ pub(crate) struct Sights {
 }
 
 impl Waits {
-    /// Nothing is known of any wait.
+    /// What is known of the waits before any report: nothing.
     pub(crate) fn none() -> Waits
         ensures { (keys : AnyKeys) → AreKnown result keys }
     {
@@ -163,18 +161,17 @@ impl Waits {
         }
     }
 
-    /// Nothing is known of any wait any more.
+    /// Forgets all waits, after keys have changed. The next question for one walks over the keys.
     pub(crate) fn forget(&mut self)
         ensures { (keys : AnyKeys) → AreKnown self.new keys }
     {
-        // As a rule there is no wait, and nothing is written.
         if self.of_ksks.is_some() || self.of_zsks.is_some() {
             self.of_ksks = None;
             self.of_zsks = None;
         }
     }
 
-    /// What is known of the wait on a roll's side.
+    /// The wait kept for `roll` or one like it: `of_zsks` if it is of only ZSKs, else `of_ksks`.
     fn of(&self, roll: RollType) -> &Option<ReportedWait>
         ensures { (keys : AnyKeys) → AreKnown self.now keys → IsKnown result.now keys }
     {
@@ -185,7 +182,8 @@ impl Waits {
         }
     }
 
-    /// From when on a wait is over, if it is the one that is kept on its side.
+    /// From which nanosecond since 1970 the wait of `ttl` seconds in this half of `roll` is over:
+    /// `None` if it isn't kept, `Some(None)` if it is, but a key that it checks lacks its stamp.
     pub(crate) fn over(&self, roll: RollType, half: Half, ttl: u32) -> Option<Option<u128>>
         ensures { (keys : AnyKeys) → AreKnown self.now keys
             → IfSome result (IsLatest (over_at roll half ttl) keys) }
@@ -196,8 +194,7 @@ impl Waits {
         }
     }
 
-    /// What the waits see of a key.
-    // Out of line, as the next function, so that a setter which finds no wait stays short.
+    /// The nanosecond each wait is over for `key`: 0 if unchecked, `None` without wait or stamp.
     #[inline(never)]
     fn seen(&self, key: &Key) -> Sights
         ensures ksks { result.of_ksks ≡ over_for self.now.of_ksks key.now }
@@ -209,7 +206,9 @@ impl Waits {
         }
     }
 
-    /// A setter has changed the key with a tag, and the waits see it as they do.
+    /// Updates the waits after a setter changed the key with this tag: each was over for this key
+    /// from `before` on, and now is from `after` on. A wait for which both are equal stays. Another
+    /// is updated, or dropped if only a walk tells when it is over, and `changed` becomes this tag.
     #[inline(never)]
     fn follow(&mut self, key_tag: u16, before: Sights, after: Sights)
         ensures ksks { self.new.of_ksks
@@ -227,7 +226,7 @@ impl Waits {
         }
     }
 
-    /// Changes a key by hand. What is known of a wait stays if the wait sees no change.
+    /// Changes `key` as `setting` says. Updates each wait, or drops it if that takes a walk.
     #[inline(always)]
     pub(crate) fn set(&mut self, key: &mut Key, setting: &Setting)
         ensures key { key.new ≡ set_by (setting_of setting.now) key.old }
@@ -240,7 +239,6 @@ impl Waits {
             (over_for self.old.of_zsks (set_by (setting_of setting.now) key.old))
             self.old.of_zsks }
     {
-        // As a rule there is no wait.
         if self.of_ksks.is_none() && self.of_zsks.is_none() {
             apply_setting(key, setting);
             return;
@@ -251,7 +249,8 @@ impl Waits {
         self.follow(key_tag, before, self.seen(key));
     }
 
-    /// A report has begun a wait. That of the other side is found anew.
+    /// Keeps the wait of `ttl` seconds in this half of `roll` that a report begins. A walk over
+    /// `keys` finds when it is over. If one of the other side is kept, a second walk finds its end.
     pub(crate) fn report(&mut self, keys: &KeyMap, roll: RollType, half: Half, ttl: u32)
         ensures { AreKnown self.new (keys_in_map keys.now) }
     {
@@ -264,7 +263,7 @@ impl Waits {
         }
     }
 
-    /// The wait of a roll has moved the keys on. That of the other side is found anew.
+    /// Drops the ended wait of `roll`. If another is kept, a walk over `keys` finds its end anew.
     pub(crate) fn go_on(&mut self, keys: &KeyMap, roll: RollType)
         ensures { AreKnown self.new (keys_in_map keys.now) }
     {
@@ -277,7 +276,8 @@ impl Waits {
         }
     }
 
-    /// From when on a wait is over. A walk finds it, if it isn't the one that is kept on its side.
+    /// The nanosecond since 1970 from which this wait of `ttl` seconds is over, or `None` if a key
+    /// that it checks lacks its stamp. If it isn't kept, a walk finds it, and `self` then keeps it.
     pub(crate) fn find(
         &mut self,
         keys: &KeyMap,
@@ -303,13 +303,13 @@ impl Waits {
     }
 }
 
-/// Whether the wait of a roll stands in the place of the ZSKs.
+/// Whether `roll` changes only ZSKs, so that its wait is kept in `of_zsks`, and else in `of_ksks`.
 fn is_of_zsks(roll: RollType) -> bool {
     matches!(roll.column().side, Side::ZskSide)
 }
 
-/// A wait, as a walk over the keys finds it: by all, and by all but the key in which a wait saw a
-/// change, if there is one.
+/// The wait in this half of `roll` for `ttl` seconds, as a walk over `keys` finds it: when it is
+/// over for all of them, and also for all but the one with the tag `changed`, if that is given.
 fn found(keys: &KeyMap, roll: RollType, half: Half, ttl: u32, changed: Option<u16>) -> ReportedWait
     ensures known { IsKnown (Some result) (keys_in_map keys.now) }
     ensures over { IsLatest (over_at roll half ttl) (keys_in_map keys.now) result.over }
@@ -335,7 +335,7 @@ fn found(keys: &KeyMap, roll: RollType, half: Half, ttl: u32, changed: Option<u1
     }
 }
 
-/// All keys may have changed: a walk finds a wait anew, if there is one.
+/// Finds anew, by a walk over the changed `keys`, when the wait `known` is over. `None` stays.
 fn renew(known: &mut Option<ReportedWait>, keys: &KeyMap)
     ensures { IsKnown known.new (keys_in_map keys.now) }
 {
@@ -344,8 +344,8 @@ fn renew(known: &mut Option<ReportedWait>, keys: &KeyMap)
     }
 }
 
-/// The nanosecond since 1970 from which a wait of `ttl` seconds is over, or `None` if a stamp is
-/// missing: a walk over the keys.
+/// The nanosecond since 1970 from which a wait of `ttl` seconds is over for all `keys`, as a walk
+/// finds it: 0 if it checks none of them, `None` if one that it checks lacks its stamp.
 pub(crate) fn over_from(keys: &KeyMap, roll: RollType, half: Half, ttl: u32) -> Option<u128>
     ensures { IsLatest (over_at roll half ttl) (keys_in_map keys.now) result }
 {
@@ -356,8 +356,8 @@ pub(crate) fn over_from(keys: &KeyMap, roll: RollType, half: Half, ttl: u32) -> 
     Some(over)
 }
 
-/// From when on a wait is over by all keys, and by all but the one with a tag: one walk finds both.
-/// It ends at another key that lacks its stamp, as this bars both.
+/// Since when, in nanoseconds since 1970, a wait of `ttl` seconds is over for all `keys`, and for
+/// those without tag `but`: `None` if a checked key lacks its stamp, 0 if none is or `ttl` is 0.
 fn over_beside(
     keys: &KeyMap,
     roll: RollType,
@@ -383,8 +383,8 @@ fn over_beside(
     (over, Some(others))
 }
 
-/// The nanosecond since 1970 from which nothing is left of a wait for a key, or `None` if its stamp
-/// is missing. It is the first of all for a key that the wait doesn't check, and if the TTL is 0.
+/// The nanosecond since 1970 from which a wait of `ttl` seconds is over for `key`. It is 0 if the
+/// wait doesn't check the key, else `None` if its stamp is missing, else 0 if the TTL is 0.
 #[inline(always)]
 fn over_for(roll: RollType, half: Half, ttl: u32, key: &Key) -> Option<u128>
     ensures { result ≡ over_at roll half ttl key.now }

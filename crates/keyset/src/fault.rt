@@ -23,7 +23,9 @@ pub enum Fault {
 const USAGE: u8 = 64;
 
 impl Fault {
-    /// The status that the program ends with.
+    /// The status that the program ends with after this fault: 1 if the input is malformed or
+    /// refused, 2 if the input or the output failed, 3 if memory ran out, and 64 for no such word
+    /// or more than one.
     pub fn status(&self) -> u8 {
         match self {
             Fault::Misuse(_) => USAGE,
@@ -36,6 +38,7 @@ impl Fault {
 }
 
 impl fmt::Display for Fault {
+    /// Writes what standard error shows, as `no such word: see keyset --help`.
     fn fmt<W: fmt::Write>(&self, f: &mut fmt::Formatter<W>) -> fmt::Result {
         match self {
             Fault::Misuse(Misuse::NoSuchWord) => f.write_str("no such word: see keyset --help"),
@@ -50,6 +53,7 @@ impl fmt::Display for Fault {
 }
 
 impl From<ScriptFault> for Fault {
+    /// The fault `Script` with this `fault`: a script was not answered, or its status not written.
     fn from(fault: ScriptFault) -> Self {
         Fault::Script(fault)
     }

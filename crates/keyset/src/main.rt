@@ -47,6 +47,8 @@ Called as keyset_status or keyset_notes, it does as with that word. It ends with
 and unless that is 0, standard error says why.
 ";
 
+/// Runs the program, and answers the status that it ends with: 0 if all was answered, and else that
+/// of the fault, whose text goes to standard error.
 fn main(rt: HostRuntime) -> ExitCode {
     match run(&rt) {
         Ok(()) => ExitCode::SUCCESS,
@@ -58,7 +60,9 @@ fn main(rt: HostRuntime) -> ExitCode {
     }
 }
 
-/// Does what the arguments ask for.
+/// Does what the arguments ask for: reads standard input if the task needs it, and writes the
+/// answer to standard output. It answers the fault if it can't. `main` then writes that to standard
+/// error, and ends with its status.
 fn run(rt: &HostRuntime) -> Result<(), Fault> {
     let alloc = rt.alloc();
     match task_of(rt).map_err(Fault::Misuse)? {
@@ -89,7 +93,8 @@ fn run(rt: &HostRuntime) -> Result<(), Fault> {
     }
 }
 
-/// All of the input.
+/// All bytes of the input, up to its end. They take memory from `alloc`. The fault is `OutOfMemory`
+/// if there is none, and `Device` if reading fails.
 fn read_all<R: Read + Drop>(alloc: Global, mut input: R) -> Result<Vec<u8>, ScriptFault> {
     let mut all = Vec::new(alloc);
     match input.read_to_end(&mut all) {
@@ -98,7 +103,8 @@ fn read_all<R: Read + Drop>(alloc: Global, mut input: R) -> Result<Vec<u8>, Scri
     }
 }
 
-/// Why the input was not read.
+/// The fault after reading the input ended with this error: `OutOfMemory` if memory ran out, and
+/// `Device` for any other error.
 fn fault_of_input(error: &io::Error) -> ScriptFault {
     match error.kind() {
         ErrorKind::OutOfMemory => ScriptFault::OutOfMemory,
@@ -106,12 +112,16 @@ fn fault_of_input(error: &io::Error) -> ScriptFault {
     }
 }
 
-/// The status after the calls of a script.
+/// The status of the zone after all calls of a script, as a line of JSON. The fault is `Malformed`
+/// with the number of the first malformed line, counted from 1, or `OutOfMemory`, also if a call is
+/// refused for lack of memory.
 fn status_after(alloc: Global, script: &[u8]) -> Result<Vec<u8>, ScriptFault> {
     let session = Session::resume(alloc, script)?;
     Ok(status(alloc, &session)?)
 }
 
+/// Writes the whole text to the output. If that fails, the fault is `Fault::Script` with
+/// `ScriptFault::Device`, and a beginning of the text may be written.
 fn write<W: Write + Drop>(mut output: W, text: &[u8]) -> Result<(), Fault> {
     match output.write_all(text) {
         Ok(()) => Ok(()),

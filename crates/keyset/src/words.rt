@@ -41,8 +41,14 @@ pub enum Misuse {
     MoreThanOneWord,
 }
 
-/// What the arguments ask for. The one of number 0 is the name that the program is called by; it
-/// may be missing.
+/// The task that the arguments ask for. Argument 0 is the name that the program is called by, and
+/// may be missing. If it is the name of a link, as `keyset_status`, it asks for a task, and only an
+/// option as `--help` may follow. After another name one word asks, and without a word the task is
+/// `Task::Script`.
+///
+/// The error is `MoreThanOneWord` if two arguments follow the name, whatever they are, or if a
+/// known word follows the name of a link, which is a word already. It is `NoSuchWord` for an
+/// unknown word.
 pub fn task_of<E: Env>(env: &E) -> Result<Task, Misuse> {
     let mut name = [0; LONGEST];
     let mut word = [0; LONGEST];
@@ -62,8 +68,9 @@ pub fn task_of<E: Env>(env: &E) -> Result<Task, Misuse> {
     task_of_word(&word[..length], linked.is_some())
 }
 
-/// The argument of a number, if there is one: it is put into the room, and this is its length. One
-/// that is longer than its room is read as an empty one, since no word is so long.
+/// Puts the argument of this number into the front of `room`, and answers its length in bytes, or
+/// `None` if there is no such argument. Number 0 is the program's name. An argument longer than
+/// `room` counts as empty, since no word is so long. What stands after that length means nothing.
 fn argument<E: Env>(env: &E, number: usize, room: &mut [u8]) -> Option<usize>
     ensures { IfSome result (λ length_of. length_of ≤ length room.new) }
 {
@@ -74,7 +81,9 @@ fn argument<E: Env>(env: &E, number: usize, room: &mut [u8]) -> Option<usize>
     }
 }
 
-/// What a word asks for. The name of a link is a word already.
+/// The task that a word asks for. `is_linked` is whether the program is called by the name of a
+/// link, which is a word already: after it the error for a known word is `MoreThanOneWord`, but an
+/// option as `--help` is taken. The error for an unknown word is `NoSuchWord`.
 fn task_of_word(word: &[u8], is_linked: bool) -> Result<Task, Misuse> {
     if let Some(task) = find(&OPTIONS, word) {
         return Ok(task);
@@ -91,7 +100,8 @@ fn task_of_word(word: &[u8], is_linked: bool) -> Result<Task, Misuse> {
     }
 }
 
-/// What a link asks for, by the path that the program is called by.
+/// The task that the program's name asks for if it is that of a link, as `keyset_status`, or else
+/// `None`. `path` is what the program is called by; only what follows its last `/` counts.
 fn task_of_link(path: &[u8]) -> Option<Task> {
     let mut name = path;
     for (index, byte) in path.iter().enumerate() {
@@ -102,7 +112,7 @@ fn task_of_link(path: &[u8]) -> Option<Task> {
     find(&WORDS, name.strip_prefix(LINK.as_bytes())?)
 }
 
-/// What stands beside a word in a table.
+/// The task of this word in a `table` of words with their tasks, or `None` if the word isn't there.
 fn find(table: &[(&str, Task)], word: &[u8]) -> Option<Task> {
     for (name, task) in table {
         if name.as_bytes() == word {

@@ -48,7 +48,9 @@ pub struct Answered {
     pub line: usize,
 }
 
-/// The status for a line that notes don't take.
+/// The status that C gets for a line that isn't added to the notes of a session: 1 malformed, 3 out
+/// of memory, 7 its call isn't made yet, 8 all servers gave a set before it was published, 9 its
+/// moment is before the last one, 11 a set was published before its call was made.
 pub(crate) fn refused(fault: LineFault) -> u32
     ensures rule { result ≡ status_of fault }
     ensures not_answered { result ≢ 0 }
@@ -64,7 +66,8 @@ pub(crate) fn refused(fault: LineFault) -> u32
     }
 }
 
-/// A status without an answer.
+/// What C gets if there is only a `status`. No bytes were written, so the length is 0. The line is
+/// 0 too, also if the line of a call was malformed.
 pub(crate) fn fault(status: u32) -> Answered
     ensures status { result.status ≡ status }
     ensures length { result.length ≡ 0 }
@@ -77,7 +80,9 @@ pub(crate) fn fault(status: u32) -> Answered
     }
 }
 
-/// Writes the text into the front of `out`, if it fits.
+/// Writes an answer for C into the front of `out`, if it fits. The status is then 0, and the length
+/// is that of the text in bytes. Otherwise it is 4 with the length that is needed, and `out` stays
+/// as it is.
 pub(crate) fn hand_out(text: &[u8], out: &mut [u8]) -> Answered
     ensures status { (result.status ≡ 0) ⊎ (result.status ≡ 4) }
     ensures length { result.length ≡ length text.now }

@@ -5,6 +5,7 @@ ghost use Rattle.std.specs.Box.Ownership.{box_owns};
 use std::alloc::Allocator;
 use std::marker::Model;
 
+/// A box that is taken apart. The parts own what the box owned, whose value is `value`.
 pub(crate) struct BoxParts<T, A: Allocator> {
     pub(crate) ptr: *mut T,
     pub(crate) alloc: A,
@@ -16,7 +17,8 @@ impl<T, A: Allocator> Model for BoxParts<T, A> {
 }
 
 impl<T, A: Allocator> BoxParts<T, A> {
-    /// The parts of a box.
+    /// Takes a box apart into its pointer and its allocator. The parts own the value from now on,
+    /// and nothing is freed or moved.
     pub(crate) fn of(b: Box<T, A>) -> BoxParts<T, A>
     where
         T: Drop,
@@ -26,7 +28,8 @@ impl<T, A: Allocator> BoxParts<T, A> {
         BoxParts { ptr, alloc }
     }
 
-    /// The box that they are of.
+    /// Joins the parts to the box again that they were taken from. The box owns the value from now
+    /// on.
     pub(crate) fn into_box(self) -> Box<T, A>
         ensures { result.value ≡ self.value }
     {

@@ -20,7 +20,7 @@ pub struct Handle {
 impl Handle {
     ghost use Rattle.keyset_c.specs.Lent.{lends_if_open};
 
-    /// Whether it keeps a session.
+    /// Whether the session that C holds is open. It changes nothing.
     pub(crate) fn is_open(&self) -> bool
         requires { IsWhole self.now }
         ensures { result ≡ is_some (kept_by self.now) }
@@ -28,7 +28,8 @@ impl Handle {
         self.is_open
     }
 
-    /// What an open session keeps, lent.
+    /// A reference to what an open session keeps, or `None` if the session is closed. What is
+    /// written through it stays in the session, and it remains open.
     pub(crate) fn look(&mut self) -> Option<&mut OpenSession>
         requires { IsWhole self.old }
         ensures* writes_back { sem 𝓛 (lends_if_open self.entry result) }
@@ -42,7 +43,8 @@ impl Handle {
         }
     }
 
-    /// Takes out what an open session keeps, and leaves it closed.
+    /// Takes out what an open session keeps, and leaves the session closed. `None` if it was closed
+    /// before. `alloc` is the allocator of the box, and no memory is taken or freed.
     pub(crate) fn take(&mut self, alloc: Global) -> Option<Box<OpenSession>>
         requires { IsWhole self.old }
         ensures whole { IsWhole self.new }
@@ -59,7 +61,7 @@ impl Handle {
         }
     }
 
-    /// Keeps this, and is open.
+    /// Opens a closed session, which then keeps the contents of the box. No memory is taken.
     pub(crate) fn put(&mut self, kept: Box<OpenSession>)
         requires { kept_by self.old ≡ None }
         ensures whole { IsWhole self.new }

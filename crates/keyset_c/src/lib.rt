@@ -44,8 +44,9 @@ const VERSION: u32 = 3;
 
 /// Answers the script into the front of `out`, with the bytes that the program `keyset` writes.
 ///
-/// Unless the status is 0, nothing is written. `Global` takes no bytes, so C passes two pointers
-/// with their lengths.
+/// Status 0 has the length that was written, 1 the first malformed line, counted from 1, and 4 the
+/// length that is needed if `out` is too short. 3 is lack of memory. Unless the status is 0,
+/// nothing is written. `Global` takes no bytes, so C passes two pointers with their lengths.
 #[unsafe(no_mangle)]
 pub extern "C" fn keyset_answer(alloc: Global, script: &[u8], out: &mut [u8]) -> Answered
     // Answered: the input is a script, and the front of `out` is the output of a run of its calls.
@@ -92,7 +93,8 @@ pub extern "C" fn keyset_answer(alloc: Global, script: &[u8], out: &mut [u8]) ->
     }
 }
 
-/// The version of what is exported here.
+/// The version of the interface of this library: of its calls, their structs and the statuses. C
+/// compares it with that of its header.
 #[unsafe(no_mangle)]
 pub extern "C" fn keyset_version() -> u32
     ensures { result ≡ 3 }
@@ -100,10 +102,11 @@ pub extern "C" fn keyset_version() -> u32
     VERSION
 }
 
-/// Opens a session for the zone that the line names, as the first line of a script does.
+/// Opens a session for the zone that the line names, as the first line of a script does, without a
+/// line feed.
 ///
-/// 0 if it is now open. Else it is as it was: 1 for a line that names no zone, 3 for lack of
-/// memory, 6 if it was open before.
+/// 0 if the session is now open, without calls and notes. Else it is as it was: 1 for a line that
+/// names no zone, 3 for lack of memory, 6 if it was open before.
 #[unsafe(no_mangle)]
 pub extern "C" fn keyset_open(alloc: Global, line: &[u8], session: &mut Handle) -> u32
     requires { IsWhole session.old }
@@ -141,11 +144,14 @@ pub extern "C" fn keyset_open(alloc: Global, line: &[u8], session: &mut Handle) 
     }
 }
 
-/// Makes the call of the line, and writes its answer into the front of `out`.
+/// Makes the call of the line, without its line feed, and writes its answer into the front of
+/// `out`.
 ///
-/// After a status of 0 or 4 the call is made, and `keyset_told` writes the answer again. After 1 or
-/// 3 the session is as it was. Only after 12 it is lost: memory ran out after a part of the call
-/// was made, so it is closed, and its lines open it anew.
+/// The call is made, also if the key set refuses it, with status 0, or 4 if `out` is too short: the
+/// length is then what is needed, and `keyset_told` writes the answer. After 1 (malformed), 3 (out
+/// of memory) or 5 (closed) the session is as it was. After 12 it is closed, since memory ran out
+/// after a part of the call was made: open one anew with the lines that were answered. Unless the
+/// status is 0, nothing is written.
 #[unsafe(no_mangle)]
 pub extern "C" fn keyset_call(
     alloc: Global,
@@ -203,11 +209,11 @@ pub extern "C" fn keyset_call(
     answered
 }
 
-/// Makes the call of the line if the key set accepts it. `keyset_told` writes the answer, of a
-/// refused call too.
+/// Makes the call of the line, without its line feed, if the key set accepts it. `keyset_told`
+/// writes the answer, of a refused call too.
 ///
 /// 0 if the call is made. Else calls and notes are as they were: 1 for a malformed line, 3 for lack
-/// of memory, 5 if the session is closed, 10 for a refused call.
+/// of memory, also in the key set, 5 if the session is closed, 10 for a call refused otherwise.
 #[unsafe(no_mangle)]
 pub extern "C" fn keyset_accept(alloc: Global, session: &mut Handle, line: &[u8]) -> u32
     requires { IsWhole session.old }
@@ -231,12 +237,14 @@ pub extern "C" fn keyset_accept(alloc: Global, session: &mut Handle, line: &[u8]
     }
 }
 
-/// Takes the next line of the notes beside a session, after the calls that it has made so far.
+/// Adds the next line to the notes of a session, after the calls that it has made so far: the TTLs
+/// before call 1, what was published, with which TTL, or when all servers gave it. The calls stay
+/// as they are.
 ///
-/// 0 if it is taken. Else the session is as it was: 1 for a malformed line, 3 for lack of memory, 5
-/// if the session is closed; 7 if no such call was made yet, 8 if a version was seen everywhere
-/// before it was published, 9 for a moment before the last one, 11 if a version was published
-/// before its call.
+/// 0 if it is added. Else the session is as it was: 1 for a malformed line, 3 for lack of memory, 5
+/// if the session is closed; 7 if its call isn't made yet, 8 if all servers gave a set before it
+/// was published, 9 for a moment before the last one, 11 if a set was published before its call was
+/// made.
 #[unsafe(no_mangle)]
 pub extern "C" fn keyset_note(alloc: Global, session: &mut Handle, line: &[u8]) -> u32
     requires { IsWhole session.old }

@@ -2,7 +2,7 @@
 use dnssec_network::SessionNotes;
 use dnssec_record::Session;
 
-/// A session, the line that it answered last, and the notes beside it.
+/// A session, the line that it answered last, and its notes.
 #[derive(Drop)]
 pub struct OpenSession {
     pub(crate) session: Session,

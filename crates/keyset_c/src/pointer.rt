@@ -30,14 +30,14 @@ impl Model for Pointer {
 impl Pointer {
     ghost use Rattle.keyset_c.specs.Lent.{lends_kept};
 
-    /// Keeps nothing.
+    /// The null pointer, which is that of a closed session and keeps nothing.
     pub(crate) fn none() -> Pointer
         ensures { result.value ≡ None }
     {
         Pointer { ptr: null_mut() }
     }
 
-    /// Keeps what is in a box.
+    /// The pointer that C holds of a box, from the parts of the box. It owns the value from now on.
     pub(crate) fn of_parts(parts: BoxParts<OpenSession, Global>) -> Pointer
         ensures { result.value ≡ Some parts.value }
     {
@@ -47,7 +47,8 @@ impl Pointer {
         }
     }
 
-    /// What is in the box, lent.
+    /// A reference to the value that the pointer keeps. What is written through it stays there. The
+    /// pointer must not be null.
     pub(crate) fn look(&mut self) -> &mut OpenSession
         requires { IsSome self.old.value }
         ensures* writes_back { sem 𝓛 (lends_kept self.entry result) }
@@ -56,7 +57,8 @@ impl Pointer {
         unsafe { &mut *(self.ptr as *mut OpenSession) }
     }
 
-    /// The box again, by its parts.
+    /// The parts of the box that the pointer keeps, to join it again. They own the value from now
+    /// on. `alloc` is the box's allocator, and the pointer must not be null.
     pub(crate) fn into_parts(self, alloc: Global) -> BoxParts<OpenSession, Global>
         requires { IsSome self.value }
         ensures { Some result.value ≡ self.value }

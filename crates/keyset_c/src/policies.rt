@@ -9,11 +9,13 @@ use crate::answered::{ANSWERED, Answered, NOT_SAID, OUT_OF_MEMORY, fault, hand_o
 use dnssec_policy::{NextFault, answer_next};
 use std::alloc::{AllocError, Global};
 
-/// Writes what a policy says to do next at this second since 1970, after the calls of a script and
-/// by the notes beside it: a line without its line feed, in the form that docs/POLICY.md has.
+/// Writes what the text `policy` says to do next at `seconds` since 1970, after the calls of
+/// `script` and by its `notes`: a line without its line feed, in the form that docs/POLICY.md has.
 ///
-/// 13 if the policy, the script or the notes are refused: then it writes why, as the program
-/// `keyset` does.
+/// Status 0 if it is written. 13 if the policy, the script or the notes are refused, or a lifetime
+/// of the policy is shorter than its roll takes: then it writes why, as the program `keyset` does.
+/// 3 for lack of memory, and 4 with the length that is needed if `out` is too short. After 3 or 4
+/// nothing is written.
 #[unsafe(no_mangle)]
 pub extern "C" fn keyset_next(
     alloc: Global,
@@ -38,7 +40,10 @@ pub extern "C" fn keyset_next(
     }
 }
 
-/// Writes why nothing is said.
+/// Answers C that what a policy says to do next was not found out: status 13, with the reason `why`
+/// in the front of `out`. It is 3 if `why` is a lack of memory, or if there is none for the text of
+/// the reason, and 4 with the length that is needed if `out` is too short. After 3 or 4 nothing is
+/// written.
 fn refuse(alloc: Global, why: &NextFault, out: &mut [u8]) -> Answered
     ensures why { result.status ≡ 13 → take result.length out.new ≡ next_fault_text why.now }
     ensures needed { result.status ≡ 4 → result.length ≡ length (next_fault_text why.now) }
@@ -54,7 +59,9 @@ fn refuse(alloc: Global, why: &NextFault, out: &mut [u8]) -> Answered
     }
 }
 
-/// Writes a refusal into the front of `out`, if it fits.
+/// Writes `text`, the reason why there is no answer to what a policy says to do next, into the
+/// front of `out`, if it fits, with status 13 and the length of the text in bytes. Otherwise the
+/// status is 4 with the length that is needed, and nothing is written.
 fn hand_out_why(text: &[u8], out: &mut [u8]) -> Answered
     ensures status { (result.status ≡ 4) ⊎ (result.status ≡ 13) }
     ensures length { result.length ≡ length text.now }
@@ -73,7 +80,8 @@ fn hand_out_why(text: &[u8], out: &mut [u8]) -> Answered
     }
 }
 
-/// What is said of a fault.
+/// The reason `why` there is no answer to what a policy says to do next, in the words of the
+/// program `keyset`. It takes memory from `alloc`, and the only error is a lack of it.
 fn text_of(alloc: Global, why: &NextFault) -> Result<String, AllocError>
     ensures { IfOk result (λ text. string_bytes text ≡ next_fault_text why.now) }
 {

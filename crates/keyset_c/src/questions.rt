@@ -11,7 +11,8 @@ use crate::handle::Handle;
 use crate::sessions::{copy_of, say_closing, say_due, say_status};
 use std::alloc::Global;
 
-/// How many calls a session has made: the number of the last one. 0 of a closed session.
+/// How many calls an open session has made so far, which is the number of its last call. A refused
+/// call counts if `keyset_call` made it. 0 of a closed session. The session stays as it is.
 #[unsafe(no_mangle)]
 pub extern "C" fn keyset_calls(session: &mut Handle) -> usize
     requires { IsWhole session.old }
@@ -25,7 +26,11 @@ pub extern "C" fn keyset_calls(session: &mut Handle) -> usize
     }
 }
 
-/// Writes the answer to the last line again.
+/// Writes the last answer of the session again, into the front of `out`: that to the last line
+/// whose call was made or refused. Before the first such line it writes nothing, with status 0.
+///
+/// The status is 0, 5 for a closed session, or 4 with the length that is needed if `out` is too
+/// short. Unless it is 0, nothing is written. The session never changes.
 #[unsafe(no_mangle)]
 pub extern "C" fn keyset_told(session: &mut Handle, out: &mut [u8]) -> Answered
     requires { IsWhole session.old }
@@ -43,8 +48,11 @@ pub extern "C" fn keyset_told(session: &mut Handle, out: &mut [u8]) -> Answered
     }
 }
 
-/// Writes the last two lines of the answers so far: the sets that are published after the last
-/// call, and the verdict on the record.
+/// Writes the last two lines of the answers so far into the front of `out`: the sets that are
+/// published after the last call, and the verdict on the record.
+///
+/// The status is 0, 3 for lack of memory, 5 for a closed session, or 4 with the length that is
+/// needed if `out` is too short. Unless it is 0, nothing is written. The session never changes.
 #[unsafe(no_mangle)]
 pub extern "C" fn keyset_closing(alloc: Global, session: &mut Handle, out: &mut [u8]) -> Answered
     requires { IsWhole session.old }
@@ -65,7 +73,11 @@ pub extern "C" fn keyset_closing(alloc: Global, session: &mut Handle, out: &mut 
     }
 }
 
-/// Writes the status of the zone after the calls so far, as one line of JSON.
+/// Writes the status of the zone after the calls so far into the front of `out`: one line of JSON.
+///
+/// The status of the call is 0, 3 for lack of memory, 5 for a closed session, or 4 with the length
+/// that is needed if `out` is too short. Unless it is 0, nothing is written. The session never
+/// changes.
 #[unsafe(no_mangle)]
 pub extern "C" fn keyset_status(alloc: Global, session: &mut Handle, out: &mut [u8]) -> Answered
     requires { IsWhole session.old }
@@ -86,8 +98,13 @@ pub extern "C" fn keyset_status(alloc: Global, session: &mut Handle, out: &mut [
     }
 }
 
-/// Writes the reports that are due at this second since 1970, by the notes beside the session. 1 if
-/// there are none.
+/// Writes a line for each of the session's rolls that waits for a report into the front of `out`:
+/// the report, if it is due at `seconds` since 1970 by the session's notes, or else `not yet:` and
+/// what it waits for. If no roll waits for one, it writes nothing, with status 0.
+///
+/// The status is 0, 1 if the session has no notes, 3 for lack of memory, 5 for a closed session, or
+/// 4 with the length that is needed if `out` is too short. Unless it is 0, nothing is written. The
+/// session never changes.
 #[unsafe(no_mangle)]
 pub extern "C" fn keyset_due(
     alloc: Global,
@@ -115,8 +132,11 @@ pub extern "C" fn keyset_due(
     }
 }
 
-/// Opens another session after the same calls, to try one: 0, or 3 for lack of memory, 5 if the
-/// session is closed, 6 if the other is open. Unless it is 0, the other is as it was.
+/// Opens the session `copy` with the calls, the last answer and the notes of `session`, so that a
+/// caller can try a call on it.
+///
+/// 0 if it is now open, 3 for lack of memory, 5 if `session` is closed, 6 if `copy` was open
+/// before. Unless it is 0, `copy` stays as it is. `session` never changes.
 #[unsafe(no_mangle)]
 pub extern "C" fn keyset_copy(alloc: Global, session: &mut Handle, copy: &mut Handle) -> u32
     requires session { IsWhole session.old }

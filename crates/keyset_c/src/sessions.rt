@@ -17,7 +17,12 @@ use dnssec_record::{Attempt, CallFault, Response, Session};
 use dnssec_status::status;
 use std::alloc::{AllocError, Global};
 
-/// Makes the call of a line: its status.
+/// Makes the call of a line in an open session, also if the key set refuses it, and answers the
+/// status for C.
+///
+/// 0 if the call was made, refused or not: its answer is then in `kept.answer`. 1 for a malformed
+/// line, and 3 for lack of memory: `kept` stays as it is. 12 if memory ran out after a part of the
+/// call was made: `kept` is then of no more use.
 pub(crate) fn call(alloc: Global, kept: &mut OpenSession, line: &[u8]) -> u32
     ensures called { result ≡ 0 → CallsLine kept.old line.now kept.new }
     ensures malformed { result ≡ 1 → says line.now ≡ None }
@@ -39,7 +44,9 @@ pub(crate) fn call(alloc: Global, kept: &mut OpenSession, line: &[u8]) -> u32
     }
 }
 
-/// Writes the last two lines of the answers so far.
+/// Writes the last two lines of a session's answers into the front of `out`: the published sets,
+/// and the verdict on the record. Status 0, or 3 for lack of memory, or 4 with the length that is
+/// needed if `out` is too short. Unless it is 0, nothing is written.
 pub(crate) fn say_closing(alloc: Global, session: &Session, out: &mut [u8]) -> Answered
     ensures answered { result.status ≡ 0 → IsClosingOf session.now (take result.length out.new) }
     ensures needed { result.status ≡ 4 → AtLength (IsClosingOf session.now) result.length }
@@ -52,7 +59,9 @@ pub(crate) fn say_closing(alloc: Global, session: &Session, out: &mut [u8]) -> A
     }
 }
 
-/// Writes the status of the zone.
+/// Writes the status of a session's zone into the front of `out`, as one line of JSON. Status 0, or
+/// 3 for lack of memory, or 4 with the length that is needed if `out` is too short. Unless it is 0,
+/// nothing is written.
 pub(crate) fn say_status(alloc: Global, session: &Session, out: &mut [u8]) -> Answered
     ensures answered { result.status ≡ 0 → IsStatusOf session.now (take result.length out.new) }
     ensures needed { result.status ≡ 4 → AtLength (IsStatusOf session.now) result.length }
@@ -65,7 +74,10 @@ pub(crate) fn say_status(alloc: Global, session: &Session, out: &mut [u8]) -> An
     }
 }
 
-/// Writes the reports that are due at a second since 1970.
+/// Writes a line for each roll that waits for a report into the front of `out`: the report, if it
+/// is due at `seconds` since 1970 by the session's notes, or else `not yet:` and what it waits for.
+/// Status 0, or 1 without notes, or 3 for lack of memory, or 4 with the length that is needed if
+/// `out` is too short. Unless it is 0, nothing is written.
 pub(crate) fn say_due(alloc: Global, kept: &OpenSession, seconds: u64, out: &mut [u8]) -> Answered
     ensures answered { result.status ≡ 0 →
         IsDueOf seconds kept.now (take result.length out.new) }
@@ -82,7 +94,12 @@ pub(crate) fn say_due(alloc: Global, kept: &OpenSession, seconds: u64, out: &mut
     }
 }
 
-/// Makes the call of a line if it is accepted: its status.
+/// Makes the call of a line in an open session if the key set accepts it, and answers the status
+/// for C.
+///
+/// 0 if the call was made, and 10 if it was refused and so not made: the answer is then in
+/// `kept.answer`. 1 for a malformed line, and 3 for lack of memory, also if the key set refuses the
+/// call for that: `kept` stays as it is.
 pub(crate) fn accept(alloc: Global, kept: &mut OpenSession, line: &[u8]) -> u32
     ensures accepted { result ≡ 0 → AcceptsLine kept.old line.now kept.new }
     ensures refused { result ≡ 10 → RefusesCall kept.old line.now kept.new }
@@ -106,7 +123,10 @@ pub(crate) fn accept(alloc: Global, kept: &mut OpenSession, line: &[u8]) -> u32
     }
 }
 
-/// Lets the notes take a line: its status.
+/// Adds a line to the notes of an open session, and answers the status for C: 0 if it is added.
+/// Else `kept` stays as it is: 1 malformed, 3 out of memory, 7 its call isn't made yet, 8 all
+/// servers gave a set before it was published, 9 its moment is before the last one, 11 a set was
+/// published before its call was made.
 pub(crate) fn note(alloc: Global, kept: &mut OpenSession, line: &[u8]) -> u32
     ensures noted { result ≡ 0 → NotesLine kept.old line.now kept.new }
     ensures refused { result ≢ 0 → RefusesLine kept.old line.now result }
@@ -119,7 +139,8 @@ pub(crate) fn note(alloc: Global, kept: &mut OpenSession, line: &[u8]) -> u32
     }
 }
 
-/// A copy of what a session keeps.
+/// A copy of all that an open session keeps: the zone after the same calls, the last answer and the
+/// notes. It takes memory from `alloc`, and the only error is a lack of it.
 pub(crate) fn copy_of(alloc: Global, kept: &OpenSession) -> Result<Box<OpenSession>, AllocError>
     ensures stands { IfOk result (λ copy.
         (name : List ℕ) (calls : List Call) (entries : List Entry) →

@@ -11,7 +11,11 @@ use crate::answered::{
 /// The release that this library is of.
 const RELEASE: &str = "1.1.0";
 
-/// Writes what a status means. 64 bytes suffice.
+/// Writes what a status means into the front of `out`, as `out of memory`, without a line feed. Of
+/// another number it writes `no such status`.
+///
+/// 64 bytes always suffice. The status of the call itself is 0, or 4 with the length that is needed
+/// if `out` is shorter, and then nothing is written.
 #[unsafe(no_mangle)]
 pub extern "C" fn keyset_status_text(status: u32, out: &mut [u8]) -> Answered
     ensures told { result.status ≡ 0 → take result.length out.new ≡ status_text status }
@@ -23,7 +27,10 @@ pub extern "C" fn keyset_status_text(status: u32, out: &mut [u8]) -> Answered
     hand_out(text_of(status).as_bytes(), out)
 }
 
-/// Writes the release of this library. 64 bytes suffice.
+/// Writes the release of this library into the front of `out`, as `1.1.0`, without a line feed.
+///
+/// 64 bytes always suffice. The status is 0, or 4 with the length that is needed if `out` is
+/// shorter, and then nothing is written.
 #[unsafe(no_mangle)]
 pub extern "C" fn keyset_version_text(out: &mut [u8]) -> Answered
     ensures told { result.status ≡ 0 → take result.length out.new ≡ codes "1.1.0" }
@@ -34,7 +41,8 @@ pub extern "C" fn keyset_version_text(out: &mut [u8]) -> Answered
     hand_out(RELEASE.as_bytes(), out)
 }
 
-/// What a status means.
+/// The text that says what a status means to C, of at most 64 bytes: `no such status` for a number
+/// that is none.
 #[tactic(auto, using(std::proofs::lemmas::Grind::common_steps))]
 fn text_of(status: u32) -> &'static str
     ensures text { result.now ≡ status_text status }

@@ -32,7 +32,8 @@ impl Model for Draft {
 }
 
 impl Draft {
-    /// No label that has ended, and an empty one.
+    /// The draft of a name of whose text nothing is read yet: no label has ended, and the one that
+    /// is being read is empty.
     pub fn new() -> Self
         ensures labels { result.labels ≡ [] }
         ensures label { result.label ≡ [] }
@@ -44,14 +45,16 @@ impl Draft {
         }
     }
 
-    /// How many bytes the last label has so far.
+    /// How many bytes the last label, which hasn't ended, has so far, without its length byte.
     pub fn label_len(&self) -> usize
         ensures { result ≡ length self.now.label }
     {
         self.len - (self.head + 1)
     }
 
-    /// Adds a byte to the last label, if the label and the name have room for it.
+    /// Adds `byte` to the last label, which hasn't ended. `LongLabel` if that label has 63 bytes
+    /// already, else `LongName` if the byte and the root would take the name past 255 wire bytes.
+    /// An error leaves the draft as it was.
     pub fn push(&mut self, byte: u8) -> Result<(), NameError>
         ensures labels { OnOk result (self.new.labels ≡ self.old.labels) }
         ensures label { OnOk result (self.new.label ≡ self.old.label ++ byte ∷ []) }
@@ -70,7 +73,8 @@ impl Draft {
         Ok(())
     }
 
-    /// Ends the last label, which has bytes, and begins the next.
+    /// Ends the last label, which has to have bytes, and begins the next one, which is empty. Only
+    /// now the length byte before the ended label is written.
     pub fn end_label(&mut self)
         requires { self.old.label ≢ [] }
         ensures labels { self.new.labels ≡ self.old.labels ++ wire_label self.old.label }
@@ -82,7 +86,9 @@ impl Draft {
         self.len += 1;
     }
 
-    /// The wire bytes: the labels, the last one unless it is empty, and the root.
+    /// Ends the last label if it has bytes, and answers the wire bytes of the whole name: the
+    /// labels and the root. An empty last label, as after a final dot, adds none. The draft then
+    /// has an empty last label, so a second call answers the same bytes.
     pub fn finish(&mut self) -> &[u8]
         ensures { result.now ≡ self.old.labels ++ wire_end self.old.label }
     {

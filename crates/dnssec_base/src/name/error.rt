@@ -28,7 +28,8 @@ pub enum NameError {
 impl fmt::Display for NameError {
     ghost output = { λ error. Some (fault_text error) };
 
-    /// Writes the reason in a few words.
+    /// Writes to `f` in a few words why no name was made, as `empty label`. It fails only if a
+    /// write to `f` fails.
     fn fmt<W: fmt::Write>(&self, f: &mut fmt::Formatter<W>) -> fmt::Result {
         f.write_str(match self {
             NameError::EmptyLabel => "empty label",
@@ -46,7 +47,7 @@ impl Error for NameError {}
 impl From<AllocError> for NameError {
     ghost from_gives = { λ _ error. error ≡ OutOfMemory };
 
-    /// So `?` hands on a request for memory that failed.
+    /// Turns a failed request for memory into `OutOfMemory`, so that `?` hands it on.
     fn from(_error: AllocError) -> Self {
         NameError::OutOfMemory
     }

@@ -3,27 +3,31 @@
 ghost use Rattle.dnssec_base.specs.NameLaws.{SpellsOneName, SpellsNoFault, SpellsUnlessFault};
 ghost use Rattle.dnssec_base.specs.NameLaws.{OneFaultStandsFirst, PrintsItsSpelling};
 
-/// A text spells at most one name.
+/// A law for proofs, which does nothing when it runs: a text spells at most one name.
 pub fn spells_one_name()
     ensures { SpellsOneName }
 {}
 
-/// A text that spells a name has no fault.
+/// A law for proofs, which does nothing when it runs: a text that spells a name has no fault at any
+/// place.
 pub fn spells_no_fault()
     ensures { SpellsNoFault }
 {}
 
-/// A text in which no fault stands spells a name.
+/// A law for proofs, which does nothing when it runs: a text in which no fault stands spells a
+/// name. So each text either spells a name or has a fault.
 pub fn spells_unless_fault()
     ensures { SpellsUnlessFault }
 {}
 
-/// At most one fault stands first in a text.
+/// A law for proofs, which does nothing when it runs: of all faults in a text at most one stands
+/// first, so `from_str` can answer no other.
 pub fn one_fault_stands_first()
     ensures { OneFaultStandsFirst }
 {}
 
-/// What a name prints spells its bytes.
+/// A law for proofs, which does nothing when it runs: the text that `Display` writes for a name
+/// spells this name.
 pub fn prints_its_spelling()
     ensures { PrintsItsSpelling }
 {}

@@ -13,7 +13,9 @@ pub enum NamePiece {
     Byte(u8),
 }
 
-/// The piece that begins with the byte `first`, and the text after it. `text` follows that byte.
+/// Splits a name's text, which is the byte `first` and then `text`, after its first piece: a dot,
+/// or a character or an escape that stands for a byte. Answers this piece and the text after it.
+/// `BadEscape` if a backslash begins no escape, `BadByte` if `first` is outside `!` to `~`.
 #[tactic(auto, using(crate::proofs::Symbols::plain_piece))]
 pub fn split_piece(first: u8, text: &[u8]) -> Result<(NamePiece, &[u8]), NameError>
     ensures ok { IfOk result (λ split. IsPiece split.0 (first ∷ text.now) split.1.now) }
@@ -30,7 +32,9 @@ pub fn split_piece(first: u8, text: &[u8]) -> Result<(NamePiece, &[u8]), NameErr
     }
 }
 
-/// The byte that an escape stands for, and the text after it. `text` follows the backslash.
+/// The byte that an escape stands for, and the text after the escape. `text` follows the backslash.
+/// `None` if it begins neither with three digits that write a number up to 255, nor with a
+/// character from the space to `~` that is no digit.
 #[tactic(auto, using(crate::proofs::Symbols::escapes))]
 fn split_escape(text: &[u8]) -> Option<(u8, &[u8])>
     ensures some { IfSome result (λ split. IsEscape split.0 text.now split.1.now) }
@@ -44,7 +48,8 @@ fn split_escape(text: &[u8]) -> Option<(u8, &[u8])>
     }
 }
 
-/// The byte whose number three digits write, and the text after them.
+/// The byte whose number the first three characters of `text` write in decimal digits, and the text
+/// after them. `None` if they aren't three digits, or write a number above 255.
 fn split_decimal(text: &[u8]) -> Option<(u8, &[u8])>
     ensures some { IfSome result (λ split. IsDecimal split.0 text.now split.1.now) }
     ensures none { IfNone result ((byte : ℕ) (after : List ℕ) → ¬ IsDecimal byte text.now after) }

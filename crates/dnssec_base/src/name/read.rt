@@ -7,7 +7,9 @@ use super::NameError;
 use super::draft::Draft;
 use super::piece::{NamePiece, split_piece};
 
-/// Reads a text that is neither empty nor the root's, in one pass.
+/// Reads the text of a name into the wire bytes of a draft, in one pass. The text is neither empty
+/// nor `.`. The last label of the draft isn't ended yet: `finish` does that. The error is the fault
+/// that stands first in the text, and never `OutOfMemory`.
 #[tactic(auto, using(crate::proofs::Reading::reading))]
 pub fn read(text: &[u8]) -> Result<Draft, NameError>
     requires some { text.now ≢ [] }

@@ -8,14 +8,16 @@ pub const MAX_LABEL: usize = 63;
 /// The most bytes of a name on the wire (RFC 1035, section 2.3.4).
 pub const MAX_NAME: usize = 255;
 
-/// Whether these bytes are a name on the wire.
+/// Whether `octets` are one whole name on the wire and nothing more: labels of 1 to 63 bytes, each
+/// after its length byte, then the root's zero byte, and at most 255 bytes in all.
 pub fn is_wire_name(octets: &[u8]) -> bool
     ensures { IsTrue result ↔ IsWireName octets.now }
 {
     octets.len() <= MAX_NAME && are_labels(octets)
 }
 
-/// Whether these bytes are whole labels, ended by the root.
+/// Whether `octets` are labels of 1 to 63 bytes, each after its length byte, then the root's zero
+/// byte, and nothing after it. How long they are together isn't asked.
 #[tactic(auto, using(crate::proofs::WireLabels::label_front))]
 fn are_labels(octets: &[u8]) -> bool
     ensures { IsTrue result ↔ AreLabels 0 octets.now }
@@ -27,7 +29,8 @@ fn are_labels(octets: &[u8]) -> bool
     matches!(rest, [0])
 }
 
-/// The label at the front, without its length byte, and the bytes after it.
+/// Splits the first label off `octets`: answers the label without its length byte, and the bytes
+/// after it. `None` if no whole label of 1 to 63 bytes stands at the front.
 #[tactic(auto, using(crate::proofs::WireLabels::front))]
 pub fn split_label(octets: &[u8]) -> Option<(&[u8], &[u8])>
     ensures label { IfSome result (λ split. IsLabel split.0.now) }

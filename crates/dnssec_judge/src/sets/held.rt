@@ -12,8 +12,9 @@ use std::alloc::Global;
 /// How many numbers have their bits in one word.
 const WORD: usize = 64;
 
-/// A set of small numbers, as a bit for each. Numbers below 64 take no memory of the allocator. All
-/// sets are without words at the end that are 0, or two that are the same may be taken for two.
+/// A set of small numbers, as a bit for each. Numbers below 64 take no memory of the allocator. The
+/// last word of `rest` isn't 0, or two sets that are the same may be taken for two. Only `keep` may
+/// leave such words.
 #[derive(Clone, Debug, Drop, PartialEq)]
 pub(crate) struct Bits {
     /// The numbers below 64.
@@ -23,7 +24,7 @@ pub(crate) struct Bits {
 }
 
 impl Bits {
-    /// No numbers.
+    /// The empty set. It takes memory from `alloc` once a number from 64 on is put in.
     pub(crate) fn new(alloc: Global) -> Self
         ensures { (n : ℕ) → has result n ≡ false }
     {
@@ -33,7 +34,8 @@ impl Bits {
         }
     }
 
-    /// These numbers.
+    /// The set of these `numbers`. A number that stands there twice is in it once. It fails only if
+    /// there is no memory.
     pub(crate) fn of(alloc: Global, numbers: &[usize]) -> Result<Self, Error>
         ensures ok { IfOk result (λ bits. (n : ℕ) →
             has bits n ≡ list_any (λ number. nat_eq number n) numbers.now) }
@@ -49,7 +51,8 @@ impl Bits {
         Ok(bits)
     }
 
-    /// Puts a number in.
+    /// Puts `number` into the set. If there is no memory, it fails, and the same numbers are in the
+    /// set as before.
     pub(crate) fn put(&mut self, number: usize) -> Result<(), Error>
         ensures ok { OnOk result ((n : ℕ) → has self.new n
             ≡ (if nat_eq number n then true else has self.old n)) }
@@ -67,7 +70,7 @@ impl Bits {
         Ok(())
     }
 
-    /// Takes a number out.
+    /// Takes `number` out of the set, if it is in. The other numbers stay.
     pub(crate) fn take_out(&mut self, number: usize)
         ensures { (n : ℕ) → has self.new n
             ≡ (if nat_eq number n then false else has self.old n) }
@@ -83,7 +86,8 @@ impl Bits {
         }
     }
 
-    /// Drops the last words, if they are 0.
+    /// Drops the last words of `rest` as long as they are 0. The same numbers stay in the set. So
+    /// sets of the same numbers also have the same words.
     fn trim(&mut self)
         ensures { (i : ℕ) → word_at (words_of self.new) i ≡ word_at (words_of self.old) i }
     {
@@ -92,7 +96,8 @@ impl Bits {
         }
     }
 
-    /// Keeps only the numbers that are in another set too.
+    /// Takes all numbers out of the set that are not in `other`. Words at the end may stay that are
+    /// 0, so the set is no longer fit to be compared with others by `==`.
     pub(crate) fn keep(&mut self, other: &Bits)
         ensures { (n : ℕ) → has self.new n ≡ (has self.old n && has other.now n) }
     {
@@ -102,7 +107,7 @@ impl Bits {
         }
     }
 
-    /// Whether the number is in the set.
+    /// Whether `number` is in the set.
     pub(crate) fn has(&self, number: usize) -> bool
         ensures { result ≡ has self.now number }
     {
@@ -113,7 +118,7 @@ impl Bits {
         (word >> (number % WORD)) & 1 == 1
     }
 
-    /// Whether no number is in it.
+    /// Whether the set has no number.
     #[inline(always)]
     pub(crate) fn is_empty(&self) -> bool
         ensures { result ≡ has_none (words_of self.now) }
@@ -129,7 +134,7 @@ impl Bits {
         true
     }
 
-    /// Whether the three sets have a number in common.
+    /// Whether some number is in this set, in `one` and in `other`.
     #[inline(always)]
     pub(crate) fn meets_both(&self, one: &Bits, other: &Bits) -> bool
         ensures { result ≡ meet_three (words_of self.now) (words_of one.now) (words_of other.now) }
@@ -140,7 +145,8 @@ impl Bits {
         do_all_meet(&self.rest, &one.rest, &other.rest)
     }
 
-    /// A number that is the same for the same set, and for others mostly not.
+    /// A hash of the set, which starts from `seed`. The same set always has the same hash, unless
+    /// `keep` has left words that are 0 at its end, and other sets mostly have others.
     pub(crate) fn digest(&self, seed: u64) -> u64 {
         let mut digest = mix(seed, self.first);
         for word in &self.rest {
@@ -165,7 +171,7 @@ pub(crate) struct OpenSet {
 }
 
 impl OpenSet {
-    /// No keys, as at position 0.
+    /// The set without keys and signers, as published at position 0, the new key set.
     pub(crate) fn none(alloc: Global) -> Self
         ensures since { result.since ≡ 0 }
         ensures last { result.last ≡ 0 }
@@ -180,7 +186,8 @@ impl OpenSet {
         }
     }
 
-    /// The same set.
+    /// A copy of the set, with the positions that are known of it. It fails only if there is no
+    /// memory.
     pub(crate) fn try_clone(&self) -> Result<Self, Error>
         ensures ok { IfOk result (λ h. parts_of h ≡ parts_of self.now) }
         ensures err { IfErr result (λ e. e ≡ OutOfMemory) }
@@ -193,12 +200,14 @@ impl OpenSet {
         })
     }
 
-    /// Sets with other digests are other sets.
+    /// A hash of the keys and the signers. Sets with different hashes are different, unless `keep`
+    /// has changed one of them, and different sets mostly have different hashes.
     pub(crate) fn digest(&self) -> u64 {
         digest_of(&self.keys, &self.signers)
     }
 
-    /// Keeps only the keys and signers that another set has too.
+    /// Takes the keys and the signers out that `other` doesn't have. The positions `since` and
+    /// `last` stay.
     pub(crate) fn keep(&mut self, other: &OpenSet)
         ensures keys { (n : ℕ) → has self.new.keys n
             ≡ (has self.old.keys n && has other.now.keys n) }
@@ -209,14 +218,14 @@ impl OpenSet {
         self.signers.keep(&other.signers);
     }
 
-    /// Whether the number is that of a key or of a signer.
+    /// Whether the key with this `number` is in the set, or signs it.
     pub(crate) fn has(&self, number: usize) -> bool
         ensures { result ≡ (has self.now.keys number || has self.now.signers number) }
     {
         self.keys.has(number) || self.signers.has(number)
     }
 
-    /// Whether one of its keys, as those of a DS set, is in the DNSKEY set and signs it.
+    /// Asked of a DS set: whether one of its keys is in the DNSKEY set `dnskey` and also signs it.
     #[inline(always)]
     pub(crate) fn names_key_of(&self, dnskey: &OpenSet) -> bool
         ensures { result ≡ meet_three (words_of self.now.keys) (words_of dnskey.now.keys)
@@ -225,7 +234,8 @@ impl OpenSet {
         self.keys.meets_both(&dnskey.keys, &dnskey.signers)
     }
 
-    /// Whether it holds with a DNSKEY set: there is no DS, or it names a key of that.
+    /// Asked of a DS set: whether it fits the DNSKEY set `dnskey` in a chain of trust. It has no
+    /// key, or one of its keys is in `dnskey` and also signs that set.
     #[inline(always)]
     pub(crate) fn holds_with_keys(&self, dnskey: &OpenSet) -> bool
         ensures { result ≡ keys_hold (set_of self.now) (set_of dnskey.now) }
@@ -233,7 +243,8 @@ impl OpenSet {
         self.keys.is_empty() || self.names_key_of(dnskey)
     }
 
-    /// Whether one of its keys, as those of a DNSKEY set, signs the zone.
+    /// Asked of a DNSKEY set: whether it fits the zone signers `zone` in a chain of trust. One of
+    /// its keys then signs the zone.
     #[inline(always)]
     pub(crate) fn holds_with_signers(&self, zone: &OpenSet) -> bool
         ensures { result ≡ zone_holds (set_of self.now) (set_of zone.now) }
@@ -242,7 +253,8 @@ impl OpenSet {
         self.keys.meets_both(&zone.keys, &zone.keys)
     }
 
-    /// Whether it, as a DS set, has a chain with a DNSKEY set and zone signers.
+    /// Asked of a DS set: whether it has a chain of trust with the DNSKEY set `dnskey` and the zone
+    /// signers `zone`. An empty DS set has one with all.
     pub(crate) fn has_chain(&self, dnskey: &OpenSet, zone: &OpenSet) -> bool
         ensures { result ≡ sets_have_chain (set_of self.now) (set_of dnskey.now) (set_of zone.now) }
     {
@@ -250,12 +262,14 @@ impl OpenSet {
     }
 }
 
-/// The digest of the set with these keys and signers.
+/// A hash of the set with these `keys` and `signers`: the one that `OpenSet::digest` answers for
+/// it.
 pub(crate) fn digest_of(keys: &Bits, signers: &Bits) -> u64 {
     signers.digest(keys.digest(0))
 }
 
-/// Whether a bit is set in words at the same place of all three lists.
+/// Whether some bit is set in all three lists of words, at the same index. Past the end of a list
+/// its words count as 0.
 fn do_all_meet(words: &[u64], ones: &[u64], others: &[u64]) -> bool
     ensures yes { result ≡ true → (i : ℕ) × HasSome (all_at words.now ones.now others.now i) }
     ensures no { result ≡ false → (i : ℕ) → all_at words.now ones.now others.now i ≡ 0 }
@@ -270,7 +284,7 @@ fn do_all_meet(words: &[u64], ones: &[u64], others: &[u64]) -> bool
     false
 }
 
-/// The next digest with a word more.
+/// The hash `digest` after one more `word` is mixed in.
 fn mix(digest: u64, word: u64) -> u64 {
     let mixed = (digest ^ word).wrapping_mul(0x9E37_79B9_7F4A_7C15);
     mixed ^ (mixed >> 32)

@@ -37,7 +37,8 @@ pub(crate) struct Numbers {
 }
 
 impl Numbers {
-    /// No key has a number.
+    /// A table of keys by their numbers, in which no key has one yet. It takes its memory from
+    /// `alloc` as it grows.
     pub(crate) fn new(alloc: Global) -> Self
         ensures table { IsTable result }
         ensures none { (n : ℕ) → key_at result n ≡ None }
@@ -50,7 +51,8 @@ impl Numbers {
         }
     }
 
-    /// A copy, with the same numbers.
+    /// A copy of the table, in which each key has the same number. It takes its memory from
+    /// `alloc`, and fails only if there is none.
     pub(crate) fn try_clone(&self, alloc: Global) -> Result<Self, Error>
         ensures same { IfOk result (λ copy. (n : ℕ) → key_at copy n ≡ key_at self.now n) }
         ensures table { IfOk result (λ copy. IsTable self.now ↔ IsTable copy) }
@@ -75,8 +77,10 @@ impl Numbers {
         })
     }
 
-    /// Reads a list over the one of before, and answers whether it is another. It reads only what
-    /// may have changed.
+    /// Brings `known`, a list of keys by their numbers, up to `list`, and answers whether that is
+    /// another list than before. `frame` has to say truly how many keys at the front and at the
+    /// back stay. A key without a number gets one in this table. After an error neither the table
+    /// nor `known` is of more use.
     pub(crate) fn read(
         &mut self,
         alloc: Global,
@@ -116,7 +120,7 @@ impl Numbers {
         Ok(true)
     }
 
-    /// Whether the numbers are those of the keys of a list.
+    /// Whether `numbers` are those of the keys of `list`, in the same order.
     fn are(&self, numbers: &[usize], list: &[PublishedKey]) -> bool
         ensures yes { result ≡ true → StandFor self.now numbers.now (map id_of list.now) }
         ensures no { result ≡ false → StandFor self.now numbers.now (map id_of list.now) → ⊥ }
@@ -134,7 +138,7 @@ impl Numbers {
         rest.is_empty()
     }
 
-    /// Whether the number is the key's.
+    /// Whether this is the `number` of `key`.
     fn is(&self, number: usize, key: &PublishedKey) -> bool
         ensures yes { result ≡ true → key_at self.now number ≡ Some (id_of key.now) }
         ensures no { result ≡ false → key_at self.now number ≡ Some (id_of key.now) → ⊥ }
@@ -146,7 +150,8 @@ impl Numbers {
         }
     }
 
-    /// The number of a key. It gets one if it has none.
+    /// The number of `key`. If it has none, the table gives it the least number that is free, and
+    /// other keys keep theirs. After an error the table is of no more use.
     pub(crate) fn number_of(&mut self, key: &PublishedKey) -> Result<usize, Error>
         ensures ok { IfOk result (λ n. key_at self.new n ≡ Some (id_of key.now)) }
         ensures extends { OnOk result (Extends self.old self.new) }
@@ -168,7 +173,9 @@ impl Numbers {
         Ok(number)
     }
 
-    /// The number of a key that has one, if another was added at its position. In a run none is.
+    /// The number of `key` by a look at all keys of the table, or `None` if it has none. It is only
+    /// asked if another key has the same position of its add, which is never so in the record of a
+    /// run.
     fn search(&self, key: &PublishedKey) -> Option<usize>
         ensures some { IfSome result (λ n. key_at self.now n ≡ Some (id_of key.now)) }
         ensures none { result ≡ None → (n : ℕ) → key_at self.now n ≡ Some (id_of key.now) → ⊥ }
@@ -176,7 +183,7 @@ impl Numbers {
         (0..self.keys.len()).find(|number| self.is(*number, key))
     }
 
-    /// The least number that no key has.
+    /// The least number that no key has. It may be the one after the greatest that is in use.
     fn spare_number(&self) -> usize
         ensures none { key_at self.now result ≡ None }
         ensures within { result ≤ vec_len self.now.keys }
@@ -189,7 +196,7 @@ impl Numbers {
         self.keys.len()
     }
 
-    /// Whether there is a place for the number, and no key has it.
+    /// Whether `keys` has a place for `number` at which no key stands: the number was given back.
     fn is_spare(&self, number: usize) -> bool
         ensures none { result ≡ true → key_at self.now number ≡ None }
         ensures within { result ≡ true → number ≤ vec_len self.now.keys }
@@ -197,7 +204,9 @@ impl Numbers {
         matches!(self.keys.get(number), Some(None))
     }
 
-    /// Gives a number that no key has to a key.
+    /// Gives `number`, which no key has, to `key`. It is at most one more than the greatest so far.
+    /// `by_added` stays, and is up to the caller. If there is no memory, it fails and changes
+    /// nothing.
     fn write(&mut self, number: usize, key: PublishedKey) -> Result<(), Error>
         requires { number ≤ vec_len self.old.keys }
         ensures ok { OnOk result (key_at self.new number ≡ Some (id_of key)) }
@@ -216,14 +225,15 @@ impl Numbers {
         Ok(())
     }
 
-    /// One more than the greatest number.
+    /// A bound of the numbers: no key has this one or a greater one.
     pub(crate) fn end(&self) -> usize
         ensures { (n : ℕ) → result ≤ n → key_at self.now n ≡ None }
     {
         self.keys.len()
     }
 
-    /// Gives a number back. `renew` is then due.
+    /// Frees `number`, so that its key has none any more. Other keys keep theirs. The caller then
+    /// has to call `renew`, which brings the rest of the table up to date.
     pub(crate) fn give_back(&mut self, number: usize)
         ensures others { (n : ℕ) → (n ≡ number → ⊥) → key_at self.new n ≡ key_at self.old n }
         ensures none { key_at self.new number ≡ None }
@@ -234,7 +244,10 @@ impl Numbers {
         }
     }
 
-    /// Notes which numbers no key has, after some were given back.
+    /// Brings the table up to date after `give_back`: the numbers in `by_added`, `least`, from
+    /// where on free numbers are sought, and `left`, how many numbers may be given before the next
+    /// look for keys that are in no set any more. Each key keeps its number. After an error the
+    /// table is of no more use.
     pub(crate) fn renew(&mut self, alloc: Global) -> Result<(), Error>
         ensures same { OnOk result ((n : ℕ) → key_at self.new n ≡ key_at self.old n) }
         ensures table { OnOk result (IsTable self.old → IsTable self.new) }
@@ -257,7 +270,7 @@ impl Numbers {
         Ok(())
     }
 
-    /// Drops the last places, if no key has them.
+    /// Drops the places at the end of `keys` at which no key stands. Each key keeps its number.
     fn drop_last(&mut self)
         ensures same { (n : ℕ) → key_at self.new n ≡ key_at self.old n }
         ensures kept { self.new ≡ record (self.old) { keys = self.new.keys } }
@@ -277,7 +290,7 @@ pub(crate) struct NumberList {
 }
 
 impl NumberList {
-    /// No numbers.
+    /// The empty list. It takes its memory from `alloc` as it grows.
     pub(crate) fn none(alloc: Global) -> Self
         ensures { result.numbers.items ≡ [] }
     {
@@ -287,7 +300,7 @@ impl NumberList {
         }
     }
 
-    /// A copy of it.
+    /// A copy of the list, with its set. It fails only if there is no memory.
     pub(crate) fn try_clone(&self) -> Result<Self, Error>
         ensures ok { IfOk result (λ list. list.numbers.items ≡ self.now.numbers.items) }
         ensures err { IfErr result (λ e. e ≡ OutOfMemory) }
@@ -298,7 +311,8 @@ impl NumberList {
         })
     }
 
-    /// Puts a number in at a place.
+    /// Puts `number` into the list at index `place`, counted from 0, and into `bits`. If there is
+    /// no memory, it fails, and the list stays as it was.
     pub(crate) fn insert(&mut self, place: usize, number: usize) -> Result<(), Error>
         requires { place ≤ vec_len self.old.numbers }
         ensures ok { OnOk result (self.new.numbers.items
@@ -312,7 +326,8 @@ impl NumberList {
         Ok(())
     }
 
-    /// Takes the number at a place out.
+    /// Takes the number at index `place`, counted from 0, out of the list. It also leaves `bits`,
+    /// unless it stands in the list once more.
     pub(crate) fn remove(&mut self, place: usize)
         requires { place < vec_len self.old.numbers }
         ensures { self.new.numbers.items ≡ remove self.old.numbers.items place }
@@ -324,7 +339,7 @@ impl NumberList {
     }
 }
 
-/// Whether a number stands in a list.
+/// Whether `number` stands in `list`.
 fn stands_in(number: usize, list: &[usize]) -> bool
     ensures { result ≡ list_any (λ n. nat_eq n number) list.now }
 {

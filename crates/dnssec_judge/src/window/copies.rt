@@ -11,7 +11,8 @@ use dnssec_keyset::Error;
 use std::alloc::Global;
 
 impl Window {
-    /// A copy of it.
+    /// A copy of the window, with the same sets, spans and reports. It takes its memory from
+    /// `alloc`, and fails only if there is none.
     pub(crate) fn try_clone(&self, alloc: Global) -> Result<Self, Error>
         ensures ok { IfOk result (λ w. IsSame self.now w) }
         ensures err { IfErr result (λ e. e ≡ OutOfMemory) }
@@ -27,7 +28,8 @@ impl Window {
     }
 }
 
-/// The same sets.
+/// A copy of `sets`, with the positions that are known of each. It takes its memory from `alloc`,
+/// and fails only if there is none.
 fn copy_sets(alloc: Global, sets: &[OpenSet]) -> Result<Vec<OpenSet>, Error>
     ensures ok { IfOk result (λ copy. map parts_of copy.items ≡ map parts_of sets.now) }
     ensures err { IfErr result (λ e. e ≡ OutOfMemory) }
@@ -39,7 +41,8 @@ fn copy_sets(alloc: Global, sets: &[OpenSet]) -> Result<Vec<OpenSet>, Error>
     Ok(copy)
 }
 
-/// What helps with the sets of a copy.
+/// A copy of the shortcuts for a window with many sets, or `None` if it has few. It takes its
+/// memory from `alloc`, and fails only if there is none.
 fn copy_many(alloc: Global, many: &Option<Box<Many>>) -> Result<Option<Box<Many>>, Error>
     ensures ok { IfOk result (λ copy. option_map common_of copy ≡ option_map common_of many.now) }
     ensures err { IfErr result (λ e. e ≡ OutOfMemory) }

@@ -16,14 +16,16 @@ use std::collections::HashMap;
 /// What helps with many sets, so that a new one isn't compared, nor tested, with each of them.
 #[derive(Debug, Drop)]
 pub(crate) struct Many {
-    /// Keys and signers that are in each set, as a set. What holds with it holds with all.
+    /// Keys and signers that are in each set, as a set. If it has keys, what fits it fits all sets.
     common: OpenSet,
-    /// By its digest, since when a set is there. A set that isn't found is held once more.
+    /// By its hash, the position since which a set is there. One that isn't found is kept twice.
     pub(super) by_digest: HashMap<u64, usize>,
 }
 
 impl Many {
-    /// What helps with these sets.
+    /// The shortcuts for a window with these `sets`: the keys and signers that all have in common,
+    /// and since when each set is there, by its hash. With them a new set need not be compared with
+    /// each other one. It fails only if there is no memory.
     pub(super) fn of(alloc: Global, sets: &[OpenSet]) -> Result<Self, Error>
         ensures ok { IfOk result (λ many. All (IsIn many.common) sets.now) }
         ensures err { IfErr result (λ e. e ≡ OutOfMemory) }
@@ -42,7 +44,7 @@ impl Many {
         Ok(many)
     }
 
-    /// A copy, which helps with the same sets.
+    /// A copy of these shortcuts, for a copy of the same sets. It fails only if there is no memory.
     pub(super) fn try_clone(&self) -> Result<Self, Error>
         ensures ok { IfOk result (λ many. set_of many.common ≡ set_of self.now.common) }
         ensures err { IfErr result (λ e. e ≡ OutOfMemory) }
@@ -53,7 +55,9 @@ impl Many {
         })
     }
 
-    /// Takes one set more among them.
+    /// Takes one more `set` of the window into account: only what it has too stays in `common`, and
+    /// its hash is noted. After an error the hash is missing, and these shortcuts are of no more
+    /// use.
     pub(super) fn add(&mut self, set: &OpenSet) -> Result<(), Error>
         ensures new { OnOk result (IsIn self.new.common set.now) }
         ensures others { OnOk result ((h : OpenSet) → IsIn self.old.common h →
@@ -67,7 +71,8 @@ impl Many {
 }
 
 impl Window {
-    /// Makes anew what helps with many sets.
+    /// Makes `many`, the shortcuts for many sets, anew for the sets that the window has now. If
+    /// there is no memory, it fails, and `many` stays as it was.
     pub(super) fn help(&mut self, alloc: Global) -> Result<(), Error>
         ensures kept { OnOk result (self.new ≡ record (self.old) { many = self.new.many }) }
         ensures common { OnOk result (HasCommon self.new) }
@@ -78,7 +83,8 @@ impl Window {
         Ok(())
     }
 
-    /// The place of the first set that came at a position or later.
+    /// The index in `sets` of the first set that came at position `since` or later. It is the
+    /// number of sets if none did.
     pub(super) fn place_from(&self, since: usize) -> usize
         ensures within { result ≤ length self.now.sets.items }
         ensures point { AreByAge self.now.sets.items →
@@ -88,7 +94,8 @@ impl Window {
         self.sets.partition_point(|set| set.since < since)
     }
 
-    /// Drops the spans that end below the floor, and the sets that have no span left.
+    /// Drops the spans whose positions all lie below `floor`, and the sets that have no span left:
+    /// caches hold them no more. After an error the window is of no more use.
     pub(super) fn trim(&mut self, alloc: Global) -> Result<(), Error>
         ensures kept { OnOk result (self.new ≡ record (self.old) {
           spans = self.new.spans;
@@ -107,7 +114,8 @@ impl Window {
         Ok(())
     }
 
-    /// Drops the spans that end below the floor, and answers whether there were some.
+    /// Drops the spans whose positions all lie below `floor`, and answers whether there were any.
+    /// The last span stays, since it has no end yet.
     fn drop_spans(&mut self) -> bool
         ensures kept { self.new ≡ record (self.old) { spans = self.new.spans } }
         ensures trims { Trims self.old self.new }
@@ -124,8 +132,8 @@ impl Window {
         were_some
     }
 
-    /// The position at which the first span begins. A set is in the window if it was last published
-    /// there or later.
+    /// The position at which the first span begins, or 0 without a span. A set is still needed if
+    /// it was last published there or later.
     fn begin(&self) -> usize
         ensures { result ≡ begin_of self.now.spans.items }
     {
@@ -135,7 +143,8 @@ impl Window {
         }
     }
 
-    /// Drops the sets that have no span left.
+    /// Drops the sets that have no span left, and brings `many`, the shortcuts for many sets, up to
+    /// date. The spans stay. After an error the window is of no more use.
     fn drop_sets(&mut self, alloc: Global) -> Result<(), Error>
         ensures kept { OnOk result (self.new
             ≡ record (self.old) { sets = self.new.sets; many = self.new.many }) }
@@ -158,7 +167,8 @@ impl Window {
         Ok(())
     }
 
-    /// What is common to all sets, if there are many.
+    /// Keys and signers that each set of the window has, as a set, or `None` if the window has few
+    /// sets. If this set has keys, what fits it in a chain of trust fits each set of the window.
     pub(super) fn common(&self) -> Option<&OpenSet>
         ensures { IfSome result (λ common. HasCommon self.now →
             All (IsIn common.now) self.now.sets.items) }

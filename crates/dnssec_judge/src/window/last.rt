@@ -16,7 +16,7 @@ pub(crate) struct Last {
 }
 
 impl Last {
-    /// Nothing is published.
+    /// The set without keys and signers, since nothing is published yet.
     pub(super) fn none(alloc: Global) -> Self
         ensures { (t : Numbers) → StandForSet t result ([], []) }
     {
@@ -26,7 +26,8 @@ impl Last {
         }
     }
 
-    /// A copy of it.
+    /// A copy of the set: the same numbers of its keys and of its signers. It fails only if there
+    /// is no memory.
     pub(super) fn try_clone(&self) -> Result<Self, Error>
         ensures ok { IfOk result (λ copy. IsSameLast self.now copy) }
         ensures err { IfErr result (λ e. e ≡ OutOfMemory) }

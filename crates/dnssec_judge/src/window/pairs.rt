@@ -19,8 +19,10 @@ pub(crate) enum Link {
 }
 
 impl Link {
-    /// Whether each set that came at position `tested` or later holds with all sets of the other
-    /// window, if the older ones do.
+    /// Whether each set of the window `above` fits each of the window `below` in a chain of trust.
+    /// For `Named` these are DS sets and DNSKEY sets, for `Signed` DNSKEY sets and zone signers. It
+    /// tests only pairs in which a set came at position `tested` or later: the caller knows that
+    /// all others fit.
     pub(crate) fn new_sets_hold(self, above: &Window, below: &Window, tested: usize) -> bool
         ensures { (n : ℕ) → result ≡ true → Keeps n above.now → Keeps n below.now →
             PairsTested tested (holds self true) above.now below.now →
@@ -30,7 +32,8 @@ impl Link {
             && above.hold_with_new(self, false, below, tested)
     }
 
-    /// Whether two sets hold in a chain. The first is of the kind above, or else the second.
+    /// Whether `one` and `other` fit in a chain of trust, by this link. If `is_above`, `one` is of
+    /// the kind above (the DS set of `Named`, the DNSKEY set of `Signed`). Otherwise `other` is.
     #[inline(always)]
     fn holds(self, is_above: bool, one: &OpenSet, other: &OpenSet) -> bool
         ensures { result ≡ holds self is_above (set_of one.now) (set_of other.now) }
@@ -47,7 +50,8 @@ impl Link {
 // If there are many sets, a test with all of them first asks what is common to them. So most sets
 // are tested once, and not with each of the others.
 impl Window {
-    /// The sets that came at position `tested` or later.
+    /// The sets of the window that came at position `tested` or later, in the order in which they
+    /// came. The slice is empty if none did.
     fn new_sets(&self, tested: usize) -> &[OpenSet]
         ensures { AreByAge self.now.sets.items → (h : OpenSet) → IsOpen self.now h →
             tested ≤ h.since → Contains result.now h }
@@ -57,8 +61,9 @@ impl Window {
         new
     }
 
-    /// Whether the new sets of another window hold with each set of this one. That one is of the
-    /// kind above, or else this one.
+    /// Whether each set of this window fits, by `link`, each set of the window `other` that came at
+    /// position `tested` or later. `is_above` says that `other` has the kind above (the DS sets of
+    /// `Named`, the DNSKEY sets of `Signed`). Otherwise this window has it.
     #[inline(always)]
     fn hold_with_new(&self, link: Link, is_above: bool, other: &Window, tested: usize) -> bool
         ensures { (n : ℕ) → result ≡ true → Keeps n self.now → Keeps n other.now →
@@ -73,7 +78,9 @@ impl Window {
         true
     }
 
-    /// Whether a set holds with each set of the window. It is of the kind above, or else these are.
+    /// Whether `set` fits each set of this window in a chain of trust, by `link`. `is_above` says
+    /// that `set` is of the kind above (the DS set of `Named`, the DNSKEY set of `Signed`), and the
+    /// window of the one below. Otherwise it is the other way round.
     #[inline(always)]
     pub(super) fn all_hold(&self, link: Link, is_above: bool, set: &OpenSet) -> bool
         ensures { (n : ℕ) → Keeps n self.now →

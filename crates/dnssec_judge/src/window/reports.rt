@@ -24,7 +24,10 @@ pub(crate) struct Due {
 }
 
 impl Due {
-    /// The report of a call, if it speaks of the kind and is over some time.
+    /// What a window keeps of a call with this `mark` that was given this `moment`: when the TTL
+    /// that it reports is over, and below which position caches then hold no set of the `kind`.
+    /// `steps` has the last step of each roll. `None` if the call is no report of the kind, has no
+    /// moment, follows no step of its roll, or has a TTL that ends past the greatest `UnixTime`.
     // Inline, so that no call copies the steps.
     #[inline(always)]
     pub(crate) fn of(
@@ -53,7 +56,8 @@ impl Due {
         })
     }
 
-    /// All below this position is retired at the time.
+    /// The position below which caches hold no set at `time`, by this report alone: `base` if its
+    /// TTL has passed, else 0.
     #[tactic(auto, using(std::proofs::lemmas::Grind::common_steps))]
     fn over(&self, time: UnixTime) -> usize
         ensures { result ≡ over self.now time }
@@ -61,14 +65,15 @@ impl Due {
         if self.is_over(time) { self.base } else { 0 }
     }
 
-    /// Whether its TTL has passed.
+    /// Whether the TTL of this report has passed at `time`.
     pub(super) fn is_over(&self, time: UnixTime) -> bool
         ensures { result ≡ is_over_at time self.now }
     {
         self.over <= time
     }
 
-    /// Whether it is over as soon as another, with a base as high.
+    /// Whether `other` need not be kept beside this report: the TTL of this one is over no later,
+    /// and its `base`, the position below which caches then hold no set, is not less.
     fn beats(&self, other: &Due) -> bool
         ensures { result ≡ true → (t : ℕ) → over other.now t ≤ over self.now t }
     {
@@ -77,7 +82,10 @@ impl Due {
 }
 
 impl Window {
-    /// Notes a report, if there is one, unless another is over as soon with a base as high.
+    /// Adds the report `due` to `dues`, if there is one, in the order in which their TTLs are over.
+    /// It is left out if the TTL of the report before it is over no later, and caches then hold no
+    /// set below the same or a higher position. If there is no memory, it fails and changes
+    /// nothing.
     pub(super) fn note(&mut self, due: Option<Due>) -> Result<(), Error>
         ensures dues { OnOk result ((t : ℕ) → floor_with self.old.floor self.new.dues.items t
             ≡ max (floor_with self.old.floor self.old.dues.items t) (over_any due t)) }
@@ -97,7 +105,9 @@ impl Window {
         Ok(())
     }
 
-    /// Whether the report before a place is over as soon as another, with a base as high.
+    /// Whether `due` need not be kept at index `place` of `dues`, since the TTL of the report right
+    /// before is over no later, and caches then hold no set below the same or a higher position.
+    /// False if no report stands there.
     fn is_beaten(&self, due: &Due, place: usize) -> bool
         ensures { result ≡ true → (floor t : ℕ) →
             over due.now t ≤ floor_with floor self.now.dues.items t }
@@ -111,7 +121,9 @@ impl Window {
         }
     }
 
-    /// Lifts the floor to the greatest base of the reports that are over, and drops those reports.
+    /// Raises `floor`, the least position whose set caches may hold, to the greatest `base` of the
+    /// reports whose TTL is over at `time`, unless it is there already. Drops these reports from
+    /// `dues`.
     pub(super) fn retire(&mut self, time: UnixTime)
         ensures floor { AreInOrder self.old.dues.items → self.new.floor
             ≡ floor_with self.old.floor self.old.dues.items time }
@@ -135,8 +147,8 @@ impl Window {
     }
 }
 
-/// Whether the TTL has passed since the moment. It never has if their sum is past the greatest
-/// moment.
+/// Whether `ttl` seconds have passed from `moment` to `time`. They never have if they end past the
+/// greatest moment that a `UnixTime` can have.
 pub(crate) fn is_over(moment: UnixTime, ttl: u32, time: UnixTime) -> bool
     ensures { result ≡ not (nat_lt time (moment + ttl * 1_000_000_000)) }
 {

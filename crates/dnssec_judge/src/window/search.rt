@@ -1,5 +1,5 @@
 //! The first sets without a chain, once a test has failed: each window is searched in the order of
-//! its spans. A set that holds with all is left out by one test, so that no other window is
+//! its spans. A set that fits all others is left out by one test, so that no other window is
 //! searched for it.
 ghost use Rattle.std.specs.Prelude.{◌≡◌, ℕ, true};
 ghost use Rattle.std.specs.Option.{option_map};
@@ -18,8 +18,10 @@ pub(crate) struct First<'a> {
     set: &'a OpenSet,
 }
 
-/// The first DS set, with a DNSKEY set and zone signers, that has no chain. `are_signed` says that
-/// all DNSKEY sets hold with all zone signers.
+/// The first three sets without a chain of trust in the three windows, or `None` if all have one.
+/// First are those with the least position of the DS set, then of the DNSKEY set, then of the zone
+/// signers. `at` is the position at which caches may hold them. `are_signed` says that all DNSKEY
+/// sets are known to fit all zone signers.
 pub(crate) fn find_broken(
     ds: &Window,
     dnskey: &Window,
@@ -49,7 +51,9 @@ pub(crate) fn find_broken(
     None
 }
 
-/// The first DNSKEY set, with zone signers, that leaves the DS set without a chain.
+/// The first DNSKEY set, with the first zone signers, that have no chain with the DS set `ds`, or
+/// `None` if all have one. The answer has the positions of the three sets, and `at`, the position
+/// at which caches may hold them.
 fn find_keys(ds: &First<'_>, dnskey: &Window, zone: &Window, at: usize) -> Option<Broken>
     ensures { (n : ℕ) → Keeps n dnskey.now → Keeps n zone.now → result
         ≡ first_keys at ds.now.at (set_of ds.now.set.now) dnskey.now.floor
@@ -74,7 +78,8 @@ fn find_keys(ds: &First<'_>, dnskey: &Window, zone: &Window, at: usize) -> Optio
     None
 }
 
-/// The first zone signers that leave the other two sets without a chain.
+/// The first position whose zone signers, of those that caches may hold by the window `zone`, have
+/// no chain of trust with the DS set `ds` and the DNSKEY set `keys`. `None` if all have one.
 fn find_zone(ds: &OpenSet, keys: &OpenSet, zone: &Window) -> Option<usize>
     ensures { (n : ℕ) → Keeps n zone.now → result
         ≡ first_failing (sets_have_chain (set_of ds.now) (set_of keys.now)) zone.now.floor
@@ -92,7 +97,9 @@ fn find_zone(ds: &OpenSet, keys: &OpenSet, zone: &Window) -> Option<usize>
 }
 
 impl Window {
-    /// The set of the span at a place, if there is one.
+    /// The set of the span at index `place` of `spans`, and the first position of that span that
+    /// isn't before `floor`. Earlier ones don't count, since caches no longer hold what they got
+    /// then. `None` if no span has that index.
     fn span_at(&self, place: usize) -> Option<First<'_>>
         ensures { (n : ℕ) → Keeps n self.now →
             option_map first_of_set result ≡ span_of self.now place }

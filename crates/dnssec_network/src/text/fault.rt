@@ -16,14 +16,15 @@ use std::fmt;
 pub enum LineFault {
     /// It doesn't have the form of a line of notes.
     Malformed,
-    /// Its fact can't follow those before it.
+    /// Its fact can't follow the calls or the facts before it.
     Refused(NoteFault),
     /// Memory has run out.
     OutOfMemory,
 }
 
 impl LineFault {
-    /// The same fault of notes, on the line of this number.
+    /// This fault as one of a whole text of notes, in which the line has this `number`, counted
+    /// from 1. `OutOfMemory` names no line.
     pub(crate) fn at(self, number: usize) -> NotesFault
         ensures { result ≡ fault_at self number }
     {
@@ -56,7 +57,7 @@ pub enum NotesFault {
     /// The line of this number, counted from 1, is the first that doesn't have the form of a line
     /// of notes.
     Malformed(usize),
-    /// The fact on the line of this number can't follow those before it.
+    /// The fact on the line of this number can't follow the calls or the facts before it.
     Refused(usize, NoteFault),
     /// Memory has run out.
     OutOfMemory,
@@ -81,6 +82,7 @@ impl std::error::Error for NotesFault {}
 impl From<AllocError> for NotesFault {
     ghost from_gives = { λ _ fault. fault ≡ OutOfMemory };
 
+    /// Notes that find no memory have the fault `OutOfMemory`.
     fn from(_: AllocError) -> Self {
         NotesFault::OutOfMemory
     }
@@ -112,6 +114,7 @@ impl std::error::Error for DueFault {}
 impl From<ScriptFault> for DueFault {
     ghost from_gives = { λ fault given. given ≡ due.Script fault };
 
+    /// The fault `Script` with this `fault`: the script was not run, so nothing is answered.
     fn from(fault: ScriptFault) -> Self {
         DueFault::Script(fault)
     }
@@ -120,6 +123,7 @@ impl From<ScriptFault> for DueFault {
 impl From<NotesFault> for DueFault {
     ghost from_gives = { λ fault given. given ≡ due.Notes fault };
 
+    /// The fault `Notes` with this `fault`: the notes were not read, so nothing is answered.
     fn from(fault: NotesFault) -> Self {
         DueFault::Notes(fault)
     }
@@ -128,6 +132,7 @@ impl From<NotesFault> for DueFault {
 impl From<AllocError> for DueFault {
     ghost from_gives = { λ _ fault. fault ≡ due.Notes OutOfMemory };
 
+    /// The fault `Notes` with `OutOfMemory`, for an answer that found no memory.
     fn from(_: AllocError) -> Self {
         DueFault::Notes(NotesFault::OutOfMemory)
     }

@@ -24,7 +24,8 @@ pub(crate) enum FactWord {
     Everywhere,
 }
 
-/// The value that has this name, of two values with their names.
+/// The value that is called `name`, of two pairs of a name and its value. `one` goes first if both
+/// have this name. `None` if neither has it.
 pub fn either_named<T: Copy>(name: &[u8], one: (&[u8], T), other: (&[u8], T)) -> Option<T>
     ensures { result ≡ either_named name.now (one.entry.0.now, one.entry.1)
         (other.entry.0.now, other.entry.1) }
@@ -38,7 +39,7 @@ pub fn either_named<T: Copy>(name: &[u8], one: (&[u8], T), other: (&[u8], T)) ->
     }
 }
 
-/// The kind of sets with this name.
+/// The kind of sets that notes call `name`: `ds`, `dnskey` or `zone`. `None` for any other name.
 #[tactic(auto, unfolding(crate::specs::Text::Lines::kind_named))]
 fn kind_named(name: &[u8]) -> Option<SetKind>
     ensures { result ≡ kind_named name.now }
@@ -54,14 +55,15 @@ fn kind_named(name: &[u8]) -> Option<SetKind>
     }
 }
 
-/// The name of a kind, as notes have it.
+/// The name of a kind of sets in notes: `ds`, `dnskey` or `zone`.
 pub fn kind_name(kind: SetKind) -> &'static str
     ensures { result.now ≡ kind_name kind }
 {
     KIND_NAMES.of(kind)
 }
 
-/// The first field as a word.
+/// Reads the first field of a line as the word of a fact, `published` or `everywhere`. It answers
+/// the word and the fields after it. `None` if there is no field, or it is another word.
 #[tactic(auto, unfolding(crate::specs::Text::Lines::word_named))]
 fn first_word<'a>(fields: Fields<'a>) -> Option<(FactWord, Fields<'a>)>
     ensures { option_map (λ x. (x.0, x.1)) result ≡ word_at fields.entry }
@@ -72,7 +74,8 @@ fn first_word<'a>(fields: Fields<'a>) -> Option<(FactWord, Fields<'a>)>
     Some((either_named(name, published, everywhere)?, fields))
 }
 
-/// The first field as a kind of sets.
+/// Reads the first of these fields as a kind of sets: `ds`, `dnskey` or `zone`. It answers the kind
+/// and the fields after it. `None` if there is no field, or it names no kind.
 fn first_kind<'a>(fields: Fields<'a>) -> Option<(SetKind, Fields<'a>)>
     ensures { option_map (λ x. (x.0, x.1)) result ≡ kind_at fields.entry }
 {
@@ -80,8 +83,10 @@ fn first_kind<'a>(fields: Fields<'a>) -> Option<(SetKind, Fields<'a>)>
     Some((kind_named(name)?, fields))
 }
 
-/// What a line says, if it has the form of a fact's line, as `published dnskey 12 3600 100`. A
-/// caller of `read_notes` may so look at the facts that it has read.
+/// Reads a line of notes that states a fact. `published dnskey 12 3600 100` says that a DNSKEY set
+/// is published as it is due after call 12, with a TTL of at most 3600 seconds, at second 100 since
+/// 1970. `everywhere dnskey 130` says that at second 130 all servers gave what was published last.
+/// `None` if the line has neither form. Whether notes take the fact, `Notes::note` says.
 ///
 /// ```rust
 /// if let Some(fact) = read_fact(b"published dnskey 12 3600 100") {
@@ -98,7 +103,9 @@ pub fn read_fact(line: &[u8]) -> Option<Fact>
     Some(Fact { kind, news })
 }
 
-/// What the fields after a word and a kind say.
+/// Reads the fields of a fact's line that follow its `word` and its kind: for `published` the
+/// number of a call, a TTL in seconds and a second since 1970, for `everywhere` a second since 1970
+/// alone. `None` if they don't have this form.
 fn read_news(word: FactWord, fields: Fields<'_>) -> Option<News>
     ensures { option_map news_says result ≡ news_after word fields.entry }
 {
@@ -108,7 +115,8 @@ fn read_news(word: FactWord, fields: Fields<'_>) -> Option<News>
     }
 }
 
-/// The fields after `published`.
+/// Reads the fields after `published` and a kind: the number of a call, a TTL in seconds, and a
+/// moment as a second since 1970. `None` if they don't have this form.
 fn published(fields: Fields<'_>) -> Option<News>
     ensures { option_map news_says result ≡ news_after FactWord.Published fields.entry }
 {
@@ -123,7 +131,9 @@ fn published(fields: Fields<'_>) -> Option<News>
     })
 }
 
-/// The field after `everywhere`.
+/// Reads the fields after `everywhere` and a kind, and answers the news that all servers gave the
+/// newest version at the moment that they name. They have to be one field: a second since 1970.
+/// `None` if they have another form.
 fn everywhere(fields: Fields<'_>) -> Option<News>
     ensures { option_map news_says result ≡ news_after FactWord.Everywhere fields.entry }
 {
@@ -132,7 +142,9 @@ fn everywhere(fields: Fields<'_>) -> Option<News>
     Some(News::Everywhere { moment })
 }
 
-/// What the first line says, if it has the form of one, as `before 3600 3600 3600`.
+/// Reads the first line of notes, as `before 3600 3600 3600`: the highest TTLs, in seconds, of DS
+/// sets, DNSKEY sets and other sets before the first call. `None` if the line doesn't have this
+/// form.
 ///
 /// ```rust
 /// let before = read_before(b"before 3600 3600 3600");
@@ -149,7 +161,8 @@ pub fn read_before(line: &[u8]) -> Option<Before>
     }
 }
 
-/// The fields after `before`.
+/// Reads the fields after `before`: the TTLs, in seconds, of DS sets, DNSKEY sets and other sets
+/// before the first call. `None` if they aren't three TTLs.
 fn before(fields: Fields<'_>) -> Option<Before>
     ensures { option_map before_says result ≡ values_of before_forms fields.entry }
 {

@@ -23,16 +23,21 @@ use super::session::SessionNotes;
 use dnssec_record::{Fields, Session, all_lines};
 use std::alloc::{AllocError, Global};
 
-/// Answers the questions among lines of notes, each by the lines above it, after the calls that the
-/// session has made. A question is `due` with a second since 1970, and its answer has the form of
-/// `due_lines`. At least one is asked. The lines are read once, and the session isn't run again.
+/// Answers the questions among `lines`, those of the notes of the session's zone. A question is
+/// `due` with a second since 1970: it asks which reports are due then, by the lines above it, after
+/// the calls that the session has made. Each answer is a text with a line for each roll that waits
+/// for a report, as `report1 ksk-roll 3600 130`, or `not yet: ` and what it waits for.
+///
+/// The answers come in the order of the questions. At least one line must ask. The lines are read
+/// once, and the session isn't run again.
 ///
 /// # Errors
 ///
 /// - `Malformed` with the number of the first line that is neither a line of notes nor a question,
 ///   or that asks before the first line of the notes. If nothing is asked, it is the number of the
 ///   line after the last.
-/// - `Refused` with the number of the first fact that can't follow those before it, and the cause.
+/// - `Refused` with the number of the first line whose fact can't follow the calls or the facts
+///   before it, and the cause.
 /// - `OutOfMemory` if memory runs out for a line that could be taken or answered.
 ///
 /// ```rust
@@ -64,7 +69,9 @@ pub fn answer_lines(
     Ok(answers)
 }
 
-/// Reads one more line, and adds its answer if it is a question.
+/// Reads the next line of notes among which questions stand. If it is a question, `due` with a
+/// second since 1970, the answer goes to the end of `answers`. Any other line goes into `notes`.
+/// The error is `Malformed`, `Refused` or `OutOfMemory`, and both are then as they were.
 fn read_on(
     notes: &mut SessionNotes,
     answers: &mut Vec<String>,
@@ -90,13 +97,14 @@ fn read_on(
     }
 }
 
-/// Runs a script, reads the notes beside it, and answers which reports are due at this second since
-/// 1970, as `due_lines` writes them.
+/// Runs a script, reads the notes beside it, and answers which reports are due at `seconds` since
+/// 1970. The text has a line for each roll that waits for a report: its line of a script, as
+/// `report1 ksk-roll 3600 130`, or `not yet: ` and what it waits for. It is empty if none waits.
 ///
 /// # Errors
 ///
-/// - `Script` with the fault of the script, or if memory runs out, for one of its calls too.
-/// - `Notes` with the fault of the notes, or if memory runs out.
+/// - `Script` with the fault of the script: `OutOfMemory` too, if memory runs out while it runs.
+/// - `Notes` with the fault of the notes: `OutOfMemory` too, if memory runs out after that.
 ///
 /// ```rust
 /// let lines = answer_due(alloc, script.as_bytes(), notes.as_bytes(), 1_700_000_000)?;
@@ -117,13 +125,16 @@ pub fn answer_due(
     Ok(lines)
 }
 
-/// Runs a script once, and answers the questions among the notes beside it, as `answer_lines` does:
-/// each as `answer_due` would by the notes above it.
+/// Runs a script once, and answers the questions among the notes beside it, in their order. A
+/// question is `due` with a second since 1970: it asks which reports are due then, by the notes
+/// above it, after all calls of the script. Each answer is a text with a line for each roll that
+/// waits for a report, as `report1 ksk-roll 3600 130`. At least one line must ask.
 ///
 /// # Errors
 ///
-/// - `Script` with the fault of the script, or if memory runs out, for one of its calls too.
-/// - `Notes` with the fault of the notes or of a question, or if memory runs out.
+/// - `Script` with the fault of the script: `OutOfMemory` too, if memory runs out while it runs.
+/// - `Notes` with the fault of the notes or of a question: `OutOfMemory` too, if memory runs out
+///   after the script has run. If nothing is asked, they are malformed at the line after the last.
 ///
 /// ```rust
 /// let notes = b"before 3600 3600 3600\npublished dnskey 12 3600 100\ndue 120\n";
@@ -144,13 +155,19 @@ pub fn answer_questions(alloc: Global, script: &[u8], notes: &[u8]) -> Result<Ve
 }
 
 impl SessionNotes {
-    /// Takes the next line of notes among which questions stand: answers a question by the lines so
-    /// far, and takes any other line as `take_line` does.
+    /// Takes the next line of notes among which questions stand. A question is `due` with a second
+    /// since 1970: it asks which reports are due then, by the lines so far. Its answer is returned,
+    /// with a line for each roll that waits for a report, as `report1 ksk-roll 3600 130`, and the
+    /// notes stay. Any other line is added to the notes, and `None` is returned.
     ///
     /// # Errors
     ///
-    /// Those of `take_line`; `Malformed` for a question too, if there is no line of notes yet. The
-    /// notes are then as they were.
+    /// - `Malformed` if it is neither a line of notes nor a question, or if it asks before the
+    ///   first line of notes.
+    /// - `Refused` if its fact can't follow the calls or the facts before it, with the cause.
+    /// - `OutOfMemory` if memory runs out for a line that could be taken or answered.
+    ///
+    /// The notes are then as they were.
     pub fn answer_line(
         &mut self,
         alloc: Global,
@@ -177,7 +194,13 @@ impl SessionNotes {
         }
     }
 
-    /// The answer to a question by the lines so far.
+    /// Answers which reports are due at `seconds` since 1970, by the notes so far, after the calls
+    /// of the session. The text has a line for each roll that waits for a report, as
+    /// `report1 ksk-roll 3600 130`, or `not yet: ` and what it waits for.
+    ///
+    /// # Errors
+    ///
+    /// `Malformed` before the first line of the notes. `OutOfMemory` if memory runs out.
     fn answer(&self, alloc: Global, session: &Session, seconds: u64) -> Result<String, LineFault>
         ensures text { IfOk result (λ text.
             AnswersDue session.now self.now seconds (Some (string_bytes text))) }
@@ -192,7 +215,8 @@ impl SessionNotes {
     }
 }
 
-/// The second that a line asks about, if it is a question of this word.
+/// The second since 1970 that `line` asks about, if it is a question: the word `word`, a space, and
+/// a number of up to 64 bits. `None` for any other line.
 #[tactic(auto, unfolding(crate::specs::Text::Questions::asked_by))]
 pub fn read_question(word: &[u8], line: &[u8]) -> Option<u64>
     ensures { option_map (λ second. Number second ∷ []) result ≡ asked_by word.now line.now }
@@ -201,7 +225,8 @@ pub fn read_question(word: &[u8], line: &[u8]) -> Option<u64>
     if first == word { second(fields) } else { None }
 }
 
-/// The field after the word.
+/// Reads the only field after the word of a question: a second since 1970, of up to 64 bits. `None`
+/// if that isn't what follows the word.
 fn second(fields: Fields<'_>) -> Option<u64>
     ensures { option_map (λ second. Number second ∷ []) result
         ≡ values_of question_forms fields.entry }

@@ -11,12 +11,18 @@ use crate::notes::Notes;
 use dnssec_run::Moments;
 use std::alloc::Global;
 
-/// Reads notes, which stand beside a script. `moments` are those of the script's calls.
+/// Reads the text of a zone's notes. Its first line is `before` and the highest TTLs, in seconds,
+/// of DS sets, DNSKEY sets and other sets before the first call. Each further line is a fact:
+/// `published`, a kind, the number of a call, a TTL and a second since 1970, or `everywhere`, a
+/// kind and a second. `moments` has the greatest moment up to each call of the script beside the
+/// notes.
 ///
 /// # Errors
 ///
-/// - `Malformed` with the number of the first line that isn't a line of notes.
-/// - `Refused` with the number of the first fact that can't follow those before it, and the cause.
+/// - `Malformed` with the number of the first line that isn't a line of notes. Lines count from 1,
+///   which is also the number for an empty text.
+/// - `Refused` with the number of the first line whose fact can't follow the calls or the facts
+///   before it, and the cause.
 /// - `OutOfMemory` if memory runs out for a fact that could be taken.
 ///
 /// ```rust
@@ -44,7 +50,8 @@ pub fn read_notes(alloc: Global, moments: &Moments, text: &[u8]) -> Result<Notes
     Ok(notes)
 }
 
-/// A text without the line feed at its end.
+/// The text without the line feed at its end, or all of it if it doesn't end with one. Only one
+/// line feed is left out.
 #[tactic(auto, using(dnssec_script::proofs::Judging::ends))]
 pub fn without_end(text: &[u8]) -> &[u8]
     ensures { result.now ≡ without_end text.now }
@@ -55,7 +62,10 @@ pub fn without_end(text: &[u8]) -> &[u8]
     }
 }
 
-/// Notes the fact of a line of this number.
+/// Adds the fact that `line` states to `notes`. `moments` has the greatest moment up to each call
+/// that was made. The error is `Malformed` with `number` if the line states no fact, `Refused` with
+/// `number` if its fact can't follow the calls or the facts before it, or `OutOfMemory`. The notes
+/// are then as they were. `number` is that of the line in the text, counted from 1.
 fn note_line(
     notes: &mut Notes,
     moments: &Moments,
@@ -73,7 +83,13 @@ fn note_line(
     }
 }
 
-/// Notes the fact of a line.
+/// Adds the fact that `line` states to `notes`, as `published dnskey 12 3600 100` or
+/// `everywhere dnskey 130`. `moments` has the greatest moment up to each call that was made.
+///
+/// # Errors
+///
+/// `Malformed` if the line states no fact. `Refused` if its fact can't follow the calls or the
+/// facts before it. `OutOfMemory` if memory runs out. The notes are then as they were.
 pub(crate) fn take_fact(notes: &mut Notes, moments: &Moments, line: &[u8]) -> Result<(), LineFault>
     ensures ok { OnOk result (HasLine moments.now notes.old line.now notes.new) }
     ensures err { IfErr result (IsFactFault moments.now notes.old.facts line.now) }

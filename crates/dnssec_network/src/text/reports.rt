@@ -16,11 +16,14 @@ use dnssec_zone::all_rolls;
 use std::alloc::{AllocError, Global};
 use std::time::Duration;
 
-/// The reports that rolls wait for, as they would be made at this second since 1970. Each has a
-/// line of a script, as `report1 ksk-roll 3600 130`. If it isn't due yet, its line says which sets
-/// it waits for, as `not yet: report1 ksk-roll waits for dnskey`, or up to which second, as `not
-/// yet: report1 ksk-roll waits until 100`. `steps` are the last steps of the record of this key
-/// set, and `moments` those of its calls.
+/// Makes a text with a line for each roll that waits for a report, as this would be made at
+/// `seconds` since 1970. If the report is due, that is its line of a script, as
+/// `report1 ksk-roll 3600 130`. If not, the line says which sets it waits for, as
+/// `not yet: report1 ksk-roll waits for dnskey`, or up to which second, as
+/// `not yet: report1 ksk-roll waits until 100`. The text is empty if no roll waits for a report.
+///
+/// `steps` are the last steps in the record of `keyset`: of each roll its last accepted start or
+/// end of its first wait. `moments` has the greatest moment up to each call of the record.
 ///
 /// # Errors
 ///
@@ -55,7 +58,11 @@ pub fn due_lines(
     Ok(text)
 }
 
-/// Writes a line for each roll that waits for a report.
+/// Appends to `text` a line for each of these `rolls` that waits for a report, as it would be made
+/// at `seconds` since 1970: `report1 ksk-roll 3600 130` if it is due, and if not, `not yet: ` and
+/// what it waits for. `steps` has each roll's last accepted start or end of its first wait, and
+/// `moments` the greatest moment up to each call. If memory runs out, `text` may have got a part of
+/// them.
 fn push_lines(
     text: &mut String,
     rolls: &[RollType],
@@ -77,7 +84,9 @@ fn push_lines(
     Ok(())
 }
 
-/// Writes the line of a report, if one is due or waited for.
+/// Appends to `text` the line of the report that a roll waits for, and nothing if it waits for
+/// none. The report is made at `seconds` since 1970. If memory runs out, `text` may have got a part
+/// of the line.
 fn push_line(text: &mut String, report: &Option<DueReport>, seconds: u64) -> Result<(), AllocError>
     ensures { OnOk result (string_bytes text.new
         ≡ string_bytes text.old ++ due_line report.now seconds) }
@@ -88,7 +97,9 @@ fn push_line(text: &mut String, report: &Option<DueReport>, seconds: u64) -> Res
     }
 }
 
-/// Writes a report that is due, or what it still waits for.
+/// Appends a line to `text`. If the report is due, it is the script's line that makes it at
+/// `seconds` since 1970, as `report1 ksk-roll 3600 130`. Otherwise it is `not yet: `, the report
+/// and what it waits for. If memory runs out, `text` may have got a part of it.
 fn push_report(text: &mut String, report: &DueReport, seconds: u64) -> Result<(), AllocError>
     ensures { OnOk result (string_bytes text.new ≡ string_bytes text.old
         ++ ttl_line (is_second report.now.half) report.now.roll report.now.ttl seconds) }
@@ -111,7 +122,8 @@ fn push_report(text: &mut String, report: &DueReport, seconds: u64) -> Result<()
     }
 }
 
-/// Writes what a report waits for.
+/// Appends to `text` what a report waits for that isn't due: ` waits for ` and a kind of sets, or
+/// ` waits until ` and a second since 1970. If memory runs out, `text` may have got a part of it.
 fn push_why(text: &mut String, why: NotYet) -> Result<(), AllocError>
     ensures { OnOk result (string_bytes text.new ≡ string_bytes text.old ++ why_text why) }
 {
@@ -128,14 +140,15 @@ fn push_why(text: &mut String, why: NotYet) -> Result<(), AllocError>
     }
 }
 
-/// The first second since 1970 that isn't before the moment.
+/// The first second since 1970 that isn't before `moment`.
 fn first_second(moment: UnixTime) -> u128
     ensures { result ≡ first_second moment }
 {
     (Duration::from(moment).as_nanos() + 999_999_999) / 1_000_000_000
 }
 
-/// Writes the word of a report and its roll.
+/// Appends to `text` the word of a report and the name of its roll, as `report1 ksk-roll`. If
+/// memory runs out, `text` may have got a part of it.
 fn push_call(text: &mut String, half: Half, roll: RollType) -> Result<(), AllocError>
     ensures { OnOk result (string_bytes text.new
         ≡ string_bytes text.old ++ report_of (is_second half) roll) }
@@ -145,14 +158,15 @@ fn push_call(text: &mut String, half: Half, roll: RollType) -> Result<(), AllocE
     text.push_str(roll_name(roll))
 }
 
-/// Writes a number in decimal.
+/// Appends a number to `text`, in decimal. If memory runs out, `text` may have got a part of it.
 fn push_number(text: &mut String, number: u64) -> Result<(), AllocError>
     ensures { OnOk result (string_bytes text.new ≡ string_bytes text.old ++ decimal number) }
 {
     write!(text, "{number}")
 }
 
-/// The word of a report.
+/// The word of a script's line that makes the report on this half of a roll: `report1` or
+/// `report2`.
 fn report_word(half: Half) -> &'static str
     ensures { result.now ≡ report_word (is_second half) }
 {

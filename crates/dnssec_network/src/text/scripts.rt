@@ -17,14 +17,18 @@ struct ScriptWithNotes<'a> {
     notes: &'a [u8],
 }
 
-/// Answers the questions among the notes of several scripts, each as `answer_questions` does. The
-/// text has a script, an empty line, its notes, an empty line, the next script, and so on; one more
-/// empty line may stand at its end. Between two answers stands an empty line.
+/// Answers the questions among the notes of several scripts. A question is a line `due` with a
+/// second since 1970: it asks which reports are due then, by the notes above it. Each answer has a
+/// line for each roll that waits for a report, as `report1 ksk-roll 3600 130`.
+///
+/// The text has a script, an empty line, its notes, an empty line, the next script, and so on. One
+/// more empty line may stand at its end. Between two answers stands an empty line.
 ///
 /// # Errors
 ///
 /// - `Script` or `Notes` with the fault of the first script that isn't answered, or of its notes.
-///   If no notes follow a script, that is a fault of notes. An empty text is an empty script.
+///   If no notes follow a script, or nothing is asked in them, that is a fault of notes. An empty
+///   text is an empty script.
 /// - `Notes` with `OutOfMemory` if memory runs out.
 ///
 /// ```rust
@@ -42,7 +46,12 @@ pub fn answer_scripts(alloc: Global, text: &[u8]) -> Result<String, DueFault>
     Ok(all)
 }
 
-/// The parts of a text, which empty lines end.
+/// Cuts a text at its empty lines, and answers the parts between them in order. Each part but the
+/// last is empty or ends with a line feed. A text without an empty line is one part.
+///
+/// # Errors
+///
+/// `AllocError` if memory runs out for the list.
 pub fn cut(alloc: Global, text: &[u8]) -> Result<Vec<&[u8]>, AllocError>
     ensures { IfOk result (λ parts. map now parts.items ≡ parts_of text.now) }
 {
@@ -62,14 +71,17 @@ pub fn cut(alloc: Global, text: &[u8]) -> Result<Vec<&[u8]>, AllocError>
     Ok(parts)
 }
 
-/// Whether a line that begins here ends here too.
+/// Whether an empty line stands here, at which a part of a text ends: a line begins at this byte,
+/// and the byte is a line feed (`is_end`).
 fn ends_part(line_begins: bool, is_end: bool) -> bool
     ensures { result ≡ (line_begins && is_end) }
 {
     line_begins && is_end
 }
 
-/// The parts by twos: each script with its notes.
+/// Makes pairs of the parts of a text: each script with the notes that follow it. A last script
+/// without notes gets empty ones. An empty last part without notes is left out, unless it is the
+/// only part. An error if memory runs out.
 fn pair<'a>(alloc: Global, parts: &[&'a [u8]]) -> Result<Vec<ScriptWithNotes<'a>>, AllocError>
     ensures { IfOk result (λ scripts.
         map as_noted scripts.items ≡ scripts_among (map now parts.now)) }
@@ -97,14 +109,19 @@ fn pair<'a>(alloc: Global, parts: &[&'a [u8]]) -> Result<Vec<ScriptWithNotes<'a>
     Ok(scripts)
 }
 
-/// Whether a last part is a script, which no notes follow.
+/// Whether the last part of a text is a script if no notes follow it. It is if it isn't empty, or
+/// is the first part too.
 fn is_script(is_first: bool, part: &[u8]) -> bool
     ensures { result ≡ (is_first || not (length part.now == 0)) }
 {
     is_first || !part.is_empty()
 }
 
-/// The answers to the questions of each script, in their order.
+/// Answers the questions among the notes of each script: the lines `due` with a second since 1970.
+/// The list has one text for each question, in the order of the scripts, and of the questions
+/// beside each. If the notes of a script ask nothing, that is a fault of them. The error is
+/// `Script` or `Notes` with the fault of the first script that isn't answered, or of its notes. If
+/// memory runs out, it may also be `Notes` with `OutOfMemory`.
 fn answer_each(alloc: Global, scripts: &[ScriptWithNotes<'_>]) -> Result<Vec<String>, DueFault>
     ensures ok { IfOk result (λ answers.
         AnswersEach (map as_noted scripts.now) (map string_bytes answers.items)) }

@@ -46,14 +46,15 @@ impl Model for SessionNotes {
 }
 
 impl SessionNotes {
-    /// No line is taken yet.
+    /// Begins the notes of a session's zone. No line is taken yet, and no memory.
     pub fn new() -> Self
         ensures { result ≡ None }
     {
         SessionNotes { notes: None }
     }
 
-    /// The same notes, for a copy of the session. They take their memory from `alloc`.
+    /// Copies the notes, for a copy of the session. Lines that the one takes don't change the
+    /// other. The copy takes its memory from `alloc`.
     ///
     /// # Errors
     ///
@@ -67,7 +68,7 @@ impl SessionNotes {
         }
     }
 
-    /// These notes, in a box.
+    /// Puts `notes` into a box from `alloc`, as those of a session. An error if there is no memory.
     fn with(alloc: Global, notes: Notes) -> Result<Self, AllocError>
         ensures { IfOk result (λ kept. kept ≡ Some notes) }
     {
@@ -76,11 +77,12 @@ impl SessionNotes {
     }
 
     /// Takes the next line of the notes, after the calls that the session has made so far. The
-    /// first line has the TTLs from before the first call.
+    /// first line has the TTLs from before the first call, as `before 3600 3600 3600`. Each later
+    /// one states a fact, as `published dnskey 12 3600 100` or `everywhere dnskey 130`.
     ///
     /// # Errors
     ///
-    /// - `Malformed` if it isn't a line of notes.
+    /// - `Malformed` if it isn't such a line.
     /// - `Refused` if its fact can't follow the calls or the facts before it, with the cause.
     /// - `OutOfMemory` if memory runs out for a line that could be taken.
     ///
@@ -110,7 +112,9 @@ impl SessionNotes {
         }
     }
 
-    /// Notes that have their first line.
+    /// Begins the notes with their first line: `before`, and three TTLs in seconds, those of DS
+    /// sets, DNSKEY sets and other sets before the first call. The error is `Malformed` if `line`
+    /// doesn't have this form, and `OutOfMemory` if memory runs out.
     fn begin(alloc: Global, line: &[u8]) -> Result<Self, LineFault>
         ensures ok { IfOk result (IsFirstLine line.now) }
         ensures err { IfErr result (IsFirstFault line.now) }
@@ -124,8 +128,10 @@ impl SessionNotes {
         }
     }
 
-    /// The reports that the session's rolls wait for, as they would be made at this second since
-    /// 1970, in the form of `due_lines`. None before the first line of the notes.
+    /// Says which reports the session's rolls wait for, as they would be made at `seconds` since
+    /// 1970. A report that is due has the line `report1 ksk-roll 3600 130` of a script. Another has
+    /// a line such as `not yet: report1 ksk-roll waits for dnskey`. The text is empty if no roll
+    /// waits for a report. `None` before the first line of the notes.
     ///
     /// It is what `answer_due` answers for the lines of the session and of the notes.
     ///
@@ -153,7 +159,8 @@ impl SessionNotes {
     }
 }
 
-/// What was taken stays taken when the session makes more calls: the same lines are its notes.
+/// Law for proofs (the call does nothing): lines that notes have taken stay taken when the session
+/// makes more calls. Read once more after all these calls, the same lines give the same notes.
 pub fn notes_outlast_calls()
     ensures { NotesOutlastCalls }
 {}

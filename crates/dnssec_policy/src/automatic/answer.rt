@@ -17,14 +17,17 @@ use std::alloc::{AllocError, Global};
 use std::time::Duration;
 
 /// What a policy says to do next at this second since 1970, after the calls of a script and by the
-/// notes beside it. It is a line in the form of `next_line`.
+/// notes beside it, each handed in as a text. The answer is one line without its line feed: the
+/// line of a script whose call is to be made, as `report1 ksk-roll 3600 1700000000`, or what else
+/// is to be done, as `publish ds` or `until 1700003600`, or `nothing: ` and why. `next_line` has
+/// them all.
 ///
 /// # Errors
 ///
-/// - `Policy` with the fault of the policy.
-/// - `Zone` with the fault of the script or of the notes.
+/// - `Policy` with the fault of the policy: `OutOfMemory` too, if memory runs out in reading it.
+/// - `Zone` with the fault of the script or of the notes: `OutOfMemory` too, in the same way.
 /// - `TooShort` if a lifetime of the policy is shorter than its roll takes by the notes' TTLs.
-/// - `OutOfMemory` if memory runs out.
+/// - `OutOfMemory` if memory runs out after that.
 ///
 /// ```rust
 /// let policy = b"policy 13 ksk-roll zsk-roll\nzsk-lifetime 7776000\n".as_slice();
@@ -52,7 +55,9 @@ pub fn answer_next(
     }
 }
 
-/// An error if a lifetime of the policy is too short for the zone.
+/// `TooShort` with the first lifetime of the policy that is shorter than its roll takes, by the
+/// highest TTLs in the zone's notes: KSKs or CSKs come first, then ZSKs. `Ok` if none is. There is
+/// no other error.
 fn check(zone: &AutomaticZone, policy: &Policy) -> Result<(), NextFault>
     ensures { OnOk result (HasHighest zone.now.noted → too_short policy.now policy.now.scheme
         (highest_of zone.now.noted.notes.before zone.now.noted.notes.facts) ≡ None) }
@@ -63,7 +68,9 @@ fn check(zone: &AutomaticZone, policy: &Policy) -> Result<(), NextFault>
     }
 }
 
-/// The line of what the policy says at this second.
+/// What the policy says to do next with the zone at this second since 1970, as a line without its
+/// line feed, such as `report1 ksk-roll 3600 1700000000` or `publish ds`. The zone stays as it is.
+/// It fails only if memory runs out.
 fn said(
     alloc: Global,
     zone: &AutomaticZone,
@@ -80,7 +87,7 @@ fn said(
     Ok(line)
 }
 
-/// The moment of a second since 1970.
+/// The moment at which this second since 1970 begins.
 fn moment_of(seconds: u64) -> UnixTime
     ensures { result ≡ seconds * 1_000_000_000 }
 {

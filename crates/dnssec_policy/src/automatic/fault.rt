@@ -24,7 +24,8 @@ pub enum NextFault {
 }
 
 impl NextFault {
-    /// Whether it is for lack of memory. So asking again may help.
+    /// Whether the question wasn't answered for lack of memory, in reading the policy, the script
+    /// or the notes or after that, and for no fault of the texts. So asking again may help.
     pub fn lacks_memory(&self) -> bool
         ensures { result ≡ lacks_memory self.now }
     {
@@ -57,6 +58,7 @@ impl std::error::Error for NextFault {}
 impl From<AllocError> for NextFault {
     ghost from_gives = { λ _ fault. fault ≡ OutOfMemory };
 
+    /// A lack of memory is `OutOfMemory`.
     fn from(_: AllocError) -> Self {
         NextFault::OutOfMemory
     }
@@ -65,6 +67,7 @@ impl From<AllocError> for NextFault {
 impl From<DueFault> for NextFault {
     ghost from_gives = { λ why given. given ≡ fault.Zone why };
 
+    /// A fault of the script or of the notes is `Zone` with that fault.
     fn from(fault: DueFault) -> Self {
         NextFault::Zone(fault)
     }

@@ -16,11 +16,13 @@ use dnssec_keyset::{Half, RollType, SecurityAlgorithm};
 use dnssec_network::kind_name;
 use std::alloc::{AllocError, Global};
 
-/// What to do next as a line without its line feed, which owns what it names:
+/// What to do next, as a line without its line feed:
 ///
 /// - the line of a script whose call is to be made, as `report1 ksk-roll 3600 1700000000`;
-/// - `publish KIND`, `watch KIND`, with `ds`, `dnskey` or `zone`; `key ROLE ALGORITHM`, as `key zsk
-///   13`; `until SECOND`;
+/// - `publish KIND`: note that the `ds`, `dnskey` or `zone` sets are published, and publish them;
+/// - `watch KIND`: see whether all servers give these sets, and note it;
+/// - `key ROLE ALGORITHM`, as `key zsk 13`: make and add a key of this role and algorithm;
+/// - `until SECOND`: do nothing before this second since 1970;
 /// - `nothing: ` and why: the zone is as the policy wants it, or what is in the way of that.
 ///
 /// `seconds` is the second since 1970 at which it was said, and `algorithm` that of the policy.
@@ -47,6 +49,10 @@ pub fn next_line(
     Ok(text)
 }
 
+/// Appends to `text` the line that says what to do next, as `report1 ksk-roll 3600 1700000000`,
+/// `publish ds` or `until 1700003600`, without its line feed. `algorithm` is the policy's, and
+/// `seconds` the second since 1970 at which it was said. If memory runs out, `text` may have a part
+/// of the line.
 fn push_next(
     text: &mut String,
     next: &Next<'_>,
@@ -99,7 +105,9 @@ fn push_next(
     }
 }
 
-/// Writes what is in the way of what the policy wants.
+/// Appends to `text` the line that says that nothing is done and why, as
+/// `nothing: ksk-roll may not begin beside the rolls in progress`. If memory runs out, `text` may
+/// have a part of it.
 fn push_stuck(text: &mut String, why: Why) -> Result<(), AllocError>
     ensures { OnOk result (string_bytes text.new ≡ string_bytes text.old ++ stuck_text why) }
 {
@@ -107,7 +115,10 @@ fn push_stuck(text: &mut String, why: Why) -> Result<(), AllocError>
     write!(text, "{why}")
 }
 
-/// Writes the line of a start.
+/// Appends to `text` the line of a script that starts a roll, as `start zsk-roll Z1 Z2 1700000000`:
+/// the references of the old keys, those of the new ones, and the second since 1970. Commas stand
+/// between the references of a list, and `-` for an empty one. If memory runs out, `text` may have
+/// a part of it.
 fn push_start(
     text: &mut String,
     roll: RollType,
@@ -127,7 +138,8 @@ fn push_start(
     push_field(text, seconds)
 }
 
-/// Writes a list of references.
+/// Appends the references to `text`, with commas between them, or `-` if there are none. If memory
+/// runs out, `text` may have a part of them.
 fn push_list(text: &mut String, references: &[&str]) -> Result<(), AllocError>
     ensures { OnOk result (string_bytes text.new ≡ string_bytes text.old
         ++ list_text (map now references.now)) }
@@ -141,7 +153,9 @@ fn push_list(text: &mut String, references: &[&str]) -> Result<(), AllocError>
     }
 }
 
-/// Writes the references after the first.
+/// Appends each of the references to `text`, with a comma before it, and nothing if there are none.
+/// They are those after the first one of a list. If memory runs out, `text` may have a part of
+/// them.
 fn push_rest(text: &mut String, references: &[&str]) -> Result<(), AllocError>
     ensures { OnOk result (string_bytes text.new ≡ string_bytes text.old
         ++ flat_map (λ r. codes "," ++ r) (map now references.now)) }
@@ -152,7 +166,7 @@ fn push_rest(text: &mut String, references: &[&str]) -> Result<(), AllocError>
     Ok(())
 }
 
-/// Writes one more reference.
+/// Appends a comma and the reference to `text`. If memory runs out, `text` may have a part of it.
 fn push_one(text: &mut String, reference: &str) -> Result<(), AllocError>
     ensures { OnOk result (string_bytes text.new ≡ string_bytes text.old
         ++ (codes "," ++ reference.now)) }
@@ -161,7 +175,8 @@ fn push_one(text: &mut String, reference: &str) -> Result<(), AllocError>
     text.push_str(reference)
 }
 
-/// Writes a space and a number.
+/// Appends a space and the number, in decimal, to `text`. If memory runs out, `text` may have a
+/// part of it.
 fn push_field(text: &mut String, number: u128) -> Result<(), AllocError>
     ensures { OnOk result (string_bytes text.new ≡ string_bytes text.old
         ++ (codes " " ++ decimal number)) }
@@ -170,15 +185,15 @@ fn push_field(text: &mut String, number: u128) -> Result<(), AllocError>
     push_number(text, number)
 }
 
-/// Writes a number in decimal.
+/// Appends the number to `text` in decimal. If memory runs out, `text` may have a part of it.
 fn push_number(text: &mut String, number: u128) -> Result<(), AllocError>
     ensures { OnOk result (string_bytes text.new ≡ string_bytes text.old ++ decimal number) }
 {
     write!(text, "{number}")
 }
 
-/// The first second since 1970 that isn't before this nanosecond. No moment that is said comes near
-/// the end of the numbers.
+/// The first whole second since 1970 that isn't before `moment`, in nanoseconds since 1970. So
+/// whoever waits until that second isn't early.
 fn first_second(moment: u128) -> u128
     ensures { result ≡ first_second moment }
 {
@@ -190,7 +205,8 @@ fn first_second(moment: u128) -> u128
     }
 }
 
-/// The word of a report, and a space.
+/// The word that makes the report of this half of a roll in a script, `report1` or `report2`, and a
+/// space.
 fn report_name(half: Half) -> &'static str
     ensures { result.now ≡ report_name half }
 {
@@ -200,7 +216,7 @@ fn report_name(half: Half) -> &'static str
     }
 }
 
-/// The word of a wait, and a space.
+/// The word that ends the wait of this half of a roll in a script, `wait1` or `wait2`, and a space.
 fn wait_name(half: Half) -> &'static str
     ensures { result.now ≡ wait_name half }
 {
@@ -210,7 +226,7 @@ fn wait_name(half: Half) -> &'static str
     }
 }
 
-/// The name of a role.
+/// The word for a role in a line: `ksk`, `zsk` or `csk`.
 fn role_name(role: KeyRole) -> &'static str
     ensures { result.now ≡ role_name role }
 {

@@ -12,14 +12,18 @@ use dnssec_network::{DueFault, NotesFault, cut, read_question, without_end};
 use dnssec_record::all_lines;
 use std::alloc::Global;
 
-/// What to do next, as `answer_next` says it. The text has the lines of a policy, an empty line, a
-/// script, an empty line, and its notes, whose last line is `next` and a second since 1970; one
-/// more empty line may stand at its end.
+/// What a policy says to do next, as one line without its line feed, such as
+/// `report1 ksk-roll 3600 1700000000` or `publish ds`. The text has the lines of a policy, an empty
+/// line, a script, an empty line, and its notes. The last line of these is `next` and the second
+/// since 1970 that it asks about. One more empty line may stand at the end.
 ///
 /// # Errors
 ///
-/// Those of `answer_next`. If the last line doesn't ask, a line is missing after the notes, and
-/// that is a fault of theirs.
+/// - `Policy` with the fault of the policy.
+/// - `Zone` with the fault of the script or of the notes. If the last line doesn't ask, the notes
+///   are malformed at the line after it.
+/// - `TooShort` if a lifetime of the policy is shorter than its roll takes by the notes' TTLs.
+/// - `OutOfMemory` if memory runs out. In reading a part, it is within `Policy` or `Zone`.
 ///
 /// ```rust
 /// let text = "policy 13 ksk-roll zsk-roll\n\nzone example.com\n\nbefore 60 60 60\nnext 100\n";
@@ -33,7 +37,13 @@ pub fn answer_text(alloc: Global, text: &[u8]) -> Result<String, NextFault>
     Ok(line)
 }
 
-/// The same by the parts that empty lines end.
+/// What a policy says to do next, as one line without its line feed, such as `publish ds`. The
+/// `parts` are a policy, a script, and its notes, whose last line is `next` and the second since
+/// 1970 that it asks about. One more part may follow if it is empty.
+///
+/// The error is the first fault of the policy, the script and the notes, a lifetime of the policy
+/// that is `TooShort`, or a lack of memory. If a part is missing, the last line doesn't ask, or
+/// more follows, and the parts can be read, the notes are malformed at the line after the last.
 fn answer_parts(alloc: Global, parts: &[&[u8]]) -> Result<String, NextFault>
     ensures { IfOk result (λ line. AnswersParts (map now parts.now) (string_bytes line)) }
 {
@@ -55,7 +65,8 @@ fn answer_parts(alloc: Global, parts: &[&[u8]]) -> Result<String, NextFault>
     }
 }
 
-/// Whether the text goes on with these parts: there are some, and not only an empty one.
+/// Whether something follows after the notes of a text, given the parts after them. One empty part
+/// doesn't count: it is only an empty line at the end.
 fn has_more(parts: &[&[u8]]) -> bool
     ensures { result ≡ has_more (map now parts.now) }
 {
@@ -65,8 +76,9 @@ fn has_more(parts: &[&[u8]]) -> bool
     }
 }
 
-/// The fault of what asks nothing: that of the policy, of the script or of the notes, or a line is
-/// missing after these.
+/// The fault of a text that asks nothing, never an answer. It is the first one of the policy, the
+/// script and the notes, or a lack of memory. If all three can be read, a line that asks is missing
+/// after the notes, and the notes are malformed at that line.
 fn unasked(alloc: Global, policy: &[u8], script: &[u8], notes: &[u8]) -> Result<String, NextFault>
     ensures { IfOk result (λ _. ⊥) }
 {
@@ -81,7 +93,8 @@ fn unasked(alloc: Global, policy: &[u8], script: &[u8], notes: &[u8]) -> Result<
     }
 }
 
-/// The lines above the last one, and the second that it asks about, if it asks.
+/// The notes above the last line of `noted`, and the second since 1970 that this last line asks
+/// about, as `next 1700000000`. `None` if it doesn't ask, or if no line stands above it.
 fn asked(noted: &[u8]) -> Option<(&[u8], u64)>
     ensures { IfSome result (λ asked. Asks noted.now asked.0.now asked.1) }
 {
@@ -90,8 +103,8 @@ fn asked(noted: &[u8]) -> Option<(&[u8], u64)>
     Some((notes, seconds))
 }
 
-/// The lines above the last line of a text that no line feed ends, each with its line feed, and the
-/// last line.
+/// Cuts a text before its last line: the lines above it, each with its line feed, and the last
+/// line. `text` comes without the line feed at its end. `None` if it has only one line.
 fn last_line(text: &[u8]) -> Option<(&[u8], &[u8])>
     ensures { IfSome result (λ found. IsLastLine text.now found.0.now found.1.now) }
 {

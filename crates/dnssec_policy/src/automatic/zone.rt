@@ -65,7 +65,8 @@ pub(crate) struct Advance {
     reply: Reply,
 }
 
-/// Whether the call adds a key.
+/// Whether the call adds a key, of this signer or of another one. A policy never says to make such
+/// a call: it only says that it needs a key.
 pub fn is_add(call: &Call<'_>) -> bool
     ensures { result ≡ is_add call.now }
 {
@@ -79,8 +80,8 @@ pub fn is_add(call: &Call<'_>) -> bool
 }
 
 impl AutomaticZone {
-    /// A zone of this name without keys, whose servers gave sets with these TTLs before its first
-    /// call.
+    /// A zone of this name without keys, before its first call. `before` are the highest TTLs, in
+    /// seconds, of what its servers gave until then.
     ///
     /// # Errors
     ///
@@ -94,13 +95,15 @@ impl AutomaticZone {
         })
     }
 
-    /// The zone after the lines of a script and of the notes beside it, as it was kept. If its
-    /// calls were automatic, and its notes are the same, so they are of this one.
+    /// The zone after a restart, from the lines that were kept of it: the script of its calls, each
+    /// of which is made again, and its notes. It answers as the zone before did. If each call of
+    /// that one added a key or was said by a policy, `reaches_resolvers` holds of this one too.
     ///
     /// # Errors
     ///
-    /// - `Script` with the fault of the script, or if memory runs out, for one of its calls too.
-    /// - `Notes` with the fault of the notes, or if memory runs out.
+    /// - `Script` with the fault of the script. It is `OutOfMemory` if memory runs out, also in
+    ///   making one of its calls.
+    /// - `Notes` with the fault of the notes, which is `OutOfMemory` if memory runs out.
     ///
     /// ```rust
     /// let zone = AutomaticZone::resume(alloc, script.as_bytes(), notes.as_bytes())?;
@@ -113,7 +116,9 @@ impl AutomaticZone {
         Ok(AutomaticZone { calls, noted })
     }
 
-    /// What the policy says to do next. Nothing, if a call of the script was made by hand.
+    /// What the policy says to do next with this zone at this moment. After an accepted call made
+    /// by hand it is always `Stuck` with `Why::ByHand`. Such a call, from the script of `resume`,
+    /// ended a roll early or set a flag or a time of a key. The zone stays as it is.
     ///
     /// # Errors
     ///
@@ -141,12 +146,15 @@ impl AutomaticZone {
         next(alloc, policy, &state)
     }
 
-    /// Makes the call that the policy says to make at this moment, in whole seconds if lines are
-    /// kept; none if it says no call. It takes as long as a copy of the session, and a call of it.
+    /// Makes the call that the policy says to make at this moment, and answers the reply to it. A
+    /// refused call counts as a call. If the policy says no call, `None`, and the zone is as it
+    /// was. The notes stay in any case. The moment has to be in whole seconds if the calls are kept
+    /// as lines. It takes as long as a copy of the session, and a call of it.
     ///
     /// # Errors
     ///
-    /// If there is no memory, for the call too. The zone is then as it was.
+    /// If there is no memory, also where the call would be refused for that. The zone is then as it
+    /// was.
     pub fn advance(
         &mut self,
         alloc: Global,
@@ -166,7 +174,9 @@ impl AutomaticZone {
         Ok(Some(made.reply))
     }
 
-    /// What the call leaves that the policy says to make at this moment.
+    /// A copy of the zone's calls with the one more that the policy says to make at this moment,
+    /// and the reply to it. `None` if the policy says no call. The zone itself stays as it is. It
+    /// fails only if memory runs out, also where the call would be refused for that.
     fn said(
         &self,
         alloc: Global,
@@ -185,7 +195,9 @@ impl AutomaticZone {
         }
     }
 
-    /// What a call leaves.
+    /// A copy of the zone's calls with this one more, and the reply to it, which may refuse the
+    /// call. The zone itself stays as it is. It fails only if memory runs out, also where the call
+    /// would be refused for that.
     fn made(&self, alloc: Global, call: Call<'_>) -> Result<Advance, AllocError>
         ensures { IfOk result (λ made.
             (name : List ℕ) (calls : List AnyCall) (entries : List Entry) →
@@ -198,11 +210,13 @@ impl AutomaticZone {
         Ok(Advance { calls, reply })
     }
 
-    /// Makes a call that adds a key, also another signer's.
+    /// Makes a call that adds a key, also another signer's, and answers the reply to it. `is_add`
+    /// says which calls do. A refused call adds no key, but counts as a call. The notes stay.
     ///
     /// # Errors
     ///
-    /// If there is no memory, for the call too. The zone is then as it was.
+    /// If there is no memory, also where the call would be refused for that. The zone is then as it
+    /// was.
     pub fn add(&mut self, alloc: Global, call: Call<'_>) -> Result<Reply, AllocError>
         requires { is_add call ≡ true }
         ensures ok { IfOk result (λ reply.
@@ -216,11 +230,16 @@ impl AutomaticZone {
         Ok(made.reply)
     }
 
-    /// Notes one more fact.
+    /// Notes one more fact of this kind of sets: that a version is published, or that all servers
+    /// gave the one that was noted last. The calls stay as they are.
     ///
     /// # Errors
     ///
-    /// As `Notes::note`. Nothing is then noted.
+    /// - `CallNotMade`, `PublishedBeforeCall`, `SeenBeforePublished` or `MomentFalls` if the fact
+    ///   can't follow the calls or the facts before it.
+    /// - `OutOfMemory` if memory runs out.
+    ///
+    /// Nothing is then noted.
     pub fn note(&mut self, kind: SetKind, news: News) -> Result<(), NoteFault>
         ensures noted { OnOk result (self.new.noted.notes ≡ record (self.old.noted.notes) {
           facts = self.old.noted.notes.facts ++ record { kind = kind; news = news } ∷ [];
@@ -233,8 +252,8 @@ impl AutomaticZone {
         self.noted.note(self.calls.session.moments(), kind, news)
     }
 
-    /// How many calls were made so far, also refused ones: the position of a version that is now
-    /// due.
+    /// How many calls were made so far, also refused ones. That is the position to `note` for a
+    /// version that is published with the sets due now.
     pub fn calls(&self) -> usize
         ensures { (name : List ℕ) (calls : List AnyCall) (entries : List Entry) →
             IsAfter name calls entries self.now.calls → result ≡ length entries }
@@ -242,7 +261,8 @@ impl AutomaticZone {
         self.calls.session.calls()
     }
 
-    /// The session of the calls so far.
+    /// The session of the calls so far, to read from it the key set, what is published and the
+    /// verdict.
     pub fn session(&self) -> &Session
         ensures { result.now ≡ self.now.calls.session }
     {
@@ -250,7 +270,7 @@ impl AutomaticZone {
     }
 
     /// The first lifetime of the policy that is shorter than its roll takes, by the highest TTLs
-    /// noted so far.
+    /// noted so far. `None` if none is. The zone stays as it is.
     pub fn too_short(&self, policy: &Policy) -> Option<TooShort>
         ensures { HasHighest self.now.noted → result ≡ too_short policy.now policy.now.scheme
             (highest_of self.now.noted.notes.before self.now.noted.notes.facts) }
@@ -258,9 +278,11 @@ impl AutomaticZone {
         too_short(policy, self.noted.highest())
     }
 
-    /// Resolvers find a chain of trust at all times, by each algorithm too, if the notes are true,
-    /// each call was made no earlier than the moment that was said with it, servers give what was
-    /// published, and nothing goes back to before a step.
+    /// States a law about this zone, if its calls were made by `advance` and `add`, and does
+    /// nothing. Resolvers find a chain of trust at all times, by each algorithm too, if the notes
+    /// are true, each call was made no earlier than the moment that was said with it, servers give
+    /// what was published, and none goes back to sets older than those that a roll's start or the
+    /// end of its first wait left.
     pub fn reaches_resolvers(&self)
         ensures { ReachesResolvers self.now }
     {
@@ -269,7 +291,7 @@ impl AutomaticZone {
 }
 
 impl Calls {
-    /// None yet.
+    /// The calls of a new zone of this name: none yet. It fails only if memory runs out.
     fn new(alloc: Global, name: Name<Vec<u8>>) -> Result<Self, AllocError>
         ensures { IfOk result (λ calls. IsAfter name [] [] calls) }
     {
@@ -280,7 +302,8 @@ impl Calls {
         })
     }
 
-    /// The same calls, which go on by themselves.
+    /// A copy after the same calls, to try a call on it: what is done to one doesn't change the
+    /// other. It fails only if memory runs out.
     fn try_clone(&self, alloc: Global) -> Result<Self, AllocError>
         ensures { IfOk result (λ copy. (name : List ℕ) (calls : List AnyCall)
             (entries : List Entry) → IsAfter name calls entries self.now →
@@ -293,7 +316,10 @@ impl Calls {
         })
     }
 
-    /// Makes one more call. Without memory to note it, the calls are of no more use.
+    /// Makes one more call in `self`, keeps what a policy has to know of it (a second wait, or the
+    /// first call by hand), and answers the reply to it. A refused call counts too, also one that
+    /// is refused for lack of memory. If there is no memory to note the call, it fails, and `self`
+    /// is of no more use.
     fn make(&mut self, alloc: Global, call: Call<'_>) -> Result<Reply, AllocError>
         ensures { IfOk result (λ reply. (name : List ℕ) (calls : List AnyCall)
             (entries : List Entry) → IsAfter name calls entries self.old →
@@ -308,7 +334,9 @@ impl Calls {
         Ok(reply)
     }
 
-    /// Makes the call of a line.
+    /// Makes in `self` the call that a line of a script says, and answers the reply to it. A
+    /// refused call counts too, also one that is refused for lack of memory. If there is no memory
+    /// to note the call, it fails, and `self` is of no more use.
     fn take(&mut self, alloc: Global, statement: Statement<'_>) -> Result<Reply, AllocError>
         ensures { IfOk result (Takes statement.entry self.old self.new) }
     {
@@ -318,7 +346,9 @@ impl Calls {
         }
     }
 
-    /// The calls of the lines of a script. None is left out for lack of memory.
+    /// The calls that the lines of a script say, each made again, also those that are refused. It
+    /// fails with the fault of the script, or with `OutOfMemory`, also if a call is refused for
+    /// lack of memory. So no call is left out.
     fn resume(alloc: Global, script: &[u8]) -> Result<Self, ScriptFault>
         ensures { IfOk result (Resumes script.now) }
     {
@@ -332,7 +362,8 @@ impl Calls {
     }
 }
 
-/// An error if a call was refused for lack of memory, and only then.
+/// An error if a call was refused for lack of memory, and only then. So such a call can be given up
+/// rather than count as a refused one.
 fn check_memory(reply: &Reply) -> Result<(), AllocError>
     ensures ok { IfOk result (λ _. reply.now ≢ Refused OutOfMemory) }
     ensures err { IfErr result (λ _. reply.now ≡ Refused OutOfMemory) }

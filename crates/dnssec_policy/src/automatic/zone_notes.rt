@@ -25,7 +25,8 @@ pub(crate) struct ZoneNotes {
 }
 
 impl ZoneNotes {
-    /// Only the TTLs from before the first call.
+    /// The notes of a zone before its first call, without facts. `before` are the highest TTLs, in
+    /// seconds, of what its servers gave until then.
     pub(crate) fn new(alloc: Global, before: Before) -> Self
         ensures notes { result.notes ≡ record { before = before; facts = [] } }
         ensures highest { HasHighest result }
@@ -36,7 +37,9 @@ impl ZoneNotes {
         }
     }
 
-    /// The notes that the text is.
+    /// Reads the lines of a text as notes, and answers them with the highest TTLs in them.
+    /// `moments` has the greatest moment up to each of the zone's calls. It fails with the number
+    /// of the first wrong line and its cause, or if memory runs out.
     pub(crate) fn read(alloc: Global, moments: &Moments, text: &[u8]) -> Result<Self, NotesFault>
         ensures notes { IfOk result (λ noted. AreNotes moments.now (lines_of text.now)
             noted.notes.before noted.notes.facts) }
@@ -48,7 +51,9 @@ impl ZoneNotes {
         Ok(ZoneNotes { notes, highest })
     }
 
-    /// Notes one more fact.
+    /// Notes one more fact of this kind of sets, and keeps the highest TTLs up to date. `moments`
+    /// has the greatest moment up to each of the zone's calls so far. The error is `OutOfMemory`,
+    /// or why the fact can't follow these calls or the facts before it. Nothing is then noted.
     pub(crate) fn note(
         &mut self,
         moments: &Moments,
@@ -64,12 +69,14 @@ impl ZoneNotes {
         Ok(())
     }
 
+    /// The facts noted so far, and the TTLs from before the first call.
     pub(crate) fn notes(&self) -> &Notes
         ensures { result.now ≡ self.now.notes }
     {
         &self.notes
     }
 
+    /// The highest TTL, in seconds, that is noted so far of each kind of sets.
     pub(crate) fn highest(&self) -> &HighestTtls
         ensures { result.now ≡ self.now.highest }
     {
@@ -77,7 +84,9 @@ impl ZoneNotes {
     }
 }
 
-/// The highest TTLs of the notes that these lines are.
+/// The highest TTL, in seconds, of each kind of sets in the notes that these lines are: those from
+/// before the first call, and those of publications. Zeros if there is no line, or the first one
+/// doesn't have the TTLs from before the first call.
 fn highest_in(lines: &[&[u8]]) -> HighestTtls
     ensures { (moments : List ℕ) (before : AnyBefore) (facts : List AnyFact) →
         AreNotes moments (map now lines.now) before facts → AreHighest before facts result }
@@ -91,7 +100,7 @@ fn highest_in(lines: &[&[u8]]) -> HighestTtls
     highest_after(&before, rest)
 }
 
-/// Those of no notes.
+/// The highest TTLs where there are no notes: 0 seconds for each kind of sets.
 fn none() -> HighestTtls {
     HighestTtls::of_before(&Before {
         ds: 0,
@@ -100,7 +109,9 @@ fn none() -> HighestTtls {
     })
 }
 
-/// The highest TTLs of these ones from before the first call, and of the facts of the lines.
+/// The highest TTL, in seconds, of each kind of sets in `before`, the TTLs from before the first
+/// call, and in the publications among the facts that the lines are. Any other line changes
+/// nothing.
 fn highest_after(before: &Before, lines: &[&[u8]]) -> HighestTtls
     ensures { (moments : List ℕ) (facts : List AnyFact) →
         AreFacts moments (map now lines.now) facts → AreHighest before.now facts result }
@@ -112,7 +123,8 @@ fn highest_after(before: &Before, lines: &[&[u8]]) -> HighestTtls
     highest
 }
 
-/// Those with the fact of one more line.
+/// The highest TTLs, in seconds, once the fact of one more line is counted: a publication may raise
+/// that of its kind. Any other line changes nothing.
 fn with_line(highest: HighestTtls, line: &[u8]) -> HighestTtls
     ensures { (before : AnyBefore) (facts : List AnyFact) (fact : AnyFact) →
         as_fact line.now ≡ Some (fact_says fact) → AreHighest before facts highest →

@@ -37,7 +37,8 @@ impl fmt::Display for TooShort {
 
 impl std::error::Error for TooShort {}
 
-/// The lifetime of the keys that a roll renews, if it is shorter than the roll takes.
+/// The fault of the `lifetime` of the keys that `roll` renews, if it is shorter than `takes`, what
+/// the roll takes. Both are in seconds. `None` if it is long enough, or the keys have no lifetime.
 fn shorter(roll: RollType, lifetime: Option<u64>, takes: u64) -> Option<TooShort>
     ensures { result ≡ shorter roll lifetime takes }
 {
@@ -58,11 +59,14 @@ fn shorter(roll: RollType, lifetime: Option<u64>, takes: u64) -> Option<TooShort
 }
 
 /// The first lifetime of the policy that is shorter than its roll takes, by the highest TTLs noted:
-/// its keys would have to be renewed before they are in use alone. First that of KSKs or CSKs.
+/// its keys would have to be renewed before the roll that brought them in is over. KSKs or CSKs
+/// come first, then ZSKs. `None` if each lifetime is long enough, or isn't set.
 ///
-/// A roll takes at least its two waits. That after a report counts as a second more than the
-/// highest TTL of the sets that the report speaks of (RFC 7583, section 3); after one that speaks
-/// of DS sets also what validators and caches hold after these.
+/// A roll takes at least its two waits, one after each report. A wait counts as the highest TTL of
+/// the sets that its report speaks of and a second (RFC 7583, section 3). After a report on DS sets
+/// one more DNSKEY TTL and a second count, for which validators may keep the algorithms of old DS
+/// sets. This wait also lasts at least the highest TTL of other sets and a second, as caches keep
+/// CDS.
 ///
 /// ```rust
 /// if let Some(fault) = too_short(&policy, &highest) {

@@ -12,7 +12,9 @@ use crate::policy::{Policy, Scheme};
 use dnssec_script::all_lines;
 use std::alloc::Global;
 
-/// What further lines say, from line 2 on; or the first fault.
+/// Reads the lines of a policy from line 2 on, given the `scheme` of line 1. It answers the draft
+/// of all that they say, or the fault of the first line that has one, with its number: `Malformed`,
+/// `NoSuchKeys` or `SaidTwice`. Without any line no keys are renewed.
 fn read_wishes(scheme: Scheme, lines: &[&[u8]]) -> Result<PolicyDraft, PolicyFault>
     ensures { result ≡ read_from scheme 2 no_wish (map now lines.now) }
 {
@@ -23,7 +25,8 @@ fn read_wishes(scheme: Scheme, lines: &[&[u8]]) -> Result<PolicyDraft, PolicyFau
     Ok(draft)
 }
 
-/// The policy of these lines, or the first fault.
+/// Reads all lines of a policy. It answers the policy, or the fault of the first line that has one.
+/// Without any line that is `Malformed(1)`.
 fn read_lines(lines: &[&[u8]]) -> Result<Policy, PolicyFault>
     ensures { result ≡ policy_of (map now lines.now) }
 {
@@ -40,8 +43,9 @@ fn read_lines(lines: &[&[u8]]) -> Result<Policy, PolicyFault>
 }
 
 /// Reads a policy. Its first line is `policy`, the number of the algorithm, and the names of the
-/// rolls by which keys are renewed: that of KSKs and that of ZSKs, or `csk-roll` (RFC 6781, section
-/// 3.1). Each further line is a word and a number, in any order, and each word stands at most once:
+/// rolls by which keys are renewed: `ksk-roll` or `ksk-double-ds-roll`, and then `zsk-roll` or
+/// `zsk-double-signature-roll`; or `csk-roll` alone (RFC 6781, section 3.1). Each further line is a
+/// word and a number, in any order, and each word stands at most once:
 ///
 /// - `ksk-lifetime`, `zsk-lifetime` or `csk-lifetime`: how many seconds after its publication a key
 ///   is renewed. Without it, keys are renewed only on demand.
@@ -52,8 +56,8 @@ fn read_lines(lines: &[&[u8]]) -> Result<Policy, PolicyFault>
 ///
 /// # Errors
 ///
-/// `Malformed`, `SaidTwice` or `NoSuchKeys` with the number of the first line that has a fault;
-/// `OutOfMemory` if there is no memory for the list of the lines.
+/// `Malformed`, `SaidTwice` or `NoSuchKeys` with the number of the first line that has a fault,
+/// counted from 1. `OutOfMemory` if there is no memory for the list of the lines.
 ///
 /// ```rust
 /// let text = "policy 13 ksk-roll zsk-roll\nksk-lifetime 31536000\nzsk-lifetime 7776000\n";

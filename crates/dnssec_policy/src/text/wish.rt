@@ -17,7 +17,8 @@ use dnssec_script::Fields;
 
 // ---- the first line
 
-/// CSKs, if no field follows.
+/// The scheme of CSKs alone, given the fields after `csk-roll`: there must be none. `None` if there
+/// is one.
 fn single(fields: Fields<'_>) -> Option<Scheme>
     ensures { result ≡ single_of fields.entry }
 {
@@ -25,7 +26,9 @@ fn single(fields: Fields<'_>) -> Option<Scheme>
     Some(Scheme::SingleType)
 }
 
-/// KSKs that are rolled so, and ZSKs by the roll that the last field names.
+/// Reads the last field of line 1 as the roll of ZSKs: `zsk-roll` or `zsk-double-signature-roll`.
+/// It answers the scheme that rolls ZSKs so, and KSKs by the method `ksk`. `None` if the field is
+/// missing or another, or isn't the last.
 fn split(ksk: KskMethod, fields: Fields<'_>) -> Option<Scheme>
     ensures { result ≡ split_of ksk fields.entry }
 {
@@ -40,7 +43,9 @@ fn split(ksk: KskMethod, fields: Fields<'_>) -> Option<Scheme>
     Some(Scheme::Split(ksk, zsk))
 }
 
-/// The scheme whose rolls the fields name.
+/// Reads all these fields as the rolls of a scheme: `csk-roll` alone, or `ksk-roll` or
+/// `ksk-double-ds-roll` and then `zsk-roll` or `zsk-double-signature-roll`. `None` if they are
+/// anything else.
 #[tactic(auto, unfolding(crate::specs::Text::Wishes::scheme_of))]
 fn scheme(fields: Fields<'_>) -> Option<Scheme>
     ensures { result ≡ scheme_of fields.entry }
@@ -54,7 +59,8 @@ fn scheme(fields: Fields<'_>) -> Option<Scheme>
     split(either_named(name, double_signature, double_ds)?, fields)
 }
 
-/// The fields after `policy`: the number of the algorithm, and the rolls of a scheme.
+/// Reads the fields after `policy`: the number of the algorithm, up to 255, and the names of the
+/// rolls of a scheme, as `13 ksk-roll zsk-roll`. `None` if they don't have this form.
 fn base(fields: Fields<'_>) -> Option<(SecurityAlgorithm, Scheme)>
     ensures { result ≡ base_of fields.entry }
 {
@@ -63,7 +69,8 @@ fn base(fields: Fields<'_>) -> Option<(SecurityAlgorithm, Scheme)>
     Some((SecurityAlgorithm::from_int(number as u8), scheme))
 }
 
-/// What the first line says, if it has the form of one.
+/// Reads the first line of a policy, as `policy 13 ksk-roll zsk-roll`: the algorithm of its keys,
+/// and the scheme. `None` if the line doesn't have this form.
 #[tactic(auto, unfolding(crate::specs::Text::Wishes::as_first))]
 pub(crate) fn read_first(line: &[u8]) -> Option<(SecurityAlgorithm, Scheme)>
     ensures { result ≡ as_first line.now }
@@ -108,7 +115,8 @@ const WORDS: [WishWord; 7] = [
     WishWord::DeleteAfter,
 ];
 
-/// The name of a word.
+/// The text of a word with which a line of a policy begins: a role and `-lifetime` or `-once`, as
+/// `ksk-lifetime`, or `delete-after`.
 pub(crate) fn word_name(word: WishWord) -> &'static str
     ensures { result.now ≡ word_name word }
 {
@@ -123,7 +131,8 @@ pub(crate) fn word_name(word: WishWord) -> &'static str
     }
 }
 
-/// The word with this name.
+/// The word of a policy's line with this text: a role and `-lifetime` or `-once`, as
+/// `ksk-lifetime`, or `delete-after`. `None` for any other text.
 #[tactic(auto, unfolding(crate::specs::Text::Wishes::word_named))]
 fn word_named(name: &[u8]) -> Option<WishWord>
     ensures { result ≡ word_named name.now }
@@ -134,7 +143,8 @@ fn word_named(name: &[u8]) -> Option<WishWord>
         .find(|word| name == word_name(*word).as_bytes())
 }
 
-/// The first field as a word.
+/// Reads the first of these fields as a word of a policy's line after the first, as `ksk-lifetime`.
+/// It answers the word and the fields after it. `None` if there is no field, or it is no such word.
 fn first_word<'a>(fields: Fields<'a>) -> Option<(WishWord, Fields<'a>)>
     ensures { option_map (λ x. (x.0, x.1)) result ≡ word_at fields.entry }
 {
@@ -142,7 +152,8 @@ fn first_word<'a>(fields: Fields<'a>) -> Option<(WishWord, Fields<'a>)>
     Some((word_named(name)?, fields))
 }
 
-/// The seconds that are the only field.
+/// Reads the only field after a word as a number of seconds, of up to 64 bits. `None` if it is
+/// none, or isn't the only field.
 fn seconds(fields: Fields<'_>) -> Option<u64>
     ensures { result ≡ seconds_in fields.entry }
 {
@@ -151,7 +162,8 @@ fn seconds(fields: Fields<'_>) -> Option<u64>
     Some(seconds)
 }
 
-/// The moment that is the only field.
+/// Reads the only field after a word as a moment: a second since 1970. `None` if it is none, or
+/// isn't the only field.
 fn moment(fields: Fields<'_>) -> Option<UnixTime>
     ensures { result ≡ moment_in fields.entry }
 {
@@ -160,7 +172,8 @@ fn moment(fields: Fields<'_>) -> Option<UnixTime>
     Some(moment)
 }
 
-/// What the fields after a word say.
+/// Reads the fields after `word` on a policy's line: seconds for a lifetime or a deletion, a moment
+/// for `once`. `None` if they don't have this form.
 fn wish_after(word: WishWord, fields: Fields<'_>) -> Option<Wish>
     ensures { result ≡ wish_after word fields.entry }
 {
@@ -171,7 +184,8 @@ fn wish_after(word: WishWord, fields: Fields<'_>) -> Option<Wish>
     }
 }
 
-/// What a further line says, if it has the form of one.
+/// Reads a line of a policy after the first, as `ksk-lifetime 31536000`. `None` if it doesn't have
+/// the form of one. It looks at no other line.
 #[tactic(auto, unfolding(crate::specs::Text::Wishes::as_wish))]
 fn read_wish(line: &[u8]) -> Option<Wish>
     ensures { result ≡ as_wish line.now }
@@ -182,7 +196,7 @@ fn read_wish(line: &[u8]) -> Option<Wish>
 
 // ---- what lines have said so far
 
-/// Whether the keys of a scheme have this role.
+/// Whether a zone of this scheme has keys of this role: KSKs and ZSKs if it is split, or else CSKs.
 fn has_role(scheme: Scheme, role: KeyRole) -> bool
     ensures { result ≡ has_role scheme role }
 {
@@ -193,7 +207,8 @@ fn has_role(scheme: Scheme, role: KeyRole) -> bool
     }
 }
 
-/// Whether a wish is one for the keys of a scheme.
+/// Whether a line that says `wish` may stand in a policy of this scheme: it speaks of keys that the
+/// scheme has, or of deletions.
 fn is_for(scheme: Scheme, wish: &Wish) -> bool
     ensures { result ≡ is_for scheme wish.now }
 {
@@ -218,7 +233,8 @@ pub(crate) struct PolicyDraft {
     delete_after: Option<u64>,
 }
 
-/// The same with a lifetime, if it has none.
+/// When keys are renewed, after a line has added a lifetime of `seconds` to `renewal`. `None` if
+/// that has a lifetime already, since a policy says it at most once.
 fn with_lifetime(renewal: &Term, seconds: u64) -> Option<Term>
     ensures { result ≡ with_lifetime renewal.now seconds }
 {
@@ -231,7 +247,9 @@ fn with_lifetime(renewal: &Term, seconds: u64) -> Option<Term>
     }
 }
 
-/// The same on demand, if it isn't yet.
+/// When keys are renewed, after a line has added to `renewal` that, from `moment` on, those are
+/// renewed that were published before it. `None` if that has such a moment already, since a policy
+/// says it at most once.
 fn with_once(renewal: &Term, moment: UnixTime) -> Option<Term>
     ensures { result ≡ with_once renewal.now moment }
 {
@@ -245,7 +263,8 @@ fn with_once(renewal: &Term, moment: UnixTime) -> Option<Term>
 }
 
 impl PolicyDraft {
-    /// No line so far.
+    /// The draft of a policy before its second line: no keys are renewed, and nothing is said of
+    /// deletions.
     pub(crate) fn new() -> Self
         ensures { result ≡ no_wish }
     {
@@ -256,7 +275,8 @@ impl PolicyDraft {
         }
     }
 
-    /// When keys of a role are renewed.
+    /// When keys of this role are renewed, by the lines so far. KSKs and CSKs share an entry, since
+    /// a scheme has only one of the two.
     fn slot(&self, role: KeyRole) -> Term
         ensures { result ≡ slot self.now role }
     {
@@ -266,6 +286,8 @@ impl PolicyDraft {
         }
     }
 
+    /// A copy of the draft in which keys of this role are renewed by `renewal`, in place of what
+    /// was said of them. KSKs and CSKs share an entry. The rest is the same.
     fn with_slot(&self, role: KeyRole, renewal: &Term) -> Self
         ensures { result ≡ with_slot self.now role renewal.now }
     {
@@ -281,6 +303,8 @@ impl PolicyDraft {
         }
     }
 
+    /// A copy of the draft in which a key is deleted `seconds` after it was withdrawn. `None` if a
+    /// line has said `delete-after` already, since a policy says it at most once.
     fn with_deletion(&self, seconds: u64) -> Option<Self>
         ensures { result ≡ with_deletion self.now seconds }
     {
@@ -294,7 +318,9 @@ impl PolicyDraft {
         }
     }
 
-    /// After one more wish, if it isn't there yet.
+    /// A copy of the draft with what one more line says, its `wish`. `None` if a line has said that
+    /// word already. It doesn't ask whether the scheme has such keys, and takes KSKs and CSKs for
+    /// the same, since a scheme has only one of the two.
     fn after(&self, wish: &Wish) -> Option<Self>
         ensures { result ≡ after self.now wish.now }
     {
@@ -311,7 +337,13 @@ impl PolicyDraft {
         }
     }
 
-    /// After one more wish for the keys of a scheme, on a line of this number.
+    /// A copy of the draft with what one more line says, its `wish`. The line has this `number`,
+    /// counted from 1.
+    ///
+    /// # Errors
+    ///
+    /// `NoSuchKeys` with the number if `scheme` doesn't have the keys that the line speaks of.
+    /// `SaidTwice` with the number if a line has said that word already.
     fn said_after(&self, scheme: Scheme, number: usize, wish: &Wish) -> Result<Self, PolicyFault>
         ensures { result ≡ said_after scheme number self.now wish.now }
     {
@@ -324,7 +356,14 @@ impl PolicyDraft {
         }
     }
 
-    /// After one more line, of this number.
+    /// A copy of the draft with what one more line of the policy says. The line has this `number`,
+    /// counted from 1, and `scheme` is that of line 1.
+    ///
+    /// # Errors
+    ///
+    /// With the number of the line: `Malformed` if it doesn't have the form of one, `NoSuchKeys` if
+    /// the scheme doesn't have the keys that it speaks of, and `SaidTwice` if a line has said its
+    /// word already.
     pub(crate) fn line_after(
         &self,
         scheme: Scheme,
@@ -339,7 +378,8 @@ impl PolicyDraft {
         }
     }
 
-    /// The policy of these lines and the first one.
+    /// The policy of the draft with the algorithm and the scheme of line 1. Without `delete-after`
+    /// a withdrawn key stays no longer than it has to: 0 seconds.
     pub(crate) fn policy(&self, algorithm: SecurityAlgorithm, scheme: Scheme) -> Policy
         ensures { result ≡ policy_with (algorithm, scheme) self.now }
     {

@@ -13,8 +13,9 @@ use dnssec_keyset::{RollType, UnixTime};
 use std::alloc::{AllocError, Global};
 use std::time::Duration;
 
-/// The policy as a text, which `read_policy` reads as the same policy. A text says `once` in whole
-/// seconds, and of ZSKs nothing beside `csk-roll`.
+/// Writes the policy as a text, with a line feed after each line. `read_policy` reads it as the
+/// same policy again, if each `once` is in whole seconds, and a policy of CSKs has neither a
+/// lifetime nor `once` for ZSKs. Otherwise the text has `once` rounded down, and nothing of ZSKs.
 ///
 /// # Errors
 ///
@@ -33,7 +34,8 @@ pub fn policy_text(alloc: Global, policy: &Policy) -> Result<String, AllocError>
     Ok(text)
 }
 
-/// Writes all lines.
+/// Appends all lines of the policy to `text`, the last of which is `delete-after` and its seconds.
+/// If memory runs out, `text` may have got a part of them.
 fn push_policy(text: &mut String, policy: &Policy) -> Result<(), AllocError>
     ensures { OnOk result (string_bytes text.new ≡ string_bytes text.old
         ++ policy_text policy.now) }
@@ -43,7 +45,8 @@ fn push_policy(text: &mut String, policy: &Policy) -> Result<(), AllocError>
     push_line(text, WishWord::DeleteAfter, u128::from(policy.delete_after))
 }
 
-/// Writes the first line.
+/// Appends the first line of the policy to `text`, as `policy 13 ksk-roll zsk-roll`, with its line
+/// feed. If memory runs out, `text` may have got a part of it.
 fn push_first(text: &mut String, policy: &Policy) -> Result<(), AllocError>
     ensures { OnOk result (string_bytes text.new ≡ string_bytes text.old ++ first_line policy.now) }
 {
@@ -54,7 +57,8 @@ fn push_first(text: &mut String, policy: &Policy) -> Result<(), AllocError>
     text.push_str("\n")
 }
 
-/// Writes the names of the rolls by which keys are renewed.
+/// Appends to `text` the names of the rolls by which a scheme renews keys, as `ksk-roll zsk-roll`.
+/// If memory runs out, `text` may have got a part of them.
 fn push_rolls(text: &mut String, scheme: Scheme) -> Result<(), AllocError>
     ensures { OnOk result (string_bytes text.new ≡ string_bytes text.old ++ rolls_text scheme) }
 {
@@ -68,7 +72,8 @@ fn push_rolls(text: &mut String, scheme: Scheme) -> Result<(), AllocError>
     }
 }
 
-/// Writes when keys are renewed.
+/// Appends to `text` the lines that say when keys are renewed: of KSKs and ZSKs, or of CSKs, as the
+/// scheme has them. If memory runs out, `text` may have got a part of them.
 fn push_renewals(text: &mut String, policy: &Policy) -> Result<(), AllocError>
     ensures { OnOk result (string_bytes text.new ≡ string_bytes text.old
         ++ renewals_text policy.now policy.now.scheme) }
@@ -82,7 +87,8 @@ fn push_renewals(text: &mut String, policy: &Policy) -> Result<(), AllocError>
     }
 }
 
-/// Writes when keys of a role are renewed.
+/// Appends to `text` the lines that say when keys of this role are renewed: the lifetime and
+/// `once`, each only if it is set. If memory runs out, `text` may have got a part of them.
 fn push_renewal(text: &mut String, role: KeyRole, renewal: &Term) -> Result<(), AllocError>
     ensures { OnOk result (string_bytes text.new ≡ string_bytes text.old
         ++ renewal_text role renewal.now) }
@@ -91,7 +97,9 @@ fn push_renewal(text: &mut String, role: KeyRole, renewal: &Term) -> Result<(), 
     push_once(text, role, renewal.once)
 }
 
-/// Writes a lifetime, if there is one.
+/// Appends to `text` the line of the lifetime of keys of this role, in seconds, as
+/// `ksk-lifetime 31536000`. Without a lifetime there is no line. If memory runs out, `text` may
+/// have got a part of it.
 fn push_lifetime(text: &mut String, role: KeyRole, lifetime: Option<u64>) -> Result<(), AllocError>
     ensures { OnOk result (string_bytes text.new ≡ string_bytes text.old
         ++ lifetime_text role lifetime) }
@@ -102,7 +110,9 @@ fn push_lifetime(text: &mut String, role: KeyRole, lifetime: Option<u64>) -> Res
     }
 }
 
-/// Writes from when on keys are renewed on demand, if they are.
+/// Appends to `text` the line of the moment from which keys of this role are renewed on demand, as
+/// `ksk-once 1700000000`, in seconds since 1970, rounded down. Without a moment there is no line.
+/// If memory runs out, `text` may have got a part of it.
 fn push_once(text: &mut String, role: KeyRole, once: Option<UnixTime>) -> Result<(), AllocError>
     ensures { OnOk result (string_bytes text.new ≡ string_bytes text.old ++ once_text role once) }
 {
@@ -112,14 +122,15 @@ fn push_once(text: &mut String, role: KeyRole, once: Option<UnixTime>) -> Result
     }
 }
 
-/// The whole seconds since 1970.
+/// The seconds since 1970 up to `moment`, rounded down.
 fn whole_seconds(moment: UnixTime) -> u128
     ensures { result ≡ moment / 1_000_000_000 }
 {
     Duration::from(moment).as_nanos() / 1_000_000_000
 }
 
-/// Writes a line of a word and a number.
+/// Appends a line to `text`: the word, a space, the number in decimal, and a line feed. If memory
+/// runs out, `text` may have got a part of it.
 fn push_line(text: &mut String, word: WishWord, number: u128) -> Result<(), AllocError>
     ensures { OnOk result (string_bytes text.new ≡ string_bytes text.old
         ++ number_line word number) }
@@ -130,7 +141,7 @@ fn push_line(text: &mut String, word: WishWord, number: u128) -> Result<(), Allo
     text.push_str("\n")
 }
 
-/// Writes a number in decimal.
+/// Appends a number to `text`, in decimal. If memory runs out, `text` may have got a part of it.
 fn push_number(text: &mut String, number: u128) -> Result<(), AllocError>
     ensures { OnOk result (string_bytes text.new ≡ string_bytes text.old ++ decimal number) }
 {
