@@ -204,11 +204,15 @@ impl<'a> Fields<'a> {
         ensures { option_map (λ x. (x.0, x.1)) result ≡ word_at (fields_of line.now) }
     {
         let (name, rest) = split_once(line, b' ');
+        // They are compared in turn, so those of rolls come first: most lines have them.
         let word = match ascii(name)? {
-            "add-ksk" => Word::AddKsk,
-            "add-zsk" => Word::AddZsk,
-            "add-csk" => Word::AddCsk,
-            "add-public" => Word::AddPublic,
+            "start" => Word::Start,
+            "report1" => Word::Report1,
+            "wait1" => Word::Wait1,
+            "report2" => Word::Report2,
+            "wait2" => Word::Wait2,
+            "done" => Word::Done,
+            "abort" => Word::Abort,
             "set-decoupled" => Word::SetDecoupled,
             "set-present" => Word::SetPresent,
             "set-signer" => Word::SetSigner,
@@ -218,13 +222,10 @@ impl<'a> Fields<'a> {
             "set-ds-visible" => Word::SetDsVisible,
             "set-rrsig-visible" => Word::SetRrsigVisible,
             "delete" => Word::Delete,
-            "start" => Word::Start,
-            "report1" => Word::Report1,
-            "wait1" => Word::Wait1,
-            "report2" => Word::Report2,
-            "wait2" => Word::Wait2,
-            "done" => Word::Done,
-            "abort" => Word::Abort,
+            "add-ksk" => Word::AddKsk,
+            "add-zsk" => Word::AddZsk,
+            "add-csk" => Word::AddCsk,
+            "add-public" => Word::AddPublic,
             _ => return None,
         };
         Some((word, Fields { rest }))
