@@ -8,6 +8,8 @@ from dataclasses import dataclass
 from pathlib import Path
 
 COMMENT_OR_TEXT = re.compile(r'//[^\n]*|"(?:\\.|[^"\\])*"', re.DOTALL)
+# What `code` leaves of a comment.
+COMMENT = '""'
 # The head of a function, with its indent, as `rt fmt` lays it out.
 HEAD = re.compile(r"( *)(?:pub(?:\(\w+\))? )?fn (\w+)")
 # A match, or one function's answer to a match.
@@ -21,7 +23,7 @@ def sources(crates: Path, ending: str, part: str) -> list[Path]:
 def code(path: Path) -> str:
     """The text of a file without its comments and without what stands between quotes. Each line
     stays in its place."""
-    return COMMENT_OR_TEXT.sub(lambda it: '""' + "\n" * it[0].count("\n"), path.read_text())
+    return COMMENT_OR_TEXT.sub(lambda it: COMMENT + "\n" * it[0].count("\n"), path.read_text())
 
 
 @dataclass(frozen=True)
@@ -33,9 +35,11 @@ class Body:
     lines: list[str]
 
     def is_one_match(self) -> bool:
-        """Whether it is a match, or one function's answer to a match, and nothing beside it."""
+        """Whether it is a match, or one function's answer to a match, and beside it there are at
+        most comments."""
         at = len(self.indent) + 4
-        first, *rest, last = (line[at:] for line in self.lines if line[:at].isspace())
+        said = (line for line in self.lines if line.strip() != COMMENT)
+        first, *rest, last = (line[at:] for line in said if line[:at].isspace())
         return (MATCH.match(first) is not None and last in ("}", "})")
                 and all(not line or line[0] == " " for line in rest))
 
