@@ -1,21 +1,17 @@
 -- A list that keeps a frame, or a set of two, and the numbers of what was there before.
-use Rattle.std.proofs.Common.{◌≡◌, ◌∙◌, ◌++◌, ◌∷◌, [], ap, arith, map, refl, sym, subst, suc, ℕ}
-use Rattle.std.proofs.Common.{Bool, false, true, List, Option, Some, append-nil, drop, length, take}
-use Rattle.std.proofs.Common.{get_or, ◌+◌}
+use Rattle.std.proofs.Common.{◌≡◌, ◌∙◌, ◌++◌, ◌∷◌, [], ap, arith, map, refl, sym, subst, ℕ}
+use Rattle.std.proofs.Common.{Bool, false, true, List, Some, append-nil, get_or, length, ◌+◌}
 use Rattle.std.specs.Prelude.{◌&&◌, ◌||◌, not}
-use Rattle.std.proofs.lemmas.List.{length-append, take-map, drop-map, map-append, get_or_at}
-use Rattle.std.proofs.lemmas.List.{nil_from_length}
-use Rattle.std.proofs.Math.Seq.{drop-append_seam, take-append_seam}
+use Rattle.std.proofs.lemmas.List.{get_or-map, length-append, length-map}
 use Rattle.std.{proofs.lemmas.Bool.false_from_ne_true, specs.List.insert, specs.List.remove}
 use Rattle.dnssec_run.specs.declared.record.Frame.{Frame}
 use Rattle.dnssec_run.specs.{Origins.CachedSet, Published.id_of}
 use Rattle.dnssec_run.specs.declared.record.PublishedKey.{PublishedKey}
-use Rattle.std.proofs.lemmas.List.{length-map}
 use Rattle.dnssec_run.specs.{Published.Id, Frames.KeepsFrame, Origins.same_ids}
 use Rattle.dnssec_run.proofs.Since.{same-ids}
-use Rattle.dnssec_judge.proofs.Table.{stand-len, stand-on}
+use Rattle.dnssec_judge.proofs.Table.{stand_len, stand-on}
 use Rattle.dnssec_judge.specs.declared.sets.numbers.Numbers.{Numbers}
-use Rattle.dnssec_judge.specs.declared.window.last.Last.{Last}
+use Rattle.dnssec_judge.specs.declared.window.Last.{Last}
 use Rattle.dnssec_judge.specs.{Inner.Window.IsNext, Numbers.IsRead}
 use Rattle.dnssec_judge.specs.Numbers.{Grows, StandFor, key_at}
 
@@ -36,118 +32,92 @@ read-left t ns frame list whole len = record {
       (let front = sym (keeps.front_len ∙ whole) in let ids = length-map list id_of in
       let same : was ≡ map id_of list =
       only-front keeps.front (keeps.was ++ keeps.back) was keeps.splits_old
-      (sym (stand-len t ns was h) ∙ len ∙ front)
+      (sym (stand_len t ns was h) ∙ len ∙ front)
       ∙ sym (only-front keeps.front (keeps.is ++ keeps.back) _ keeps.splits_new (ids ∙ front)) in
       (subst (StandFor t ns) same h, (same-ids was (map id_of list)).1 same));
 }
 
 -- ---- a key more or less
 
--- the only one of a list
-first-of : {A : Type 0} (xs : List A) → length xs ≡ 1 → (x : A) × (xs ≡ x ∷ [])
-first-of [] len = absurd (omega (arith, len))
-first-of (x ∷ []) len = (x, refl)
-first-of (x ∷ y ∷ xs) len = absurd (omega (arith, len))
-
-past-one : (front back : List Id) (k : Id) → drop (suc (length front)) (front ++ k ∷ back) ≡ back
-past-one [] back k = refl
-past-one (l ∷ front) back k = past-one front back k
-
 -- of two lists that stand in one frame, one has a key more; the other is what stands around it
-module _ (frame : Frame) (more less front was is back : List Id)
-    (splits_more : more ≡ front ++ (was ++ back)) (splits_less : less ≡ front ++ (is ++ back))
-    (front_len : length front ≡ frame.front) (back_len : length back ≡ frame.back)
-    (around : frame.front + frame.back ≡ length less) (len : length more ≡ length less + 1) where
-  none : is ≡ []
-  none = nil_from_length is (omega (
-    arith,
-    around,
-    front_len,
-    back_len,
-    ap length splits_less,
-    length-append front (is ++ back),
-    length-append is back,
-  ))
+less : (t : Numbers) (ns : List ℕ) (front was is back : List Id) → length was ≡ 1 → length is ≡ 0
+    → StandFor t ns (front ++ (was ++ back))
+    → StandFor t (remove ns (length front)) (front ++ (is ++ back))
+less t [] (k ∷ front) was is back one none h = absurd (cc)
+less t (n ∷ ns) (k ∷ front) was is back one none h =
+    let here : key_at t n ≡ Some k = cc in
+    let rest : StandFor t ns (front ++ (was ++ back)) = cc in
+    λ i. here i ∷ less t ns front was is back one none rest i
+less t [] [] (k ∷ []) [] back one none h = absurd (cc)
+less t (n ∷ ns) [] (k ∷ []) [] back one none h = cc
+less t ns [] [] is back one none h = absurd (omega (arith, one))
+less t ns [] (k ∷ l ∷ was) is back one none h = absurd (omega (arith, one))
+less t ns [] (k ∷ []) (l ∷ is) back one none h = absurd (omega (arith, none))
 
-  one : (k : Id) × (was ≡ k ∷ [])
-  one = first-of was (omega (
-    arith,
-    around,
-    len,
-    front_len,
-    back_len,
-    ap length splits_more,
-    length-append front (was ++ back),
-    length-append was back,
-  ))
+more : (t : Numbers) (ns : List ℕ) (front was is back : List Id) (n : ℕ) (k : Id)
+    → length was ≡ 0 → length is ≡ 1 → k ≡ get_or (front ++ (is ++ back)) (length front) k
+    → key_at t n ≡ Some k → StandFor t ns (front ++ (was ++ back))
+    → StandFor t (insert ns (length front) n) (front ++ (is ++ back))
+more t [] (l ∷ front) was is back n k none one there e h = absurd (cc)
+more t (m ∷ ns) (l ∷ front) was is back n k none one there e h =
+    let here : key_at t m ≡ Some l = cc in
+    let rest : StandFor t ns (front ++ (was ++ back)) = cc in
+    λ i. here i ∷ more t ns front was is back n k none one there e rest i
+more t ns [] [] (l ∷ []) back n k none one there e h =
+    λ i. (e ∙ ap (λ (l : Id). Some l) there) i ∷ h i
+more t ns [] was [] back n k none one there e h = absurd (omega (arith, one))
+more t ns [] was (l ∷ m ∷ is) back n k none one there e h = absurd (omega (arith, one))
+more t ns [] (l ∷ was) (m ∷ []) back n k none one there e h = absurd (omega (arith, none))
 
-  whole : more ≡ front ++ one.0 ∷ back
-  whole = splits_more ∙ ap (λ ks. front ++ (ks ++ back)) one.1
+-- how long a list is that stands in a frame
+framed-len : (frame : Frame) (all front mid back : List Id) → all ≡ front ++ (mid ++ back)
+    → length front ≡ frame.front → length back ≡ frame.back
+    → length all ≡ frame.front + length mid + frame.back
+framed-len frame all front mid back is f b =
+    let one = length-append front (mid ++ back) in
+    omega (arith, ap length is, f, b, one, length-append mid back)
 
-  bare : less ≡ front ++ back
-  bare = splits_less ∙ ap (λ ks. front ++ (ks ++ back)) none
+module _ (t : Numbers) (before : List ℕ) (was : List Id) (list : List PublishedKey) (frame : Frame)
+    (h : StandFor t before was) (keeps : KeepsFrame frame was (map id_of list)) where
+  lengths : (length before ≡ frame.front + length keeps.was + frame.back)
+      × (length list ≡ frame.front + length keeps.is + frame.back)
+  lengths = (
+    stand_len t before was h ∙ framed-len frame was keeps.front keeps.was keeps.back
+        keeps.splits_old keeps.front_len keeps.back_len,
+    sym (length-map list id_of) ∙ framed-len frame (map id_of list) keeps.front keeps.is keeps.back
+        keeps.splits_new keeps.front_len keeps.back_len,
+  )
 
-  removed : remove more frame.front ≡ less
-  removed =
-      (λ i. take (sym front_len i) (whole i) ++ drop (suc (sym front_len i)) (whole i))
-      ∙ (λ i. take-append_seam front (one.0 ∷ back) i ++ past-one front back one.0 i) ∙ sym bare
+  others : (length before ≡ length list → ⊥) → same_ids was (map id_of list) ≡ false
+  others ne = false_from_ne_true (same_ids was (map id_of list)) (λ e. ne
+      (stand_len t before was h ∙ ap length ((same-ids was (map id_of list)).0 e)
+      ∙ length-map list id_of))
 
-  inserted : (k : Id) → k ≡ get_or more frame.front k → insert less frame.front k ≡ more
-  inserted k there =
-      (λ i. take (sym front_len i) (bare i) ++ k ∷ drop (sym front_len i) (bare i))
-      ∙ (λ i. take-append_seam front back i ++ k ∷ drop-append_seam front back i)
-      ∙ ap (λ (l : Id). front ++ l ∷ back) (there
-      ∙ ap (λ (ks : List Id). get_or ks frame.front k) whole
-      ∙ get_or_at front one.0 back k frame.front front_len) ∙ sym whole
-
--- the numbers of the keys of such lists
-removed-image : {A B : Type 0} (f : A → B) (xs : List A) (i : ℕ)
-    → map f (remove xs i) ≡ remove (map f xs) i
-removed-image f xs i =
-    map-append f (take i xs) (drop (suc i) xs)
-    ∙ (λ j. sym (take-map f i xs) j ++ sym (drop-map f (suc i) xs) j)
-
-inserted-image : {A B : Type 0} (f : A → B) (xs : List A) (i : ℕ) (x : A)
-    → map f (insert xs i x) ≡ insert (map f xs) i (f x)
-inserted-image f xs i x =
-    map-append f (take i xs) (x ∷ drop i xs)
-    ∙ (λ j. sym (take-map f i xs) j ++ f x ∷ sym (drop-map f i xs) j)
-
--- lists of other lengths are others
-pub other-len : (was list : List Id) → (length was ≡ length list → ⊥) → same_ids was list ≡ false
-other-len was list ne =
-    false_from_ne_true (same_ids was list) (λ e. ne (ap length ((same-ids was list).0 e)))
-
-module _ (t : Numbers) (before : List ℕ) (was list : List Id) (frame : Frame)
-    (h : StandFor t before was) (keeps : KeepsFrame frame was list) where
   pub read-less : frame.front + frame.back ≡ length list → length before ≡ length list + 1
-      → StandFor t (remove before frame.front) list × (same_ids was list ≡ false)
-  read-less around len =
-      let longer : length was ≡ length list + 1 = sym (stand-len t before was h) ∙ len in (
-        subst (StandFor t (remove before frame.front))
-            (removed frame was list keeps.front keeps.was keeps.is keeps.back keeps.splits_old
-            keeps.splits_new keeps.front_len keeps.back_len around longer)
-            (removed-image (key_at t) before frame.front
-            ∙ ap (λ (ks : List (Option Id)). remove ks frame.front) h
-            ∙ sym (removed-image {B = Option Id} Some was frame.front)),
-        other-len was list (λ e. omega (arith, e, longer)),
-      )
+      → StandFor t (remove before frame.front) (map id_of list)
+      × (same_ids was (map id_of list) ≡ false)
+  read-less around longer = (
+    rw (sym keeps.front_len, keeps.splits_new) (less t before keeps.front keeps.was keeps.is
+        keeps.back (omega (arith, around, longer, lengths.0)) (omega (arith, around, lengths.1))
+        (subst (StandFor t before) keeps.splits_old h)),
+    others (λ e. omega (arith, e, longer)),
+  )
 
   pub read-more : (u : Numbers) → Grows t u → frame.front + frame.back ≡ length before
-      → length list ≡ length before + 1 → (n : ℕ) (k : Id) → k ≡ get_or list frame.front k
-      → key_at u n ≡ Some k
-      → StandFor u (insert before frame.front n) list × (same_ids was list ≡ false)
-  read-more u grows around len n k there is =
-      let same = stand-len t before was h in
-      let longer : length list ≡ length was + 1 = len ∙ ap (λ m. m + 1) same in
-      let on = stand-on t u before was grows h in (
-        subst (StandFor u (insert before frame.front n))
-            (inserted frame list was keeps.front keeps.is keeps.was keeps.back keeps.splits_new
-            keeps.splits_old keeps.front_len keeps.back_len (around ∙ same) longer k there)
-            (inserted-image (key_at u) before frame.front n
-            ∙ (λ i. insert (on i) frame.front (is i))
-            ∙ sym (inserted-image {B = Option Id} Some was frame.front k)),
-        other-len was list (λ e. omega (arith, e, longer)),
+      → length list ≡ length before + 1 → (n : ℕ) (key : PublishedKey)
+      → key ≡ get_or list frame.front key → key_at u n ≡ Some (id_of key)
+      → StandFor u (insert before frame.front n) (map id_of list)
+      × (same_ids was (map id_of list) ≡ false)
+  read-more u grows around longer n key there is =
+      let k = id_of key in
+      let at : k ≡ get_or (map id_of list) frame.front k = ap id_of there
+      ∙ sym (get_or-map id_of list frame.front key k (omega (arith, around, longer))) in (
+        rw (sym keeps.front_len, keeps.splits_new) (more u before keeps.front keeps.was keeps.is
+            keeps.back n k (omega (arith, around, lengths.0))
+            (omega (arith, around, longer, lengths.1))
+            (at ∙ (λ i. get_or (keeps.splits_new i) (sym keeps.front_len i) k)) is
+            (stand-on t u before _ grows (subst (StandFor t before) keeps.splits_old h))),
+        others (λ e. omega (arith, e, longer)),
       )
 
 -- ---- a set, by its keys and its signers
@@ -157,13 +127,13 @@ both true b = refl
 both false b = refl
 
 -- the keys are read over those of before, and then the signers
-pub set-read : (t u v : Numbers) (old new : Last) (f g : Frame) (keys signers : List Id)
-    (a b : Bool)
+pub set-read : {t u v : Numbers} {old new : Last} {f g : Frame} {keys signers : List Id}
+    {a b is_other : Bool} → (a || b) ≡ is_other
     → IsRead t u old.keys.numbers.items new.keys.numbers.items f keys a
     → IsRead u v old.signers.numbers.items new.signers.numbers.items g signers b
-    → (set : CachedSet) → (keys, signers) ≡ set → IsNext t v old new (f, g) (Some set) (a || b)
-set-read t u v old new f g keys signers a b k s set is =
-    subst (λ (x : CachedSet). IsNext t v old new (f, g) (Some x) (a || b)) is (record {
+    → (set : CachedSet) → (keys, signers) ≡ set → IsNext t v old new (f, g) (Some set) is_other
+set-read {t} {u} {v} {old} {new} {f} {g} {keys} {signers} {a} {b} {is_other} e k s set is =
+    subst (λ (x : CachedSet). IsNext t v old new (f, g) (Some x) is_other) is (record {
       extends = λ table.
           (let one = k.extends table in let two = s.extends one.0 in
           (two.0, λ n id e. two.1 n id (one.1 n id e)));
@@ -173,6 +143,6 @@ set-read t u v old new f g keys signers a b k s set is =
           let ss = s.read before.1 one.0
           (stand-on t u old.signers.numbers.items before.1 one.1 stand.1) keep.1 in (
             (stand-on u v new.keys.numbers.items keys two.1 ks.0, ss.0),
-            (λ i. ks.1 i && ss.1 i) ∙ both a b,
+            (λ i. ks.1 i && ss.1 i) ∙ both a b ∙ ap not e,
           ));
     })

@@ -1,10 +1,13 @@
--- Lists: what a test finds among keys, and what all items of a list have that a loop has passed.
-use Rattle.std.proofs.Common.{◌≡◌, ◌∙◌, ◌+◌, ◌-◌, ◌<◌, ◌≤◌, ◌∷◌, [], ℕ, zero, suc, Bool, List}
-use Rattle.std.proofs.Common.{Option, None, Some, ap, arith, get_or, length, refl, subst, sym, take}
+-- What tests find: a key in a list, and a step of a roll.
+use Rattle.std.proofs.Common.{◌≡◌, Bool, List, refl, subst}
+use Rattle.dnssec_key.specs.declared.roll.RollType.{RollType}
+use Rattle.dnssec_zone.proofs.Phases.{same_roll-eq}
+use Rattle.dnssec_run.specs.declared.record.{Mark.Mark, Mark.TheVariants.Other}
+use Rattle.dnssec_run.specs.declared.record.Mark.TheVariants.{Step, Report}
+use Rattle.dnssec_run.specs.{contracts.record.MarkPartialEq.TheImpl.eq-value, Safe.is_step}
 use Rattle.std.proofs.lemmas.List.Folds.{Any-from_list_any, list_any-from_Any}
-use Rattle.std.proofs.lemmas.List.Elements.{All-contains, All-more}
-use Rattle.std.proofs.lemmas.{Bool.Decides.Decides-like, Option.slice_get_within, List.take_all}
-use Rattle.std.specs.{List.All, List.Contains, List.list_any, Prelude.slice_get, Bool.Decides}
+use Rattle.std.{proofs.lemmas.Bool.Decides.Decides-like, specs.Bool.Decides}
+use Rattle.std.specs.{List.Contains, List.list_any}
 use Rattle.dnssec_run.{specs.Origins.same_id, proofs.Since.same-id, specs.Published.Id}
 use Rattle.dnssec_judge.specs.Chained.{is_in}
 
@@ -21,30 +24,8 @@ in-list ids k =
     Decides-like _ (λ t. subst (Contains ids) t.2 t.1) (λ c. (k, c, refl))
     (any-key (λ other. same_id other k) (λ other. other ≡ k) (λ other. same-id other k) ids)
 
--- one item more
-pub passed-more : {X : Type 0} (P : X → Type 0) (xs : List X) (i : ℕ) (x : X) → i < length xs
-    → x ≡ get_or xs i x → All P (take i xs) → P x → All P (take (i + 1) xs)
-passed-more P xs i x lt is all p = All-more P xs i x lt all (subst P is p)
-
--- and all of them
-pub all-passed : {X : Type 0} (P : X → Type 0) (xs : List X) (i : ℕ) → length xs ≤ i
-    → All P (take i xs) → (x : X) → Contains xs x → P x
-all-passed P xs i le all x c =
-    All-contains P xs x (subst (λ ys. All P ys) (take_all i xs le) all) c
-
--- a last item that says as much as none may go
-pub without-last : {A B : Type 0} (read : Option A → B) (x : A) → read (Some x) ≡ read None
-    → (xs less : List A) (m : ℕ) → m ≡ length xs → less ≡ take (m - 1) xs
-    → slice_get xs (m - 1) ≡ Some x → (n : ℕ) → read (slice_get less n) ≡ read (slice_get xs n)
-without-last {A} {B} read x none xs less m is rest last n =
-    rw rest (by xs (m - 1)
-    (let lt = slice_get_within xs (m - 1) x last in omega (arith, is, lt)) last n)
-  where
-    by : (xs : List A) (i : ℕ) → suc i ≡ length xs → slice_get xs i ≡ Some x
-        → (n : ℕ) → read (slice_get (take i xs) n) ≡ read (slice_get xs n)
-    by [] i is last n = absurd (omega (arith, is))
-    by (y ∷ []) zero is last zero = sym none ∙ ap read (sym last)
-    by (y ∷ []) zero is last (suc n) = refl
-    by (y ∷ z ∷ xs) zero is last n = absurd (omega (arith, is))
-    by (y ∷ xs) (suc i) is last zero = refl
-    by (y ∷ xs) (suc i) is last (suc n) = by xs i (omega (arith, is)) last n
+-- the `==` of a step and a mark
+pub steps : (roll : RollType) (m : Mark) → eq-value.it (Step roll) m ≡ is_step roll m
+steps roll Other = refl
+steps roll (Step other) = same_roll-eq roll other
+steps roll (Report r s t) = refl

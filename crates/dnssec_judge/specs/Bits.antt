@@ -2,11 +2,19 @@
 use Rattle.std.specs.Prelude.{◌≡◌, ℕ, zero, suc, ◌<◌, ◌*◌, ◌^◌, ◌/◌, ◌%◌, Bool, true, false, ◌||◌}
 use Rattle.std.specs.Prelude.{◌&&◌, not, nat_eq, List, ◌∷◌, get_or, length}
 use Rattle.std.specs.Int.{bit_at, Bits.bit_and}
+use Rattle.std.specs.{Prelude.Option, Prelude.None, Prelude.Some, Prelude.[], Global.Global}
+use Rattle.std.specs.Arc.{arc_slice_items}
+use Rattle.std.specs.declared.sync.ArcSlice.{ArcSlice}
 use Rattle.dnssec_judge.specs.declared.sets.held.Bits.{Bits}
+
+-- the words after the first, if there are any
+abbrev pub rest_of : Option (ArcSlice ℕ Global) → List ℕ
+rest_of None = []
+rest_of (Some rest) = arc_slice_items rest
 
 -- the words of a set
 abbrev pub words_of : Bits → List ℕ
-words_of b = b.first ∷ b.rest.items
+words_of b = b.first ∷ rest_of b.rest
 
 -- one of them; all after the last are 0
 abbrev pub word_at : List ℕ → ℕ → ℕ
@@ -29,18 +37,18 @@ any_below test (suc n) = test n || any_below test n
 abbrev pub end_of : List ℕ → ℕ
 end_of words = 64 * length words
 
--- no bit is set
-abbrev pub has_none : List ℕ → Bool
-has_none words = not (any_below (has_bit words) (end_of words))
-
--- a bit is set in both
-abbrev pub meet : List ℕ → List ℕ → Bool
-meet words others = any_below (λ n. has_bit words n && has_bit others n) (end_of words)
-
 -- a bit is set in all three
 abbrev pub meet_three : List ℕ → List ℕ → List ℕ → Bool
 meet_three words ones others =
     any_below (λ n. has_bit words n && (has_bit ones n && has_bit others n)) (end_of words)
+
+-- a bit is set in both
+abbrev pub meet : List ℕ → List ℕ → Bool
+meet words others = meet_three words others others
+
+-- no bit is set
+abbrev pub has_none : List ℕ → Bool
+has_none words = not (meet words words)
 
 -- a number whose bit is set in both
 abbrev pub Share : List ℕ → List ℕ → Type 0

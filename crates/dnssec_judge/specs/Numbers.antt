@@ -42,9 +42,9 @@ pub record IsRead (old new : Numbers) (before after : List ℕ) (frame : Frame) 
 
 -- the bits are those of the keys of a list
 pub record Means (t : Numbers) (words : List ℕ) (keys : List Id) : Type 0 where
-  pub members : (n : ℕ) (k : Id) → has_bit words n ≡ true → key_at t n ≡ Some k → Contains keys k
+  pub members : (n : ℕ) → has_bit words n ≡ true
+      → (k : Id) × Contains keys k × (key_at t n ≡ Some k)
   pub all : (k : Id) → Contains keys k → (n : ℕ) × (has_bit words n ≡ true) × (key_at t n ≡ Some k)
-  pub keyed : (n : ℕ) → has_bit words n ≡ true → IsSome (key_at t n)
 
 -- the same for a set with its signers
 abbrev pub MeansSet : Numbers → Numbered → CachedSet → Type 0

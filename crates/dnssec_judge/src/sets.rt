@@ -4,5 +4,5 @@
 mod held;
 mod numbers;
 
-pub(crate) use held::{Bits, OpenSet, digest_of};
+pub(crate) use held::OpenSet;
 pub(crate) use numbers::{NumberList, Numbers};

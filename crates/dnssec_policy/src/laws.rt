@@ -129,7 +129,7 @@ pub fn starts_are_in_time()
 /// notes, and each answered call is made within a fixed time, the lag, a key whose lifetime is over
 /// leaves in a bounded time. That is at most what its roll takes, and one lag for each call made
 /// meanwhile. Until that roll starts a new key has to be there, and nothing may bar the roll: no
-/// roll that excludes it, and no key whose algorithm or role isn't wanted, but for roles on their
+/// roll that excludes it, and no key whose algorithm or role isn't wanted, except roles on their
 /// way out.
 pub fn keys_leave()
     ensures { KeysLeave }

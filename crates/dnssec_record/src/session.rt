@@ -252,7 +252,9 @@ impl Session {
     }
 
     /// The two lines that end the answers of `run_script`: the sets that are published after the
-    /// last call, and the verdict on all calls so far. The session stays as it is.
+    /// last call, and the verdict on all calls so far. That is `chain safe` if any sets that caches
+    /// may hold have a chain of trust or no DS, else `chain broken` with the calls after which the
+    /// first three without one were published. The session stays as it is.
     ///
     /// # Errors
     ///

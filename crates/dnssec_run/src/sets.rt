@@ -173,7 +173,7 @@ impl Renewal {
     }
 
     /// Drops the old keys that weren't read yet. The keys that were read stay, and no key at the
-    /// back of the list counts as unchanged any more.
+    /// back of the list counts as unchanged any more. `changes_left` stays.
     fn drop_rest(&mut self)
         requires { self.old.read ≤ vec_len self.old.keys }
         ensures same { ids_read self.new ≡ ids_read self.old }

@@ -207,9 +207,10 @@ fn push_kind(out: &mut Vec<u8>, keytype: KeyType) -> Result<(), AllocError>
     }
 }
 
-/// Appends the kind of a key that has one role, and the array with that role. `before` is the JSON
-/// with the kind and the start of the array, `role` the role's name, and `is_active` says whether
-/// the role is active. If memory runs out, it fails, and `out` may end in a part of this.
+/// Appends to `out` the kind of a key that has one role, and the array with that role: first
+/// `before`, which is the JSON with the kind and the start of the array, then the role with the
+/// name `role`, its `state`, and whether it is active. If memory runs out, it fails, and `out` may
+/// end in a part of this.
 #[tactic(auto, using(crate::proofs::Chains::assoc))]
 fn push_only(
     out: &mut Vec<u8>,

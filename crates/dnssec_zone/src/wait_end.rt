@@ -48,7 +48,7 @@ impl ReportedWait {
     }
 
     /// From which nanosecond since 1970 the wait is over for `key`. It is 0 if the wait doesn't
-    /// check the key, else `None` if the key lacks its stamp.
+    /// check the key, else `None` if the key lacks its stamp, else 0 if the TTL is 0.
     // Out of line, as `seen` and `follow`, so that a setter, which mostly finds no wait, is short.
     #[inline(never)]
     fn over_for(&self, key: &Key) -> Option<u128>
@@ -345,7 +345,7 @@ fn renew(known: &mut Option<ReportedWait>, keys: &KeyMap)
 }
 
 /// The nanosecond since 1970 from which a wait of `ttl` seconds is over for all `keys`, as a walk
-/// finds it: 0 if it checks none of them, `None` if one that it checks lacks its stamp.
+/// finds it: `None` if one that it checks lacks its stamp, else 0 if it checks none or `ttl` is 0.
 pub(crate) fn over_from(keys: &KeyMap, roll: RollType, half: Half, ttl: u32) -> Option<u128>
     ensures { IsLatest (over_at roll half ttl) (keys_in_map keys.now) result }
 {

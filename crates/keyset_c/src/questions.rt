@@ -49,7 +49,9 @@ pub extern "C" fn keyset_told(session: &mut Handle, out: &mut [u8]) -> Answered
 }
 
 /// Writes the last two lines of the answers so far into the front of `out`: the sets that are
-/// published after the last call, and the verdict on the record.
+/// published after the last call, and the verdict on the record. That is `chain safe` if any sets
+/// that caches may hold have a chain of trust or no DS, else `chain broken` with the first three
+/// that have none.
 ///
 /// The status is 0, 3 for lack of memory, 5 for a closed session, or 4 with the length that is
 /// needed if `out` is too short. Unless it is 0, nothing is written. The session never changes.
@@ -135,8 +137,8 @@ pub extern "C" fn keyset_due(
 /// Opens the session `copy` with the calls, the last answer and the notes of `session`, so that a
 /// caller can try a call on it.
 ///
-/// 0 if it is now open, 3 for lack of memory, 5 if `session` is closed, 6 if `copy` was open
-/// before. Unless it is 0, `copy` stays as it is. `session` never changes.
+/// 0 if it is now open, 6 if `copy` was open before, else 5 if `session` is closed, else 3 for lack
+/// of memory. Unless it is 0, `copy` stays as it is. `session` never changes.
 #[unsafe(no_mangle)]
 pub extern "C" fn keyset_copy(alloc: Global, session: &mut Handle, copy: &mut Handle) -> u32
     requires session { IsWhole session.old }

@@ -45,8 +45,9 @@ pub(crate) fn call(alloc: Global, kept: &mut OpenSession, line: &[u8]) -> u32
 }
 
 /// Writes the last two lines of a session's answers into the front of `out`: the published sets,
-/// and the verdict on the record. Status 0, or 3 for lack of memory, or 4 with the length that is
-/// needed if `out` is too short. Unless it is 0, nothing is written.
+/// and the verdict on the record, `chain safe` or `chain broken` with the first sets without a
+/// chain. Status 0, or 3 for lack of memory, or 4 with the length that is needed if `out` is too
+/// short. Unless it is 0, nothing is written.
 pub(crate) fn say_closing(alloc: Global, session: &Session, out: &mut [u8]) -> Answered
     ensures answered { result.status ≡ 0 → IsClosingOf session.now (take result.length out.new) }
     ensures needed { result.status ≡ 4 → AtLength (IsClosingOf session.now) result.length }

@@ -1,36 +1,56 @@
 //! A set that caches may hold, by bits of the numbers of its keys.
-ghost use Rattle.std.specs.Prelude.{◌≡◌, ◌&&◌, ◌||◌, ℕ, false, true, nat_eq, if◌then◌else◌};
+ghost use Rattle.std.specs.Prelude.{◌≡◌, ◌&&◌, ◌||◌, ◌∷◌, ℕ, List, [], false, true, nat_eq};
+ghost use Rattle.std.specs.Prelude.{◌≤◌, if◌then◌else◌};
 ghost use Rattle.std.specs.{List.list_any, Prelude.IfErr, Prelude.IfOk, Prelude.OnOk};
 ghost use Rattle.dnssec_base.specs.declared.error.Error.TheVariants.{OutOfMemory};
-ghost use Rattle.dnssec_judge.specs.Bits.{HasSome, all_at, has, has_none, meet_three, word_at};
-ghost use Rattle.dnssec_judge.specs.Bits.{words_of};
-ghost use Rattle.dnssec_judge.specs.Sets.{keys_hold, parts_of, set_of, sets_have_chain, zone_holds};
+ghost use Rattle.dnssec_judge.specs.Bits.{HasSome, all_at, has, has_bit, has_none, meet_three};
+ghost use Rattle.dnssec_judge.specs.Bits.{rest_of, words_of};
+ghost use Rattle.dnssec_judge.specs.Sets.{keys_hold, sets_have_chain, zone_holds};
 
 use dnssec_keyset::Error;
-use std::alloc::Global;
+use std::alloc::{AllocError, Global};
+use std::marker::Model;
+use std::sync::ArcSlice;
 
 /// How many numbers have their bits in one word.
 const WORD: usize = 64;
 
-/// A set of small numbers, as a bit for each. Numbers below 64 take no memory of the allocator. The
-/// last word of `rest` isn't 0, or two sets that are the same may be taken for two. Only `keep` may
-/// leave such words.
-#[derive(Clone, Debug, Drop, PartialEq)]
+/// A set of small numbers, as a bit for each. Numbers below 64 take no memory of the allocator, and
+/// a copy shares the words of the others.
+#[derive(Debug, Drop, PartialEq)]
 pub(crate) struct Bits {
     /// The numbers below 64.
     first: u64,
-    /// The others, in words of 64 numbers.
-    rest: Vec<u64>,
+    /// The others, in words of 64 numbers. None if no such number was ever in the set.
+    rest: Option<ArcSlice<u64>>,
+}
+
+impl Clone for Bits {
+    ghost is_clone = { λ bits copy. words_of copy ≡ words_of bits };
+
+    /// A copy of the set, which shares its words. It fails only if they are shared too often.
+    #[inline(always)]
+    fn clone(&self) -> Result<Self, AllocError> {
+        let rest = match &self.rest {
+            Some(rest) => Some(rest.clone()?),
+            None => None,
+        };
+        Ok(Bits {
+            first: self.first,
+            rest,
+        })
+    }
 }
 
 impl Bits {
-    /// The empty set. It takes memory from `alloc` once a number from 64 on is put in.
-    pub(crate) fn new(alloc: Global) -> Self
-        ensures { (n : ℕ) → has result n ≡ false }
+    /// The empty set.
+    pub(crate) fn none() -> Self
+        ensures words { words_of result ≡ 0 ∷ [] }
+        ensures none { (n : ℕ) → has result n ≡ false }
     {
         Bits {
             first: 0,
-            rest: Vec::new(alloc),
+            rest: None,
         }
     }
 
@@ -43,67 +63,97 @@ impl Bits {
     {
         let mut bits = Bits {
             first: 0,
-            rest: Vec::new(alloc),
+            rest: None,
         };
         for number in numbers {
-            bits.put(*number)?;
+            bits = bits.with(alloc, *number, true, &bits)?;
         }
         Ok(bits)
     }
 
-    /// Puts `number` into the set. If there is no memory, it fails, and the same numbers are in the
-    /// set as before.
-    pub(crate) fn put(&mut self, number: usize) -> Result<(), Error>
-        ensures ok { OnOk result ((n : ℕ) → has self.new n
-            ≡ (if nat_eq number n then true else has self.old n)) }
+    /// This set with `number` in it if `is_in`, or else without it. Copies of this set stay as they
+    /// are. If `number` is 64 or more and the set is `before` again, it shares the words of that,
+    /// so that a key which leaves a set and comes back takes no more memory. It fails only if there
+    /// is no memory.
+    pub(crate) fn with(
+        &self,
+        alloc: Global,
+        number: usize,
+        is_in: bool,
+        before: &Bits,
+    ) -> Result<Self, Error>
+        ensures ok { IfOk result (λ bits. (n : ℕ) → has bits n
+            ≡ (if nat_eq number n then is_in else has self.now n)) }
         ensures err { IfErr result (λ e. e ≡ OutOfMemory) }
     {
+        if number >= WORD {
+            let bits = self.with_word(alloc, number, is_in)?;
+            return if bits == *before {
+                Ok(before.clone()?)
+            } else {
+                Ok(bits)
+            };
+        }
+        let rest = self.clone()?.rest;
+        let bit = 1u64 << number;
+        let first = if is_in {
+            self.first | bit
+        } else {
+            self.first & !bit
+        };
+        Ok(Bits { first, rest })
+    }
+
+    /// The same for a `number` from 64 on, with words of its own.
+    #[inline(never)]
+    fn with_word(&self, alloc: Global, number: usize, is_in: bool) -> Result<Self, Error>
+        requires { 64 ≤ number }
+        ensures ok { IfOk result (λ bits. (n : ℕ) → has bits n
+            ≡ (if nat_eq number n then is_in else has self.now n)) }
+        ensures err { IfErr result (λ e. e ≡ OutOfMemory) }
+    {
+        let index = number / WORD - 1;
+        let len = self.rest().len().max(index + 1);
+        let mut rest = Vec::with_capacity(alloc, len)?;
+        rest.extend_from_slice(self.rest())?;
+        rest.resize(len, 0)?;
         let bit = 1u64 << (number % WORD);
-        let Some(index) = (number / WORD).checked_sub(1) else {
-            self.first |= bit;
-            return Ok(());
-        };
-        let len = self.rest.len().max(index + 1);
-        self.rest.reserve_exact(len - self.rest.len())?;
-        self.rest.resize(len, 0)?;
-        self.rest[index] |= bit;
-        Ok(())
+        let old = rest[index];
+        let word = if is_in { old | bit } else { old & !bit };
+        rest[index] = word;
+        Ok(Bits {
+            first: self.first,
+            rest: Some(ArcSlice::from_vec(rest)?),
+        })
     }
 
-    /// Takes `number` out of the set, if it is in. The other numbers stay.
-    pub(crate) fn take_out(&mut self, number: usize)
-        ensures { (n : ℕ) → has self.new n
-            ≡ (if nat_eq number n then false else has self.old n) }
+    /// The numbers that are in this set and in `other`. It fails only if there is no memory.
+    #[inline(always)]
+    pub(crate) fn common(&self, alloc: Global, other: &Bits) -> Result<Self, Error>
+        ensures ok { IfOk result (λ bits. (n : ℕ) →
+            has bits n ≡ (has self.now n && has other.now n)) }
+        ensures err { IfErr result (λ e. e ≡ OutOfMemory) }
     {
-        let others = !(1u64 << (number % WORD));
-        let Some(index) = (number / WORD).checked_sub(1) else {
-            self.first &= others;
-            return;
-        };
-        if index < self.rest.len() {
-            self.rest[index] &= others;
-            self.trim();
+        let first = self.first & other.first;
+        if self.rest.is_none() {
+            return Ok(Bits { first, rest: None });
         }
-    }
-
-    /// Drops the last words of `rest` as long as they are 0. The same numbers stay in the set. So
-    /// sets of the same numbers also have the same words.
-    fn trim(&mut self)
-        ensures { (i : ℕ) → word_at (words_of self.new) i ≡ word_at (words_of self.old) i }
-    {
-        while let Some(0) = self.rest.last() {
-            self.rest.pop();
+        let mut rest = Vec::new(alloc);
+        for (index, word) in self.rest().iter().enumerate() {
+            rest.push(*word & other.rest().get(index).copied().unwrap_or(0))?;
         }
+        let rest = Some(ArcSlice::from_vec(rest)?);
+        Ok(Bits { first, rest })
     }
 
-    /// Takes all numbers out of the set that are not in `other`. Words at the end may stay that are
-    /// 0, so the set is no longer fit to be compared with others by `==`.
-    pub(crate) fn keep(&mut self, other: &Bits)
-        ensures { (n : ℕ) → has self.new n ≡ (has self.old n && has other.now n) }
+    /// The words of the numbers from 64 on.
+    #[inline(always)]
+    fn rest(&self) -> &[u64]
+        ensures { result.now ≡ rest_of self.now.rest }
     {
-        self.first &= other.first;
-        for index in 0..self.rest.len() {
-            self.rest[index] &= other.rest.get(index).copied().unwrap_or(0);
+        match &self.rest {
+            Some(rest) => rest.as_slice(),
+            None => &[],
         }
     }
 
@@ -113,25 +163,9 @@ impl Bits {
     {
         let word = match (number / WORD).checked_sub(1) {
             None => self.first,
-            Some(index) => self.rest.get(index).copied().unwrap_or(0),
+            Some(index) => self.rest().get(index).copied().unwrap_or(0),
         };
         (word >> (number % WORD)) & 1 == 1
-    }
-
-    /// Whether the set has no number.
-    #[inline(always)]
-    pub(crate) fn is_empty(&self) -> bool
-        ensures { result ≡ has_none (words_of self.now) }
-    {
-        if self.first != 0 {
-            return false;
-        }
-        for word in &self.rest {
-            if *word != 0 {
-                return false;
-            }
-        }
-        true
     }
 
     /// Whether some number is in this set, in `one` and in `other`.
@@ -142,94 +176,97 @@ impl Bits {
         if self.first & one.first & other.first != 0 {
             return true;
         }
-        do_all_meet(&self.rest, &one.rest, &other.rest)
-    }
-
-    /// A hash of the set, which starts from `seed`. The same set always has the same hash, unless
-    /// `keep` has left words that are 0 at its end, and other sets mostly have others.
-    pub(crate) fn digest(&self, seed: u64) -> u64 {
-        let mut digest = mix(seed, self.first);
-        for word in &self.rest {
-            digest = mix(digest, *word);
-        }
-        digest
+        do_all_meet(self.rest(), one.rest(), other.rest())
     }
 }
 
-/// A set that caches may hold, by the numbers of its keys. It is kept once for all positions that
-/// publish it, and known by the position at which it came.
+/// A set that caches may hold, by the numbers of its keys.
 #[derive(Debug, Drop)]
 pub(crate) struct OpenSet {
-    /// Since this position caches may hold it without a break.
-    pub(crate) since: usize,
-    /// The last position at which it was published, but not at the one before.
-    pub(crate) last: usize,
-    /// Its keys.
-    pub(crate) keys: Bits,
+    keys: Bits,
     /// The keys that sign it, if it is a DNSKEY set.
-    pub(crate) signers: Bits,
+    signers: Bits,
 }
 
-impl OpenSet {
-    /// The set without keys and signers, as published at position 0, the new key set.
-    pub(crate) fn none(alloc: Global) -> Self
-        ensures since { result.since ≡ 0 }
-        ensures last { result.last ≡ 0 }
-        ensures keys { (n : ℕ) → has result.keys n ≡ false }
-        ensures signers { (n : ℕ) → has result.signers n ≡ false }
-    {
-        OpenSet {
-            since: 0,
-            last: 0,
-            keys: Bits::new(alloc),
-            signers: Bits::new(alloc),
-        }
-    }
+impl Model for OpenSet {
+    ghost use Rattle.dnssec_judge.specs.Sets.{Numbered, set_of};
 
-    /// A copy of the set, with the positions that are known of it. It fails only if there is no
-    /// memory.
-    pub(crate) fn try_clone(&self) -> Result<Self, Error>
-        ensures ok { IfOk result (λ h. parts_of h ≡ parts_of self.now) }
-        ensures err { IfErr result (λ e. e ≡ OutOfMemory) }
-    {
+    ghost Value = { Numbered };
+
+    ghost view = { set_of };
+}
+
+impl Clone for OpenSet {
+    ghost is_clone = { λ set copy. copy ≡ set };
+
+    /// A copy of the set, which shares its words. It fails only if they are shared too often.
+    #[inline(always)]
+    fn clone(&self) -> Result<Self, AllocError> {
         Ok(OpenSet {
-            since: self.since,
-            last: self.last,
             keys: self.keys.clone()?,
             signers: self.signers.clone()?,
         })
     }
+}
 
-    /// A hash of the keys and the signers. Sets with different hashes are different, unless `keep`
-    /// has changed one of them, and different sets mostly have different hashes.
-    pub(crate) fn digest(&self) -> u64 {
-        digest_of(&self.keys, &self.signers)
+impl OpenSet {
+    /// The set without keys and signers.
+    pub(crate) fn none() -> Self
+        ensures { result ≡ (0 ∷ [], 0 ∷ []) }
+    {
+        OpenSet {
+            keys: Bits::none(),
+            signers: Bits::none(),
+        }
     }
 
-    /// Takes the keys and the signers out that `other` doesn't have. The positions `since` and
-    /// `last` stay.
-    pub(crate) fn keep(&mut self, other: &OpenSet)
-        ensures keys { (n : ℕ) → has self.new.keys n
-            ≡ (has self.old.keys n && has other.now.keys n) }
-        ensures signers { (n : ℕ) → has self.new.signers n
-            ≡ (has self.old.signers n && has other.now.signers n) }
+    /// The set with these keys, and with these that sign it.
+    #[inline(always)]
+    pub(crate) fn of(keys: Bits, signers: Bits) -> Self
+        ensures { result ≡ (words_of keys, words_of signers) }
     {
-        self.keys.keep(&other.keys);
-        self.signers.keep(&other.signers);
+        OpenSet { keys, signers }
+    }
+
+    /// The keys, and the signers, that this set and `other` have. It fails only if there is no
+    /// memory.
+    #[inline(always)]
+    pub(crate) fn common(&self, alloc: Global, other: &OpenSet) -> Result<Self, Error>
+        ensures keys { IfOk result (λ common. (n : ℕ) →
+            has_bit common.0 n ≡ (has_bit self.now.0 n && has_bit other.now.0 n)) }
+        ensures signers { IfOk result (λ common. (n : ℕ) →
+            has_bit common.1 n ≡ (has_bit self.now.1 n && has_bit other.now.1 n)) }
+        ensures err { IfErr result (λ e. e ≡ OutOfMemory) }
+    {
+        Ok(OpenSet {
+            keys: self.keys.common(alloc, &other.keys)?,
+            signers: self.signers.common(alloc, &other.signers)?,
+        })
     }
 
     /// Whether the key with this `number` is in the set, or signs it.
     pub(crate) fn has(&self, number: usize) -> bool
-        ensures { result ≡ (has self.now.keys number || has self.now.signers number) }
+        ensures { result ≡ (has_bit self.now.0 number || has_bit self.now.1 number) }
     {
         self.keys.has(number) || self.signers.has(number)
+    }
+
+    /// Whether the set has no key.
+    #[inline(always)]
+    pub(crate) fn has_no_keys(&self) -> bool
+        ensures { result ≡ has_none self.now.0 }
+    {
+        // A set that has a number shares it with itself.
+        match self.keys.rest {
+            None => self.keys.first == 0,
+            Some(_) => !self.keys.meets_both(&self.keys, &self.keys),
+        }
     }
 
     /// Asked of a DS set: whether one of its keys is in the DNSKEY set `dnskey` and also signs it.
     #[inline(always)]
     pub(crate) fn names_key_of(&self, dnskey: &OpenSet) -> bool
-        ensures { result ≡ meet_three (words_of self.now.keys) (words_of dnskey.now.keys)
-            (words_of dnskey.now.signers) }
+        ensures { result ≡ meet_three self.now.0 dnskey.now.0 dnskey.now.1 }
     {
         self.keys.meets_both(&dnskey.keys, &dnskey.signers)
     }
@@ -238,16 +275,16 @@ impl OpenSet {
     /// key, or one of its keys is in `dnskey` and also signs that set.
     #[inline(always)]
     pub(crate) fn holds_with_keys(&self, dnskey: &OpenSet) -> bool
-        ensures { result ≡ keys_hold (set_of self.now) (set_of dnskey.now) }
+        ensures { result ≡ keys_hold self.now dnskey.now }
     {
-        self.keys.is_empty() || self.names_key_of(dnskey)
+        self.has_no_keys() || self.names_key_of(dnskey)
     }
 
     /// Asked of a DNSKEY set: whether it fits the zone signers `zone` in a chain of trust. One of
     /// its keys then signs the zone.
     #[inline(always)]
     pub(crate) fn holds_with_signers(&self, zone: &OpenSet) -> bool
-        ensures { result ≡ zone_holds (set_of self.now) (set_of zone.now) }
+        ensures { result ≡ zone_holds self.now zone.now }
     {
         // The zone's keys stand for both.
         self.keys.meets_both(&zone.keys, &zone.keys)
@@ -256,16 +293,10 @@ impl OpenSet {
     /// Asked of a DS set: whether it has a chain of trust with the DNSKEY set `dnskey` and the zone
     /// signers `zone`. An empty DS set has one with all.
     pub(crate) fn has_chain(&self, dnskey: &OpenSet, zone: &OpenSet) -> bool
-        ensures { result ≡ sets_have_chain (set_of self.now) (set_of dnskey.now) (set_of zone.now) }
+        ensures { result ≡ sets_have_chain self.now dnskey.now zone.now }
     {
-        self.keys.is_empty() || (self.names_key_of(dnskey) && dnskey.holds_with_signers(zone))
+        self.has_no_keys() || (self.names_key_of(dnskey) && dnskey.holds_with_signers(zone))
     }
-}
-
-/// A hash of the set with these `keys` and `signers`: the one that `OpenSet::digest` answers for
-/// it.
-pub(crate) fn digest_of(keys: &Bits, signers: &Bits) -> u64 {
-    signers.digest(keys.digest(0))
 }
 
 /// Whether some bit is set in all three lists of words, at the same index. Past the end of a list
@@ -282,10 +313,4 @@ fn do_all_meet(words: &[u64], ones: &[u64], others: &[u64]) -> bool
         }
     }
     false
-}
-
-/// The hash `digest` after one more `word` is mixed in.
-fn mix(digest: u64, word: u64) -> u64 {
-    let mixed = (digest ^ word).wrapping_mul(0x9E37_79B9_7F4A_7C15);
-    mixed ^ (mixed >> 32)
 }

@@ -1,6 +1,6 @@
 //! The keys of a record as small numbers.
 ghost use Rattle.std.specs.Prelude.{◌↔◌, ◌≡◌, ◌≤◌, ◌<◌, ℕ, false, true, None, Some, []};
-ghost use Rattle.std.specs.Prelude.{map, nat_eq};
+ghost use Rattle.std.specs.Prelude.{length, map, nat_eq, if◌then◌else◌};
 ghost use Rattle.std.specs.Prelude.{IfOk, IfErr, IfSome, OnOk, vec_len};
 ghost use Rattle.std.specs.List.{insert, list_any, remove};
 ghost use Rattle.dnssec_base.specs.declared.error.Error.TheVariants.{OutOfMemory};
@@ -98,13 +98,13 @@ impl Numbers {
             return Ok(false);
         }
         let around = frame.front.saturating_add(frame.back);
-        if old_len.saturating_sub(len) == 1 && around == len {
-            known.remove(frame.front);
+        if old_len == len + 1 && around == len {
+            known.remove(alloc, frame.front)?;
             return Ok(true);
         }
-        if len.saturating_sub(old_len) == 1 && around == old_len {
+        if len == old_len + 1 && around == old_len {
             let number = self.number_of(&list[frame.front])?;
-            known.insert(frame.front, number)?;
+            known.insert(alloc, frame.front, number)?;
             return Ok(true);
         }
         if old_len == len && self.are(&known.numbers, list) {
@@ -115,8 +115,11 @@ impl Numbers {
             let number = self.number_of(key)?;
             numbers.push(number)?;
         }
-        let bits = Bits::of(alloc, &numbers)?;
-        *known = NumberList { numbers, bits };
+        *known = NumberList {
+            bits: Bits::of(alloc, &numbers)?,
+            numbers,
+            before: known.bits.clone()?,
+        };
         Ok(true)
     }
 
@@ -180,7 +183,12 @@ impl Numbers {
         ensures some { IfSome result (λ n. key_at self.now n ≡ Some (id_of key.now)) }
         ensures none { result ≡ None → (n : ℕ) → key_at self.now n ≡ Some (id_of key.now) → ⊥ }
     {
-        (0..self.keys.len()).find(|number| self.is(*number, key))
+        for number in 0..self.end() {
+            if self.is(number, key) {
+                return Some(number);
+            }
+        }
+        None
     }
 
     /// The least number that no key has. It may be the one after the greatest that is in use.
@@ -205,8 +213,9 @@ impl Numbers {
     }
 
     /// Gives `number`, which no key has, to `key`. It is at most one more than the greatest so far.
-    /// `by_added` stays, and is up to the caller. If there is no memory, it fails and changes
-    /// nothing.
+    /// The search for a free number then goes on after this one (`least`), and one number less may
+    /// be given before the next look for free ones (`left`). `by_added` stays, and is up to the
+    /// caller. If there is no memory, it fails and changes nothing.
     fn write(&mut self, number: usize, key: PublishedKey) -> Result<(), Error>
         requires { number ≤ vec_len self.old.keys }
         ensures ok { OnOk result (key_at self.new number ≡ Some (id_of key)) }
@@ -253,31 +262,24 @@ impl Numbers {
         ensures table { OnOk result (IsTable self.old → IsTable self.new) }
         ensures err { IfErr result (λ e. e ≡ OutOfMemory) }
     {
-        self.drop_last();
         let mut by_added = HashMap::new(alloc);
+        let mut end = 0;
         for (number, key) in self.keys.iter().enumerate() {
             let Some(key) = key else {
                 continue;
             };
             by_added.insert(key.added, number)?;
+            end = number + 1;
         }
+        // No key stands from here on.
+        self.keys.truncate(end);
         let in_use = by_added.len();
-        let room = FEW.max(self.keys.len()).max(in_use.saturating_mul(2));
+        let room = FEW.max(end).max(in_use.saturating_mul(2));
         self.keys.shrink_to(room);
         self.by_added = by_added;
         self.least = 0;
         self.left = room.saturating_sub(in_use);
         Ok(())
-    }
-
-    /// Drops the places at the end of `keys` at which no key stands. Each key keeps its number.
-    fn drop_last(&mut self)
-        ensures same { (n : ℕ) → key_at self.new n ≡ key_at self.old n }
-        ensures kept { self.new ≡ record (self.old) { keys = self.new.keys } }
-    {
-        while let Some(None) = self.keys.last() {
-            self.keys.pop();
-        }
     }
 }
 
@@ -286,6 +288,8 @@ impl Numbers {
 pub(crate) struct NumberList {
     pub(crate) numbers: Vec<usize>,
     pub(crate) bits: Bits,
+    /// The set before the last change. If it comes back, its words do.
+    before: Bits,
     ghost same: { (n : ℕ) → has bits n ≡ list_any (λ number. nat_eq number n) numbers.items },
 }
 
@@ -296,7 +300,8 @@ impl NumberList {
     {
         NumberList {
             numbers: Vec::new(alloc),
-            bits: Bits::new(alloc),
+            bits: Bits::none(),
+            before: Bits::none(),
         }
     }
 
@@ -308,35 +313,51 @@ impl NumberList {
         Ok(NumberList {
             numbers: self.numbers.clone()?,
             bits: self.bits.clone()?,
+            before: self.before.clone()?,
         })
     }
 
     /// Puts `number` into the list at index `place`, counted from 0, and into `bits`. If there is
     /// no memory, it fails, and the list stays as it was.
-    pub(crate) fn insert(&mut self, place: usize, number: usize) -> Result<(), Error>
+    pub(crate) fn insert(&mut self, alloc: Global, place: usize, number: usize) -> Result<(), Error>
         requires { place ≤ vec_len self.old.numbers }
         ensures ok { OnOk result (self.new.numbers.items
             ≡ insert self.old.numbers.items place number) }
         ensures err { IfErr result (λ e. e ≡ OutOfMemory) }
     {
-        let mut bits = self.bits.clone()?;
-        bits.put(number)?;
+        let bits = self.bits.with(alloc, number, true, &self.before)?;
+        let before = self.bits.clone()?;
         self.numbers.insert(place, number)?;
         self.bits = bits;
+        self.before = before;
         Ok(())
     }
 
     /// Takes the number at index `place`, counted from 0, out of the list. It also leaves `bits`,
-    /// unless it stands in the list once more.
-    pub(crate) fn remove(&mut self, place: usize)
+    /// unless it stands in the list once more. If there is no memory, it fails, and the list stays
+    /// as it was.
+    pub(crate) fn remove(&mut self, alloc: Global, place: usize) -> Result<(), Error>
         requires { place < vec_len self.old.numbers }
-        ensures { self.new.numbers.items ≡ remove self.old.numbers.items place }
+        ensures ok { OnOk result (self.new.numbers.items ≡ remove self.old.numbers.items place) }
+        ensures err { IfErr result (λ e. e ≡ OutOfMemory) }
     {
-        let number = self.numbers.remove(place);
-        if !stands_in(number, &self.numbers) {
-            self.bits.take_out(number);
-        }
+        let number = self.numbers[place];
+        let is_in = stands_beside(number, &self.numbers, place);
+        let bits = self.bits.with(alloc, number, is_in, &self.before)?;
+        let before = self.bits.clone()?;
+        self.numbers.remove(place);
+        self.bits = bits;
+        self.before = before;
+        Ok(())
     }
+}
+
+/// Whether `number` stands in `list` at another index than `place`.
+fn stands_beside(number: usize, list: &[usize], place: usize) -> bool
+    requires { place < length list.now }
+    ensures { result ≡ list_any (λ n. nat_eq n number) (remove list.now place) }
+{
+    stands_in(number, &list[..place]) | stands_in(number, &list[place + 1..])
 }
 
 /// Whether `number` stands in `list`.

@@ -1,10 +1,8 @@
 //! Any two sets of the windows are tested once: each new set with all sets of the other kind.
 ghost use Rattle.std.specs.Prelude.{◌≡◌, ◌≤◌, ℕ, true};
-ghost use Rattle.std.specs.List.{Contains};
-ghost use Rattle.dnssec_judge.specs.Sets.{holds, set_of};
-ghost use Rattle.dnssec_judge.specs.declared.sets.held.OpenSet.{OpenSet};
-ghost use Rattle.dnssec_judge.specs.Inner.Window.{AreByAge, IsOpen, Keeps, PairsHold};
-ghost use Rattle.dnssec_judge.specs.Inner.Window.{PairsTested, all_in};
+ghost use Rattle.dnssec_judge.specs.Sets.{holds, meets, Numbered};
+ghost use Rattle.dnssec_judge.specs.Inner.Spans.{PairsTested, Tiles, new_hold, pairs_hold};
+ghost use Rattle.dnssec_judge.specs.Inner.Window.{spans_of};
 
 use super::Window;
 use crate::sets::OpenSet;
@@ -24,9 +22,11 @@ impl Link {
     /// tests only pairs in which a set came at position `tested` or later: the caller knows that
     /// all others fit.
     pub(crate) fn new_sets_hold(self, above: &Window, below: &Window, tested: usize) -> bool
-        ensures { (n : ℕ) → result ≡ true → Keeps n above.now → Keeps n below.now →
-            PairsTested tested (holds self true) above.now below.now →
-            PairsHold (holds self true) above.now below.now }
+        ensures { (at to : ℕ → Numbered) (n : ℕ) → Tiles at n (spans_of above.now) →
+            Tiles to n (spans_of below.now) → PairsTested tested (holds self true)
+            (spans_of above.now) (spans_of below.now) →
+            result ≡ pairs_hold (holds self true) (spans_of above.now)
+            (spans_of below.now) }
     {
         below.hold_with_new(self, true, above, tested)
             && above.hold_with_new(self, false, below, tested)
@@ -35,8 +35,8 @@ impl Link {
     /// Whether `one` and `other` fit in a chain of trust, by this link. If `is_above`, `one` is of
     /// the kind above (the DS set of `Named`, the DNSKEY set of `Signed`). Otherwise `other` is.
     #[inline(always)]
-    fn holds(self, is_above: bool, one: &OpenSet, other: &OpenSet) -> bool
-        ensures { result ≡ holds self is_above (set_of one.now) (set_of other.now) }
+    pub(super) fn holds(self, is_above: bool, one: &OpenSet, other: &OpenSet) -> bool
+        ensures { result ≡ holds self is_above one.now other.now }
     {
         match (self, is_above) {
             (Link::Named, true) => one.holds_with_keys(other),
@@ -45,54 +45,42 @@ impl Link {
             (Link::Signed, false) => other.holds_with_signers(one),
         }
     }
+
+    /// As `holds`, but only by a key of both sets, so that an empty DS set fits none.
+    #[inline(always)]
+    pub(super) fn meet(self, is_above: bool, one: &OpenSet, other: &OpenSet) -> bool
+        ensures { result ≡ meets self is_above one.now other.now }
+    {
+        match (self, is_above) {
+            (Link::Named, true) => one.names_key_of(other),
+            (Link::Named, false) => other.names_key_of(one),
+            (Link::Signed, true) => one.holds_with_signers(other),
+            (Link::Signed, false) => other.holds_with_signers(one),
+        }
+    }
 }
 
-// If there are many sets, a test with all of them first asks what is common to them. So most sets
-// are tested once, and not with each of the others.
 impl Window {
-    /// The sets of the window that came at position `tested` or later, in the order in which they
-    /// came. The slice is empty if none did.
-    fn new_sets(&self, tested: usize) -> &[OpenSet]
-        ensures { AreByAge self.now.sets.items → (h : OpenSet) → IsOpen self.now h →
-            tested ≤ h.since → Contains result.now h }
-    {
-        let first = self.place_from(tested);
-        let (_, new) = self.sets.split_at(first);
-        new
-    }
-
     /// Whether each set of this window fits, by `link`, each set of the window `other` that came at
     /// position `tested` or later. `is_above` says that `other` has the kind above (the DS sets of
     /// `Named`, the DNSKEY sets of `Signed`). Otherwise this window has it.
     #[inline(always)]
     fn hold_with_new(&self, link: Link, is_above: bool, other: &Window, tested: usize) -> bool
-        ensures { (n : ℕ) → result ≡ true → Keeps n self.now → Keeps n other.now →
-            (h : OpenSet) → IsOpen other.now h → tested ≤ h.since →
-            all_in self.now (λ p. holds link is_above (set_of h) p) ≡ true }
+        ensures { (at : ℕ → Numbered) (n : ℕ) → Tiles at n (spans_of other.now) →
+            result ≡ new_hold tested (holds link is_above) (spans_of other.now)
+            (spans_of self.now) }
     {
-        for set in other.new_sets(tested) {
-            if !self.all_hold(link, is_above, set) {
-                return false;
-            }
-        }
-        true
-    }
-
-    /// Whether `set` fits each set of this window in a chain of trust, by `link`. `is_above` says
-    /// that `set` is of the kind above (the DS set of `Named`, the DNSKEY set of `Signed`), and the
-    /// window of the one below. Otherwise it is the other way round.
-    #[inline(always)]
-    pub(super) fn all_hold(&self, link: Link, is_above: bool, set: &OpenSet) -> bool
-        ensures { (n : ℕ) → Keeps n self.now →
-            result ≡ all_in self.now (λ p. holds link is_above (set_of set.now) p) }
-    {
-        if let Some(common) = self.common() {
-            if !common.keys.is_empty() && link.holds(is_above, set, common) {
+        let mut place = other.spans.list.len();
+        while let Some(before) = place.checked_sub(1) {
+            let span = &other.spans.list[before];
+            if span.from < tested {
                 return true;
             }
+            if !self.spans.all_hold(link, is_above, &span.set) {
+                return false;
+            }
+            place = before;
         }
-        self.sets
-            .iter()
-            .all(|other| link.holds(is_above, set, other))
+        true
     }
 }

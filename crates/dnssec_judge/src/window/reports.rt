@@ -1,24 +1,21 @@
 //! A report that a judge keeps, when it is over, and how it lifts the floor of a window.
-ghost use Rattle.std.specs.Prelude.{◌≡◌, ◌<◌, ◌≤◌, ◌+◌, ◌*◌, ℕ, nat_lt, not, true, max};
-ghost use Rattle.std.specs.Prelude.{OnOk, IfErr};
+ghost use Rattle.std.specs.Prelude.{◌≡◌, ◌<◌, ◌≤◌, ◌+◌, ◌*◌, ℕ, nat_lt, not, max};
+ghost use Rattle.std.specs.Prelude.{OnOk, IfErr, IfOk, []};
 ghost use Rattle.dnssec_base.specs.declared.error.Error.TheVariants.{OutOfMemory};
 ghost use Rattle.dnssec_run.specs.Safe.{kind_of};
 ghost use Rattle.dnssec_run.specs.Steps.{base_of};
 ghost use Rattle.dnssec_judge.specs.Inner.Floor.{over_by};
-ghost use Rattle.dnssec_judge.specs.Inner.Window.{AreInOrder, floor_with, is_over_at, most, over};
-ghost use Rattle.dnssec_judge.specs.Inner.Window.{over_any};
+ghost use Rattle.dnssec_judge.specs.Inner.Reports.{IsNoneBefore, floor_with, is_over_at, most};
+ghost use Rattle.dnssec_judge.specs.Inner.Reports.{over_all, over_any};
 
-use super::Window;
 use dnssec_keyset::{Error, Half, UnixTime};
 use dnssec_run::{Mark, SetKind, Steps, retires};
+use std::alloc::Global;
 use std::time::Duration;
-
-/// A window keeps the room for this many reports.
-const FEW_DUES: usize = 4;
 
 /// A report that isn't over yet. Once it is, all below its base is retired.
 #[derive(Clone, Copy, Debug)]
-pub(crate) struct Due {
+pub(super) struct Due {
     over: UnixTime,
     base: usize,
 }
@@ -28,9 +25,8 @@ impl Due {
     /// that it reports is over, and below which position caches then hold no set of the `kind`.
     /// `steps` has the last step of each roll. `None` if the call is no report of the kind, has no
     /// moment, follows no step of its roll, or has a TTL that ends past the greatest `UnixTime`.
-    // Inline, so that no call copies the steps.
     #[inline(always)]
-    pub(crate) fn of(
+    pub(super) fn of(
         mark: Mark,
         moment: Option<UnixTime>,
         steps: &Steps,
@@ -56,94 +52,89 @@ impl Due {
         })
     }
 
-    /// The position below which caches hold no set at `time`, by this report alone: `base` if its
-    /// TTL has passed, else 0.
-    #[tactic(auto, using(std::proofs::lemmas::Grind::common_steps))]
-    fn over(&self, time: UnixTime) -> usize
-        ensures { result ≡ over self.now time }
-    {
-        if self.is_over(time) { self.base } else { 0 }
-    }
-
     /// Whether the TTL of this report has passed at `time`.
     pub(super) fn is_over(&self, time: UnixTime) -> bool
         ensures { result ≡ is_over_at time self.now }
     {
         self.over <= time
     }
-
-    /// Whether `other` need not be kept beside this report: the TTL of this one is over no later,
-    /// and its `base`, the position below which caches then hold no set, is not less.
-    fn beats(&self, other: &Due) -> bool
-        ensures { result ≡ true → (t : ℕ) → over other.now t ≤ over self.now t }
-    {
-        self.over <= other.over && other.base <= self.base
-    }
 }
 
-impl Window {
-    /// Adds the report `due` to `dues`, if there is one, in the order in which their TTLs are over.
-    /// It is left out if the TTL of the report before it is over no later, and caches then hold no
-    /// set below the same or a higher position. If there is no memory, it fails and changes
-    /// nothing.
+/// The reports that aren't over yet.
+#[derive(Debug, Drop)]
+pub(crate) struct Dues {
+    list: Vec<Due>,
+    /// None of them is over before this moment.
+    pub(super) next: UnixTime,
+    ghost none_before: { IsNoneBefore next list.items },
+}
+
+impl Dues {
+    /// No report. It takes its memory from `alloc` as reports come.
+    pub(super) fn none(alloc: Global) -> Self
+        ensures { result.list.items ≡ [] }
+    {
+        Dues {
+            list: Vec::new(alloc),
+            next: UnixTime::from(Duration::from_secs(u64::MAX)),
+        }
+    }
+
+    /// A copy of the reports. It fails only if there is no memory.
+    pub(super) fn try_clone(&self) -> Result<Self, Error>
+        ensures ok { IfOk result (λ dues. dues.list.items ≡ self.now.list.items) }
+        ensures err { IfErr result (λ e. e ≡ OutOfMemory) }
+    {
+        Ok(Dues {
+            list: self.list.clone()?,
+            next: self.next,
+        })
+    }
+
+    /// Adds the report `due`, if there is one. If there is no memory, it fails and changes nothing.
+    #[inline(always)]
+    #[tactic(auto, using(crate::proofs::OneByOne::Windows::over_more))]
     pub(super) fn note(&mut self, due: Option<Due>) -> Result<(), Error>
-        ensures dues { OnOk result ((t : ℕ) → floor_with self.old.floor self.new.dues.items t
-            ≡ max (floor_with self.old.floor self.old.dues.items t) (over_any due t)) }
-        ensures in_order { OnOk result (AreInOrder self.old.dues.items →
-            AreInOrder self.new.dues.items) }
-        ensures kept { OnOk result (self.new ≡ record (self.old) { dues = self.new.dues }) }
+        ensures dues { OnOk result ((t : ℕ) → over_all self.new.list.items t
+            ≡ max (over_all self.old.list.items t) (over_any due t)) }
         ensures err { IfErr result (λ e. e ≡ OutOfMemory) }
     {
         let Some(due) = due else {
             return Ok(());
         };
-        let place = self.dues.partition_point(|other| other.over <= due.over);
-        if self.is_beaten(&due, place) {
-            return Ok(());
+        self.list.push(due)?;
+        if due.over < self.next {
+            self.next = due.over;
         }
-        self.dues.insert(place, due)?;
         Ok(())
     }
 
-    /// Whether `due` need not be kept at index `place` of `dues`, since the TTL of the report right
-    /// before is over no later, and caches then hold no set below the same or a higher position.
-    /// False if no report stands there.
-    fn is_beaten(&self, due: &Due, place: usize) -> bool
-        ensures { result ≡ true → (floor t : ℕ) →
-            over due.now t ≤ floor_with floor self.now.dues.items t }
+    /// The greatest `base` of the reports whose TTL is over at `time`, or `floor` if that is
+    /// greater: caches hold no set of lower positions. With it the other reports. It fails only if
+    /// there is no memory.
+    #[inline(never)]
+    #[tactic(auto, using(std::proofs::lemmas::Grind::common_steps))]
+    pub(super) fn retire(
+        &self,
+        alloc: Global,
+        floor: usize,
+        time: UnixTime,
+    ) -> Result<(usize, Dues), Error>
+        ensures floor { IfOk result (λ left. left.0 ≡ floor_with floor self.now.list.items time) }
+        ensures dues { IfOk result (λ left. (t : ℕ) → time ≤ t →
+            floor_with left.0 left.1.list.items t ≡ floor_with floor self.now.list.items t) }
+        ensures err { IfErr result (λ e. e ≡ OutOfMemory) }
     {
-        let Some(before) = place.checked_sub(1) else {
-            return false;
-        };
-        match self.dues.get(before) {
-            Some(other) => other.beats(due),
-            None => false,
-        }
-    }
-
-    /// Raises `floor`, the least position whose set caches may hold, to the greatest `base` of the
-    /// reports whose TTL is over at `time`, unless it is there already. Drops these reports from
-    /// `dues`.
-    pub(super) fn retire(&mut self, time: UnixTime)
-        ensures floor { AreInOrder self.old.dues.items → self.new.floor
-            ≡ floor_with self.old.floor self.old.dues.items time }
-        ensures dues { (t : ℕ) → time ≤ t → floor_with self.new.floor self.new.dues.items t
-            ≡ floor_with self.old.floor self.old.dues.items t }
-        ensures in_order { AreInOrder self.old.dues.items → AreInOrder self.new.dues.items }
-        ensures rises { self.old.floor ≤ self.new.floor }
-        ensures kept { self.new
-            ≡ record (self.old) { floor = self.new.floor; dues = self.new.dues } }
-    {
-        let mut floor = self.floor;
-        for due in &self.dues {
-            let over = due.over(time);
-            if floor < over {
-                floor = over;
+        let mut risen = floor;
+        let mut left = Dues::none(alloc);
+        for due in &self.list {
+            if due.is_over(time) {
+                risen = risen.max(due.base);
+                continue;
             }
+            left.note(Some(*due))?;
         }
-        self.floor = floor;
-        self.dues.retain(|due| !due.is_over(time));
-        self.dues.shrink_to(FEW_DUES);
+        Ok((risen, left))
     }
 }
 

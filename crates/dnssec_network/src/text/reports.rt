@@ -85,7 +85,8 @@ fn push_lines(
 }
 
 /// Appends to `text` the line of the report that a roll waits for, and nothing if it waits for
-/// none. The report is made at `seconds` since 1970. If memory runs out, `text` may have got a part
+/// none. It is the script's line that makes the report at `seconds` since 1970, or a line that
+/// begins with `not yet:` if the report isn't due. If memory runs out, `text` may have got a part
 /// of the line.
 fn push_line(text: &mut String, report: &Option<DueReport>, seconds: u64) -> Result<(), AllocError>
     ensures { OnOk result (string_bytes text.new

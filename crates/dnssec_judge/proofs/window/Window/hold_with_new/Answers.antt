@@ -1,20 +1,18 @@
--- One set more passes, so each new set does.
-use Rattle.std.proofs.Common.{◌≡◌, ◌∙◌, sym, true}
-use Rattle.dnssec_judge.proofs.{Lists.all-passed, Lists.passed-more}
-use Rattle.dnssec_judge.specs.{Sets.holds, Sets.set_of, Inner.Window.all_in}
+-- A span that came before the position: so did those before it.
+use Rattle.std.proofs.Common.{◌∙◌, ◌≡◌, arith, suc, sym, ap, take}
+use Rattle.dnssec_judge.specs.{Sets.holds, Inner.Spans.all_in, Inner.Spans.new_hold}
+use Rattle.dnssec_judge.specs.Inner.Window.{spans_of}
+use Rattle.dnssec_judge.proofs.OneByOne.Pairs.{passed-before}
 use Rattle.dnssec_judge.proofs.window.Window.hold_with_new.Goals as goal
 
-pub loop-set-preserved : goal.loop-set-preserved
-loop-set-preserved c n k =
-    passed-more
-    (λ h. all_in c.args.self.now (λ p. holds c.args.link c.args.is_above (set_of h) p) ≡ true)
-    c.new_sets-set-items.result.now c.loop-set.set-index c.set-item.result
-    c.loop-set-test.true c.set-item.is (c.loop-set.invariant n k)
-    (sym (c.all_hold.ensures n k) ∙ c.if-not-all_hold.false)
-
-pub returns : goal.returns
-returns c n is k l h held ge =
-    all-passed
-    (λ h. all_in c.args.self.now (λ p. holds c.args.link c.args.is_above (set_of h) p) ≡ true)
-    c.new_sets-set-items.result.now c.loop-set.set-index c.loop-set-test.false
-    (c.loop-set.invariant n k) h (c.new_sets-set-items.ensures l.by_age h held ge)
+pub returns-then-span-tested : goal.returns-then-span-tested
+returns-then-span-tested c at n tiles =
+    let s = c.index-span.result.now in let i = c.in-Some.before in
+    let place : suc i ≡ c.loop-before.place = omega (arith, c.in-Some.ensures) in
+    sym (passed-before at n c.args.tested
+    (λ p. all_in (spans_of c.args.self.now) (holds c.args.link c.args.is_above p.set))
+    (spans_of c.args.other.now) tiles i s (omega (arith, place, c.loop-before.invariant.within))
+    (rw (← c.index-span.ensures) c.if-span-tested.true))
+    ∙ ap (λ k. new_hold c.args.tested (holds c.args.link c.args.is_above)
+    (take k (spans_of c.args.other.now)) (spans_of c.args.self.now)) place
+    ∙ c.loop-before.invariant.passed

@@ -1,7 +1,7 @@
 -- A copy of the zone makes the call, and takes the zone's place if the call is accepted.
-use Rattle.std.proofs.Common.{[], IfErr, Result, Err, Ok, false, length-append, refl, rules, sym}
-use Rattle.std.proofs.Common.{true, ◌++◌, ◌∙◌, ◌∷◌, ◌≡◌}
-use Rattle.dnssec_run.specs.{Moments.moments_of, Record.is_accepted}
+use Rattle.std.proofs.Common.{[], IfErr, Result, Err, Ok, length-append, refl, sym}
+use Rattle.std.proofs.Common.{◌++◌, ◌∙◌, ◌∷◌}
+use Rattle.dnssec_run.specs.Moments.{moments_of}
 use Rattle.dnssec_record.specs.declared.session.Session.{Session}
 use Rattle.dnssec_record.proofs.Sessions.{answered, decides, session_of, speaks, zone_of}
 use Rattle.dnssec_record.proofs.session.Session.accept.Goals as goal
@@ -11,7 +11,7 @@ returns-then-not-is_accepted-clause-ok c = (
   refl,
   λ lines entries so.
       let said = rw c.in-Some.is at c.in_ok-statement.ensures.read in
-      let refused : is_accepted c.in_ok-tried.tried.reply ≡ false = search rules in
+      let refused = sym c.is_accepted.ensures ∙ c.if-not-is_accepted.true in
       let made = c.in_ok-tried.ensures.0 in
       let came = made.comes so.name so.calls entries
       (c.in_ok-next.ensures so.name so.calls entries (zone_of _ so.stands)) in
@@ -30,7 +30,7 @@ returns-then-not-is_accepted-clause-ok c = (
 pub returns-clause-ok : goal.returns-clause-ok
 returns-clause-ok c = λ lines entries so.
     let said = rw c.in-Some.is at c.in_ok-statement.ensures.read in
-    let accepted : is_accepted c.in_ok-tried.tried.reply ≡ true = search rules in
+    let accepted = sym c.is_accepted.ensures ∙ c.if-not-is_accepted.false in
     let made = c.in_ok-tried.ensures.0 in
     let came = made.comes so.name so.calls entries
     (c.in_ok-next.ensures so.name so.calls entries (zone_of _ so.stands)) in

@@ -5,5 +5,5 @@ use Rattle.dnssec_judge.specs.Bits.{has}
 use Rattle.dnssec_judge.proofs.sets.held.Bits.of.Given as goal
 
 abbrev pub invariant-loop-number : goal.invariant-loop-number
-invariant-loop-number l = (n : ℕ) →
-    has l.bits n ≡ list_any (λ number. nat_eq number n) (take l.number-index l.numbers)
+invariant-loop-number l = (n : ℕ) → has l.bits n
+    ≡ list_any (λ number. nat_eq number n) (take l.number-index l.numbers)

@@ -1,85 +1,39 @@
 -- A key more or less between those that stay, or others: then each key has its number.
 use Rattle.std.proofs.Common.{◌≡◌, ◌∙◌, ◌+◌, ◌++◌, ◌∷◌, [], List, ap, arith, length, map, rules}
 use Rattle.std.proofs.Common.{subst, sym, take}
-use Rattle.std.proofs.lemmas.{Bool.false_from_ne_true, List.get_or-map, List.length-map}
-use Rattle.std.proofs.lemmas.List.{map-append, take_all, take_more}
+use Rattle.std.proofs.lemmas.{Bool.false_from_ne_true}
+use Rattle.std.proofs.lemmas.List.{length-map, map_more, take_all}
 use Rattle.dnssec_run.{proofs.Since.same-ids, specs.Published.id_of}
 use Rattle.dnssec_run.specs.{declared.record.PublishedKey.PublishedKey, Origins.same_ids}
-use Rattle.dnssec_judge.proofs.Framed.{other-len, read-left, read-less, read-more}
-use Rattle.dnssec_judge.proofs.Table.{stand-len, stand-on, stand-once, stand-push}
+use Rattle.dnssec_judge.proofs.Framed.{read-left, read-less, read-more}
+use Rattle.dnssec_judge.proofs.Table.{stand_len, stand-on, stand-once, stand-push}
 use Rattle.dnssec_judge.specs.Numbers.{StandFor, key_at}
 use Rattle.dnssec_judge.proofs.sets.numbers.Numbers.read.Goals as goal
-
-pub remove-requires : goal.remove-requires
-remove-requires c = omega (
-  arith,
-  c.args.known.now.numbers.ok.0,
-  c.len-old_len.ensures,
-  c.if-saturating_sub-eq1.true,
-  c.saturating_sub.ensures,
-  c.saturating_add-around.ensures,
-  c.if-around-len.true,
-)
-
-pub insert-requires : goal.insert-requires
-insert-requires c = omega (
-  arith,
-  c.args.known.now.numbers.ok.0,
-  c.len-old_len.ensures,
-  c.saturating_add-around.ensures,
-  c.if-around-old_len.true,
-)
 
 pub returns-then-around-len-clause-ok : goal.returns-then-around-len-clause-ok
 returns-then-around-len-clause-ok c = record {
   extends = λ t. (t, λ n k e. e);
   read = λ was t h keeps.
-      (let known = c.args.known.now.numbers in let list = c.args.list.now in
-      let ids = length-map list id_of in
-      let one : length known.items ≡ length list + 1 = omega (
-        arith,
-        known.ok.0,
-        c.len-old_len.ensures,
-        c.if-saturating_sub-eq1.true,
-        c.saturating_sub.ensures,
-      ) in
-      rw c.remove.ensures (read-less c.args.self.now known.items was (map id_of list) c.args.frame
-      h keeps (omega (
-        arith,
-        c.saturating_add-around.ensures,
-        c.if-around-len.true,
-        ids,
-        one,
-        known.ok.0,
-      )) (omega (arith, ids, one))));
+      (let known = c.args.known.now.numbers in
+      let one : length known.items ≡ length c.args.list.now + 1 =
+      omega (arith, known.ok.0, c.len-old_len.ensures, c.if-old_len-len-2.true) in
+      rw c.in_ok-remove.ensures.ok (read-less c.args.self.now known.items was c.args.list.now
+      c.args.frame h keeps
+      (omega (arith, c.saturating_add-around.ensures, c.if-around-len.true, one, known.ok.0)) one));
 }
 
 pub returns-then-around-old_len-clause-ok : goal.returns-then-around-old_len-clause-ok
 returns-then-around-old_len-clause-ok c = record {
   extends = c.in_ok-number.ensures.extends;
   read = λ was t h keeps.
-      (let list = c.args.list.now in let key = c.index-list-frame.result in
-      let known = c.args.known.now.numbers in let front = c.args.frame.front in
-      let one : length list ≡ length known.items + 1 = omega (
-        arith,
-        known.ok.0,
-        c.len-old_len.ensures,
-        c.if-saturating_sub-eq1-2.true,
-        c.saturating_sub-2.ensures,
-      ) in
-      let around : front + c.args.frame.back ≡ length known.items = omega (
-        arith,
-        known.ok.0,
-        c.len-old_len.ensures,
-        c.saturating_add-around.ensures,
-        c.if-around-old_len.true,
-        one,
-      ) in
-      rw c.in_ok-insert.ensures.ok (read-more c.args.self.now known.items was (map id_of list)
-      c.args.frame h keeps c.number_of.new.self (c.in_ok-number.ensures.extends t).1 around
-      (length-map list id_of ∙ one) c.in_ok-number.number (id_of key)
-      (ap id_of c.index-list-frame.is
-      ∙ sym (get_or-map id_of list front key (id_of key) (omega (arith, around, one))))
+      (let known = c.args.known.now.numbers in
+      let one : length c.args.list.now ≡ length known.items + 1 =
+      omega (arith, known.ok.0, c.len-old_len.ensures, c.if-len-old_len.true) in
+      let around = c.saturating_add-around.ensures in
+      rw c.in_ok-insert.ensures.ok (read-more c.args.self.now known.items was c.args.list.now
+      c.args.frame h keeps c.number_of.new.self (c.in_ok-number.ensures.extends t).1
+      (omega (arith, around, c.if-around-old_len.true, c.len-old_len.ensures, known.ok.0, one)) one
+      c.in_ok-number.number c.index-list-frame.result c.index-list-frame.is
       c.in_ok-number.ensures.ok));
 }
 
@@ -106,9 +60,8 @@ loop-key-preserved c t =
     let pushed : c.push.new.self.items ≡ c.loop-key.numbers.items ++ c.in_ok-number-2.number ∷ [] =
     search rules in
     let ids : map id_of (take (i + 1) list) ≡ map id_of (take i list) ++ id_of key ∷ [] =
-    ap (λ (ks : List PublishedKey). map id_of ks)
-    (take_more list i key c.loop-key-test.true ∙ (λ j. take i list ++ sym c.key-item.is j ∷ []))
-    ∙ map-append id_of (take i list) (key ∷ []) in (
+    map_more id_of list i key c.loop-key-test.true
+    ∙ (λ j. map id_of (take i list) ++ id_of (sym c.key-item.is j) ∷ []) in (
       extends.0,
       λ n k e. extends.1 n k (so.1 n k e),
       rw (pushed, ids) (stand-push c.number_of-in-loop-key.new.self c.loop-key.numbers.items
@@ -132,20 +85,19 @@ returns-clause-ok c = record {
         subst (λ (ks : List PublishedKey). StandFor c.loop-key.self c.loop-key.numbers.items
             (map id_of ks)) (take_all c.loop-key.key-index list c.loop-key-test.false)
             (c.loop-key.invariant t).2,
-        elim c.else-old_len-len-2.branch [
-          | goal.else-old_len-len-2-via-then-old_len-len-2+else-are w ↦
-              false_from_ne_true (same_ids was ids) (λ e. w.are.ensures.no w.if-are.false
-              (rw w.deref.ensures.value (subst (StandFor c.args.self.now known.items)
-              ((same-ids was ids).0 e) h)))
-          | goal.else-old_len-len-2-via-else-old_len-len-2 w ↦
-              other-len was ids (λ e. w.if-old_len-len-2.false (omega (
+        false_from_ne_true (same_ids was ids) (λ e.
+            (let stand = subst (StandFor c.args.self.now known.items) ((same-ids was ids).0 e) h in
+            elim c.else-old_len-len-3.branch [
+              | goal.else-old_len-len-3-via-then-old_len-len-3+else-are w ↦
+                  w.are.ensures.no w.if-are.false (rw w.deref.ensures.value stand)
+              | goal.else-old_len-len-3-via-else-old_len-len-3 w ↦ absurd (omega (
                 arith,
-                e,
-                length-map list id_of,
-                stand-len c.args.self.now known.items was h,
+                w.if-old_len-len-3.false,
                 c.len-old_len.ensures,
                 known.ok.0,
-              )))
-        ],
+                stand_len c.args.self.now known.items ids stand,
+                length-map list id_of,
+              ))
+            ])),
       ));
 }

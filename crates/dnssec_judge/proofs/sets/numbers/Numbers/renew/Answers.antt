@@ -1,54 +1,68 @@
 -- Each key that has a number is known anew.
-use Rattle.std.proofs.Common.{◌≡◌, ◌∙◌, ap, sym, arith, inl, inr, length, refl, subst, ℕ, List}
-use Rattle.std.proofs.lemmas.Option.{none-some, same_Some, slice_get_read}
-use Rattle.std.specs.{Prelude.IsSome, Prelude.nat_eq, Prelude.slice_get, Option.option_map}
-use Rattle.std.proofs.{lemmas.Bool.cases_lt, Common.Option, Common.Some}
-use Rattle.std.specs.HashMap.{get}
-use Rattle.dnssec_run.specs.declared.record.PublishedKey.{PublishedKey}
-use Rattle.dnssec_run.specs.Published.{Id, id_of}
-use Rattle.dnssec_judge.proofs.Table.{key-within, some-update, table-from}
-use Rattle.dnssec_judge.specs.Numbers.{key_in}
+use Rattle.std.proofs.Common.{◌≡◌, ◌<◌, arith, ℕ, Some}
+use Rattle.std.proofs.lemmas.{Bool.Decides.nat_tests, Option.gets, List.get_or_default}
+use Rattle.std.proofs.lemmas.List.{get_or-take, length-take}
+use Rattle.std.specs.{Prelude.IsSome, Prelude.nat_eq, Prelude.slice_get, HashMap.get}
+use Rattle.dnssec_run.specs.Published.{Id}
+use Rattle.dnssec_judge.{proofs.Table.table-from, specs.Numbers.key_at, specs.Numbers.key_in}
 use Rattle.dnssec_judge.proofs.sets.numbers.Numbers.renew.Goals as goal
 
 pub loop-number-preserved : goal.loop-number-preserved
-loop-number-preserved c n k lt e = elim (cases_lt n c.loop-number.number) [
-  | inl less ↦ subst IsSome (sym (c.in_ok-insert.ensures.updates.0 k.1))
-      (some-update (nat_eq c.in-Some.key.added k.1) c.loop-number.number
-      (get nat_eq c.loop-number.by_added k.1) (c.loop-number.invariant n k less e))
-  | inr ge ↦
-      let items = c.deref-key-items.result.now in let item = c.key-item.result in
-      let is : n ≡ c.loop-number.number = omega (arith, lt, ge) in
-      let there = slice_get_read items (length items) c.loop-number.number item refl
-      c.loop-number-test.true c.key-item.is in
-      let same = same_Some (id_of c.in-Some.key) k (sym (ap key_in there
-      ∙ ap (option_map id_of) c.in-Some.is) ∙ ap (λ m. key_in (slice_get items m)) (sym is) ∙ e) in
-      subst (λ at. IsSome (get nat_eq c.insert.new.self at)) (ap (λ (id : Id). id.1) same)
-      (subst IsSome (sym c.in_ok-insert.ensures.updates.1) refl)
-]
+loop-number-preserved c n k lt e =
+    let so = c.loop-number.invariant n k in let new = c.in_ok-insert.ensures.updates in (
+      omega (arith, lt),
+      grind (
+        arith,
+        nat_tests,
+        gets,
+        get_or_default,
+        lt,
+        c.loop-number-test.true,
+        c.key-item.is,
+        c.in-Some.is,
+        e,
+        so,
+        new.0 k.1,
+        new.1,
+      ),
+    )
 
 pub loop-number-preserved-in_default : goal.loop-number-preserved-in_default
-loop-number-preserved-in_default c n k lt e = elim (cases_lt n c.loop-number.number) [
-  | inl less ↦ c.loop-number.invariant n k less e
-  | inr ge ↦
-      let items = c.deref-key-items.result.now in let item = c.key-item.result in
-      let is : n ≡ c.loop-number.number = omega (arith, lt, ge) in
-      let there = slice_get_read items (length items) c.loop-number.number item refl
-      c.loop-number-test.true c.key-item.is in
-      absurd (none-some k (sym (ap key_in there ∙ ap (option_map id_of) c.in_default.is)
-      ∙ ap (λ m. key_in (slice_get items m)) (sym is) ∙ e))
-]
+loop-number-preserved-in_default c n k lt e =
+    grind (
+      c.loop-number.invariant n k,
+      arith,
+      gets,
+      c.loop-number-test.true,
+      get_or_default,
+      lt,
+      c.key-item.is,
+      c.in_default.is,
+      e,
+    )
 
-pub returns-clause-table : goal.returns-clause-table
-returns-clause-table c t =
+pub returns : goal.returns
+returns c =
+    let old = c.args.self.now in let end = c.loop-number.end in
     let items = c.deref-key-items.result.now in
-    let same = c.deref-key-items.ensures.value in
-    let shrunk = c.shrink_to.ensures.items in
-    let at : (n : ℕ) (k : Id) → key_in (slice_get c.shrink_to.new.self.items n) ≡ Some k
-    → key_in (slice_get c.drop_last.new.self.keys.items n) ≡ Some k =
-    (λ n k e. ap (λ (ks : List (Option PublishedKey)). key_in (slice_get ks n)) (sym shrunk) ∙ e) in
-    table-from c.args.self.now _ (λ n k e. sym (c.drop_last.ensures.same n) ∙ at n k e)
+    let all : (n : ℕ) (k : Id) → key_at old n ≡ Some k
+    → (n < end) × IsSome (get nat_eq c.loop-number.by_added k.1) =
     (λ n k e.
-    (let there = ap (λ (ks : List (Option PublishedKey)). key_in (slice_get ks n)) same
-    ∙ at n k e in
-    let within = key-within items n k there in
-    c.loop-number.invariant n k (omega (arith, within, c.loop-number-test.false)) there)) t
+    (let there : key_in (slice_get items n) ≡ Some k = rw c.deref-key-items.ensures.value e in
+    c.loop-number.invariant n k (grind (arith, gets, there, c.loop-number-test.false)) there)) in
+    let same : (n : ℕ) → key_in (slice_get c.shrink_to.new.self.items n) ≡ key_at old n =
+    (λ n. (let so : (k : Id) → key_at old n ≡ Some k → n < end = (λ k e. (all n k e).0) in
+    grind (
+      arith,
+      gets,
+      get_or-take,
+      length-take,
+      get_or_default,
+      c.shrink_to.ensures.items,
+      c.truncate.ensures.items,
+      so,
+    ))) in record {
+      same = same;
+      table = table-from old _ same (λ n k e. (all n k e).1);
+      err = tt;
+    }

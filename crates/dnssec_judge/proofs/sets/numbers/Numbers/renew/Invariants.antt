@@ -7,4 +7,4 @@ use Rattle.dnssec_judge.proofs.sets.numbers.Numbers.renew.Given as goal
 
 abbrev pub invariant-loop-number : goal.invariant-loop-number
 invariant-loop-number l = (n : ℕ) (k : Id) → n < l.number →
-    key_in (slice_get l.key-items n) ≡ Some k → IsSome (get nat_eq l.by_added k.1)
+    key_in (slice_get l.key-items n) ≡ Some k → (n < l.end) × IsSome (get nat_eq l.by_added k.1)

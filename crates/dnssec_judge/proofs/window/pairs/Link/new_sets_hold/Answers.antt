@@ -1,9 +1,20 @@
--- Two sets are tested now, or were before.
-use Rattle.dnssec_judge.proofs.OneByOne.{Pairs.pairs}
+-- The new sets of each window fit all of the other.
+use Rattle.std.proofs.Common.{◌∙◌, ap, false, sym}
+use Rattle.std.specs.Prelude.{◌&&◌}
+use Rattle.dnssec_judge.specs.{Sets.holds, Inner.Spans.new_hold, Inner.Window.spans_of}
+use Rattle.dnssec_judge.proofs.OneByOne.Pairs.{pairs}
 use Rattle.dnssec_judge.proofs.window.pairs.Link.new_sets_hold.Goals as goal
 
 pub returns-then-hold_with_new : goal.returns-then-hold_with_new
-returns-then-hold_with_new c n is k l =
-    pairs c.args.tested c.args.self c.args.above.now c.args.below.now
-    (c.hold_with_new.ensures n c.if-hold_with_new.true l k)
-    (c.hold_with_new-then-hold_with_new.ensures n is k l)
+returns-then-hold_with_new c at to n above below tested =
+    c.hold_with_new-then-hold_with_new.ensures to n below
+    ∙ ap (λ b. b && new_hold c.args.tested (holds c.args.self false) (spans_of c.args.below.now)
+    (spans_of c.args.above.now)) (sym c.if-hold_with_new.true ∙ c.hold_with_new.ensures at n above)
+    ∙ pairs _ _ _ _ tested
+
+pub returns-else-hold_with_new : goal.returns-else-hold_with_new
+returns-else-hold_with_new c at to n above below tested =
+    c.if-hold_with_new.false
+    ∙ ap (λ b. b && new_hold c.args.tested (holds c.args.self false) (spans_of c.args.below.now)
+    (spans_of c.args.above.now)) (sym c.if-hold_with_new.false ∙ c.hold_with_new.ensures at n above)
+    ∙ pairs _ _ _ _ tested

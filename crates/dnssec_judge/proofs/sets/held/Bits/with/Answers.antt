@@ -1,0 +1,23 @@
+-- The bit is written in the first word, or in another.
+use Rattle.std.proofs.Common.{◌≡◌, ◌∙◌, ◌<◌, ◌%◌, ap, arith, if◌then◌else◌, nat_eq, rules}
+use Rattle.std.{proofs.lemmas.Bool.Decides.nat_tests, specs.Int.bit_at}
+use Rattle.dnssec_judge.specs.Bits.{has_bit, words_of}
+use Rattle.dnssec_judge.proofs.Words.{bit-cleared, bit-set, word-of}
+use Rattle.dnssec_judge.proofs.sets.held.Bits.with.Goals as goal
+
+pub returns-clause-ok : goal.returns-clause-ok
+returns-clause-ok c n =
+    let word = c.args.self.now.first in let m = c.args.number in
+    let lt : m < 64 = omega (arith, c.if-number-ge-WORD.false) in
+    let bit : nat_eq (bit_at c.if-is_in.first (n % 64)) 1
+    ≡ (if nat_eq m (n % 64) then c.args.is_in else nat_eq (bit_at word (n % 64)) 1) =
+    elim c.if-is_in.branch [
+      | goal.then-is_in w ↦ grind (arith, w.first-is, w.if-is_in.true, bit-set word m n lt)
+      | goal.else-is_in w ↦ grind (arith, w.first-is, w.if-is_in.false, bit-cleared word m n lt)
+    ] in
+    grind (arith, nat_tests, word-of, bit, c.in_ok-rest.ensures.cases, lt)
+
+pub returns-in_ok-clone-clause-ok : goal.returns-in_ok-clone-clause-ok
+returns-in_ok-clone-clause-ok c n =
+    let same : words_of c.in_ok-clone.field-0 ≡ words_of c.in_ok-bits.bits = search rules in
+    ap (λ words. has_bit words n) same ∙ c.in_ok-bits.ensures.ok n

@@ -1,0 +1,156 @@
+//! The sets that caches may hold, by the positions that publish them, and what all of them have.
+ghost use Rattle.std.specs.Prelude.{◌≡◌, ◌<◌, ◌∷◌, [], IfOk, IfErr, OnOk, length, drop};
+ghost use Rattle.std.specs.Prelude.{◌≤◌, false, true};
+ghost use Rattle.std.specs.{List.All, Option.ForSome};
+ghost use Rattle.dnssec_base.specs.declared.error.Error.TheVariants.{OutOfMemory};
+ghost use Rattle.dnssec_judge.specs.{Sets.holds};
+ghost use Rattle.dnssec_judge.specs.Inner.Spans.{IsIn, all_in, first_span, in_spans, trimmed};
+
+use super::Link;
+use crate::sets::OpenSet;
+use dnssec_keyset::Error;
+use std::alloc::{AllocError, Global};
+use std::collections::VecDeque;
+
+/// A window begins with room for this many spans: before the first roll it has no more.
+const FIRST: usize = 1;
+
+/// So many sets are tested one by one: nothing is known of what they have in common.
+pub(super) const FEW: usize = 4;
+
+/// From a position on a set was published. The span ends where the next one begins.
+#[derive(Debug, Drop)]
+pub(crate) struct Span {
+    pub(super) from: usize,
+    pub(super) set: OpenSet,
+}
+
+impl Clone for Span {
+    ghost is_clone = { λ span copy. copy ≡ span };
+
+    /// A copy of the span. It fails only if there is no memory.
+    fn clone(&self) -> Result<Self, AllocError> {
+        Ok(Span {
+            from: self.from,
+            set: self.set.clone()?,
+        })
+    }
+}
+
+/// The sets that caches may hold, by their spans, in the order of the positions.
+#[derive(Debug, Drop)]
+pub(crate) struct Spans {
+    pub(super) list: VecDeque<Span>,
+    /// Keys and signers that are in each set, as a set, once there are more than a few. What fits
+    /// it by a key fits all sets. So most sets are tested once, and not with each of many others.
+    pub(super) common: Option<OpenSet>,
+    ghost many: { ForSome common (λ set. 4 ≤ length list.items) },
+    ghost in_each: { ForSome common (λ set. All (λ span. IsIn set span.set) list.items) },
+}
+
+impl Spans {
+    /// The spans before the first call: one, of the empty set. It fails only if there is no memory.
+    pub(super) fn new(alloc: Global) -> Result<Self, Error>
+        ensures ok { IfOk result (λ spans. spans.list.items ≡ first_span ∷ []) }
+        ensures err { IfErr result (λ e. e ≡ OutOfMemory) }
+    {
+        let mut list = VecDeque::with_capacity(alloc, FIRST)?;
+        list.push_back(Span {
+            from: 0,
+            set: OpenSet::none(),
+        })?;
+        Ok(Spans { list, common: None })
+    }
+
+    /// A copy of the spans. It fails only if there is no memory.
+    pub(super) fn try_clone(&self) -> Result<Self, Error>
+        ensures ok { IfOk result (λ spans. spans.list.items ≡ self.now.list.items) }
+        ensures err { IfErr result (λ e. e ≡ OutOfMemory) }
+    {
+        let list = self.list.clone()?;
+        let Some(common) = &self.common else {
+            return Ok(Spans { list, common: None });
+        };
+        let common = Some(common.clone()?);
+        Ok(Spans { list, common })
+    }
+
+    /// Whether the key with this `number` is in a set, or signs one.
+    pub(crate) fn has(&self, number: usize) -> bool
+        ensures { result ≡ in_spans self.now.list.items number }
+    {
+        self.list.iter().any(|span| span.set.has(number))
+    }
+
+    /// Drops the spans whose positions all lie below `floor`: caches hold their sets no more. The
+    /// last span stays, since it has no end yet. After an error the spans are of no more use.
+    #[inline(never)]
+    pub(super) fn trim(&mut self, alloc: Global, floor: usize) -> Result<(), Error>
+        ensures ok { OnOk result (self.new.list.items ≡ trimmed floor self.old.list.items) }
+        ensures err { IfErr result (λ e. e ≡ OutOfMemory) }
+    {
+        if !self.has_past(floor) {
+            return Ok(());
+        }
+        self.common = None;
+        while self.has_past(floor) {
+            self.list.pop_front();
+        }
+        if self.list.len() > FEW {
+            self.common = Some(self.common_with(alloc, &self.list[0].set)?);
+        }
+        Ok(())
+    }
+
+    /// Whether the first span ends at position `floor` or below it.
+    #[tactic(auto, using(crate::proofs::OneByOne::Windows::trimmed_short))]
+    #[inline(always)]
+    fn has_past(&self, floor: usize) -> bool
+        ensures yes { result ≡ true → (1 < length self.now.list.items)
+            × (trimmed floor self.now.list.items ≡ trimmed floor (drop 1 self.now.list.items)) }
+        ensures no { result ≡ false → trimmed floor self.now.list.items ≡ self.now.list.items }
+    {
+        match self.list.get(1) {
+            Some(next) => next.from <= floor,
+            None => false,
+        }
+    }
+
+    /// The keys and signers that each set has, and `set` too, as a set: by `common`, or else by a
+    /// look at all. It fails only if there is no memory.
+    #[inline(never)]
+    pub(super) fn common_with(&self, alloc: Global, set: &OpenSet) -> Result<OpenSet, Error>
+        ensures each { IfOk result (λ common. All (λ span. IsIn common span.set)
+            self.now.list.items) }
+        ensures set { IfOk result (λ common. IsIn common set.now) }
+        ensures err { IfErr result (λ e. e ≡ OutOfMemory) }
+    {
+        if let Some(common) = &self.common {
+            let common = common.common(alloc, set)?;
+            return Ok(common);
+        }
+        let mut common = set.clone()?;
+        for place in 0..self.list.len() {
+            common = common.common(alloc, &self.list[place].set)?;
+        }
+        Ok(common)
+    }
+
+    /// Whether `set` fits each set of these spans in a chain of trust, by `link`. `is_above` says
+    /// that `set` is of the kind above (the DS set of `Named`, the DNSKEY set of `Signed`), and the
+    /// spans of the one below. Otherwise it is the other way round.
+    #[inline(always)]
+    #[tactic(auto, using(crate::proofs::OneByOne::Windows::all_held))]
+    pub(super) fn all_hold(&self, link: Link, is_above: bool, set: &OpenSet) -> bool
+        ensures { result ≡ all_in self.now.list.items (holds link is_above set.now) }
+    {
+        if let Some(common) = &self.common {
+            if link.meet(is_above, set, common) {
+                return true;
+            }
+        }
+        self.list
+            .iter()
+            .all(|span| link.holds(is_above, set, &span.set))
+    }
+}
