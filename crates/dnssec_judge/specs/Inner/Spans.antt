@@ -42,7 +42,7 @@ trimmed floor (s ∷ t ∷ ss) =
     if nat_lt floor t.from then s ∷ t ∷ ss else trimmed floor (t ∷ ss)
 
 -- a set has only keys and signers that another has too
-pub record IsIn (p q : Numbered) : Type 0 where
+pub record IsWithin (p q : Numbered) : Type 0 where
   pub keys : (n : ℕ) → has_bit p.0 n ≡ true → has_bit q.0 n ≡ true
   pub signers : (n : ℕ) → has_bit p.1 n ≡ true → has_bit q.1 n ≡ true
 

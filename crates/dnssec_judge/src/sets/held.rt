@@ -5,6 +5,7 @@ ghost use Rattle.std.specs.{List.list_any, Prelude.IfErr, Prelude.IfOk, Prelude.
 ghost use Rattle.dnssec_base.specs.declared.error.Error.TheVariants.{OutOfMemory};
 ghost use Rattle.dnssec_judge.specs.Bits.{HasSome, all_at, has, has_bit, has_none, meet_three};
 ghost use Rattle.dnssec_judge.specs.Bits.{rest_of, words_of};
+ghost use Rattle.dnssec_judge.specs.Inner.Spans.{IsWithin};
 ghost use Rattle.dnssec_judge.specs.Sets.{keys_hold, sets_have_chain, zone_holds};
 
 use dnssec_keyset::Error;
@@ -146,6 +147,14 @@ impl Bits {
         Ok(Bits { first, rest })
     }
 
+    /// Whether it is seen at once that each of these numbers is in `other` too: all are below 64.
+    #[inline(always)]
+    pub(crate) fn is_within(&self, other: &Bits) -> bool
+        ensures { result ≡ true → (n : ℕ) → has self.now n ≡ true → has other.now n ≡ true }
+    {
+        self.rest.is_none() && self.first & other.first == self.first
+    }
+
     /// The words of the numbers from 64 on.
     #[inline(always)]
     fn rest(&self) -> &[u64]
@@ -242,6 +251,14 @@ impl OpenSet {
             keys: self.keys.common(alloc, &other.keys)?,
             signers: self.signers.common(alloc, &other.signers)?,
         })
+    }
+
+    /// Whether it is seen at once that `other` has each key and each signer of this set.
+    #[inline(always)]
+    pub(crate) fn is_within(&self, other: &OpenSet) -> bool
+        ensures { result ≡ true → IsWithin self.now other.now }
+    {
+        self.keys.is_within(&other.keys) && self.signers.is_within(&other.signers)
     }
 
     /// Whether the key with this `number` is in the set, or signs it.

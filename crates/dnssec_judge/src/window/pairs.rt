@@ -21,6 +21,8 @@ impl Link {
     /// For `Named` these are DS sets and DNSKEY sets, for `Signed` DNSKEY sets and zone signers. It
     /// tests only pairs in which a set came at position `tested` or later: the caller knows that
     /// all others fit.
+    // Inline, so that each of its two calls has a link that is known.
+    #[inline(always)]
     pub(crate) fn new_sets_hold(self, above: &Window, below: &Window, tested: usize) -> bool
         ensures { (at to : ℕ → Numbered) (n : ℕ) → Tiles at n (spans_of above.now) →
             Tiles to n (spans_of below.now) → PairsTested tested (holds self true)

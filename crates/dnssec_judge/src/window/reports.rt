@@ -13,6 +13,9 @@ use dnssec_run::{Mark, SetKind, Steps, retires};
 use std::alloc::Global;
 use std::time::Duration;
 
+/// The greatest second since 1970: without a report, none is over before it.
+const NEVER: u64 = u64::MAX;
+
 /// A report that isn't over yet. Once it is, all below its base is retired.
 #[derive(Clone, Copy, Debug)]
 pub(super) struct Due {
@@ -27,21 +30,21 @@ impl Due {
     /// moment, follows no step of its roll, or has a TTL that ends past the greatest `UnixTime`.
     #[inline(always)]
     pub(super) fn of(
-        mark: Mark,
-        moment: Option<UnixTime>,
+        mark: &Mark,
+        moment: &Option<UnixTime>,
         steps: &Steps,
         kind: SetKind,
     ) -> Option<Due>
         ensures { (time : ℕ) → time < most → over_any result time
-            ≡ over_by (kind_of kind) (base_of steps.now) mark moment time }
+            ≡ over_by (kind_of kind) (base_of steps.now) mark.now moment.now time }
     {
-        let Mark::Report { roll, second, ttl } = mark else {
+        let Mark::Report { roll, second, ttl } = *mark else {
             return None;
         };
         if !retires(roll, Half::of_report(second), kind) {
             return None;
         }
-        let moment = moment?;
+        let moment = (*moment)?;
         let ttl = Duration::from_secs(u64::from(ttl));
         if !moment.fits(ttl) {
             return None;
@@ -76,7 +79,7 @@ impl Dues {
     {
         Dues {
             list: Vec::new(alloc),
-            next: UnixTime::from(Duration::from_secs(u64::MAX)),
+            next: UnixTime::from(Duration::from_secs(NEVER)),
         }
     }
 
@@ -109,32 +112,32 @@ impl Dues {
         Ok(())
     }
 
-    /// The greatest `base` of the reports whose TTL is over at `time`, or `floor` if that is
-    /// greater: caches hold no set of lower positions. With it the other reports. It fails only if
-    /// there is no memory.
+    /// Drops the reports whose TTL is over at `time`, and answers the greatest `base` of these, or
+    /// `floor` if that is greater: caches hold no set of lower positions.
     #[inline(never)]
-    #[tactic(auto, using(std::proofs::lemmas::Grind::common_steps))]
-    pub(super) fn retire(
-        &self,
-        alloc: Global,
-        floor: usize,
-        time: UnixTime,
-    ) -> Result<(usize, Dues), Error>
-        ensures floor { IfOk result (λ left. left.0 ≡ floor_with floor self.now.list.items time) }
-        ensures dues { IfOk result (λ left. (t : ℕ) → time ≤ t →
-            floor_with left.0 left.1.list.items t ≡ floor_with floor self.now.list.items t) }
-        ensures err { IfErr result (λ e. e ≡ OutOfMemory) }
+    pub(super) fn retire(&mut self, floor: usize, time: UnixTime) -> usize
+        ensures floor { result ≡ floor_with floor self.old.list.items time }
+        ensures dues { (t : ℕ) → time ≤ t → floor_with result self.new.list.items t
+            ≡ floor_with floor self.old.list.items t }
     {
         let mut risen = floor;
-        let mut left = Dues::none(alloc);
-        for due in &self.list {
+        let mut next = UnixTime::from(Duration::from_secs(NEVER));
+        let mut kept = 0;
+        // While reports change places, any of them may be over.
+        self.next = UnixTime::from(Duration::from_secs(0));
+        for place in 0..self.list.len() {
+            let due = self.list[place];
             if due.is_over(time) {
                 risen = risen.max(due.base);
                 continue;
             }
-            left.note(Some(*due))?;
+            next = next.min(due.over);
+            self.list[kept] = due;
+            kept += 1;
         }
-        Ok((risen, left))
+        self.list.truncate(kept);
+        self.next = next;
+        risen
     }
 }
 

@@ -3,8 +3,9 @@ ghost use Rattle.std.specs.Prelude.{◌≡◌, ◌<◌, ◌∷◌, [], IfOk, IfE
 ghost use Rattle.std.specs.Prelude.{◌≤◌, false, true};
 ghost use Rattle.std.specs.{List.All, Option.ForSome};
 ghost use Rattle.dnssec_base.specs.declared.error.Error.TheVariants.{OutOfMemory};
+ghost use Rattle.dnssec_judge.specs.declared.window.spans.TheConstants.{FEW};
 ghost use Rattle.dnssec_judge.specs.{Sets.holds};
-ghost use Rattle.dnssec_judge.specs.Inner.Spans.{IsIn, all_in, first_span, in_spans, trimmed};
+ghost use Rattle.dnssec_judge.specs.Inner.Spans.{IsWithin, all_in, first_span, in_spans, trimmed};
 
 use super::Link;
 use crate::sets::OpenSet;
@@ -44,8 +45,8 @@ pub(crate) struct Spans {
     /// Keys and signers that are in each set, as a set, once there are more than a few. What fits
     /// it by a key fits all sets. So most sets are tested once, and not with each of many others.
     pub(super) common: Option<OpenSet>,
-    ghost many: { ForSome common (λ set. 4 ≤ length list.items) },
-    ghost in_each: { ForSome common (λ set. All (λ span. IsIn set span.set) list.items) },
+    ghost many: { ForSome common (λ set. FEW ≤ length list.items) },
+    ghost in_each: { ForSome common (λ set. All (λ span. IsWithin set span.set) list.items) },
 }
 
 impl Spans {
@@ -120,9 +121,9 @@ impl Spans {
     /// look at all. It fails only if there is no memory.
     #[inline(never)]
     pub(super) fn common_with(&self, alloc: Global, set: &OpenSet) -> Result<OpenSet, Error>
-        ensures each { IfOk result (λ common. All (λ span. IsIn common span.set)
+        ensures each { IfOk result (λ common. All (λ span. IsWithin common span.set)
             self.now.list.items) }
-        ensures set { IfOk result (λ common. IsIn common set.now) }
+        ensures set { IfOk result (λ common. IsWithin common set.now) }
         ensures err { IfErr result (λ e. e ≡ OutOfMemory) }
     {
         if let Some(common) = &self.common {
@@ -149,8 +150,12 @@ impl Spans {
                 return true;
             }
         }
-        self.list
-            .iter()
-            .all(|span| link.holds(is_above, set, &span.set))
+        // By place, since an iterator's `all` would be a call.
+        for place in 0..self.list.len() {
+            if !link.holds(is_above, set, &self.list[place].set) {
+                return false;
+            }
+        }
+        true
     }
 }

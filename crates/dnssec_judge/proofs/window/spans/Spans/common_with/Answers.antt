@@ -1,7 +1,7 @@
 -- One set more.
 use Rattle.std.proofs.Common.{◌≤◌, arith, length, take}
 use Rattle.std.proofs.lemmas.List.{take_all, take_more, Elements.All-push}
-use Rattle.dnssec_judge.specs.Inner.Spans.{IsIn}
+use Rattle.dnssec_judge.specs.Inner.Spans.{IsWithin}
 use Rattle.dnssec_judge.proofs.OneByOne.Windows.{common_more}
 use Rattle.dnssec_judge.proofs.window.spans.Spans.common_with.Goals as goal
 
@@ -20,7 +20,7 @@ loop-place-preserved c =
     record {
       each = rw (take_more c.args.self.now.list.items place s
           (omega (arith, c.loop-place-test.true, c.len-place-end.ensures)))
-          (rw (← c.index.ensures) (All-push (λ s. IsIn common s.set) spans s new.1 new.0));
+          (rw (← c.index.ensures) (All-push (λ s. IsWithin common s.set) spans s new.1 new.0));
       set = record {
         keys = λ n b. grind (arith, so.keys n, b, was.set.keys n);
         signers = λ n b. grind (arith, so.signers n, b, was.set.signers n);

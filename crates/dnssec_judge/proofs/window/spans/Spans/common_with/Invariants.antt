@@ -1,10 +1,10 @@
 -- What is common so far is in the new set, and in each set so far.
 use Rattle.std.{proofs.Common.take, specs.List.All}
-use Rattle.dnssec_judge.specs.Inner.Spans.{IsIn}
+use Rattle.dnssec_judge.specs.Inner.Spans.{IsWithin}
 use Rattle.dnssec_judge.proofs.window.spans.Spans.common_with.Given as goal
 
 abbrev pub invariant-loop-place : goal.invariant-loop-place
 invariant-loop-place l = record {
-  each : All (λ s. IsIn l.common s.set) (take l.place l.self.list.items);
-  set : IsIn l.common l.set;
+  each : All (λ s. IsWithin l.common s.set) (take l.place l.self.list.items);
+  set : IsWithin l.common l.set;
 }

@@ -1,0 +1,23 @@
+-- A word that is left as it is has only bits of the other.
+use Rattle.std.proofs.{lemmas.Bool.Decides.nat_tests, Common.arith, Common.◌%◌}
+use Rattle.std.proofs.lemmas.Nat.Bits.{bit_at-lt, bit_at-zero, bit_at_and}
+use Rattle.std.proofs.lemmas.List.{get_or_past}
+use Rattle.dnssec_judge.proofs.Words.{word-of}
+use Rattle.dnssec_judge.proofs.sets.held.Bits.is_within.Goals as goal
+
+pub returns-then-is_none : goal.returns-then-is_none
+returns-then-is_none c kept n is_in =
+    let both = bit_at_and c.args.self.now.first c.args.other.now.first (n % 64) in
+    grind (
+      arith,
+      nat_tests,
+      word-of,
+      bit_at-lt,
+      bit_at-zero,
+      get_or_past,
+      c.is_none.ensures,
+      c.if-is_none.true,
+      both,
+      kept,
+      is_in,
+    )

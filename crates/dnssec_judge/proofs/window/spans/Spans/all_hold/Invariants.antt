@@ -1,0 +1,8 @@
+-- The sets up to the place passed.
+use Rattle.std.proofs.Common.{◌≡◌, drop}
+use Rattle.dnssec_judge.specs.{Sets.holds, Inner.Spans.all_in}
+use Rattle.dnssec_judge.proofs.window.spans.Spans.all_hold.Given as goal
+
+abbrev pub invariant-loop-place : goal.invariant-loop-place
+invariant-loop-place l = all_in (drop l.place l.self.list.items) (holds l.link l.is_above l.set)
+    ≡ all_in l.self.list.items (holds l.link l.is_above l.set)

@@ -1,0 +1,8 @@
+-- The sets up to the place are empty.
+use Rattle.std.proofs.Common.{◌≡◌, drop}
+use Rattle.dnssec_judge.specs.{Bits.has_none, Inner.Spans.all_in}
+use Rattle.dnssec_judge.proofs.window.spans.Spans.have_no_keys.Given as goal
+
+abbrev pub invariant-loop-place : goal.invariant-loop-place
+invariant-loop-place l = all_in (drop l.place l.self.list.items) (λ p. has_none p.0)
+    ≡ all_in l.self.list.items (λ p. has_none p.0)
