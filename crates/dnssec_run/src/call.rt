@@ -1,7 +1,6 @@
 //! Calls as values.
-ghost use Rattle.std.specs.Prelude.{◌≡◌, IfOk, IfErr};
+ghost use Rattle.std.specs.Prelude.{◌≡◌, IfOk};
 ghost use Rattle.std.specs.Option.{option_map};
-ghost use Rattle.dnssec_base.specs.declared.error.Error.TheVariants.{OutOfMemory};
 ghost use Rattle.dnssec_keyset.specs.Step.{Step, reply_done, reply_list};
 ghost use Rattle.dnssec_run.specs.Asked.{sets_shown};
 ghost use Rattle.dnssec_run.specs.Recorder.{at_list, put_by, reference_deleted, reference_set};
@@ -13,6 +12,7 @@ use crate::lists::ByList;
 use crate::record::{Mark, Reply};
 use dnssec_base::SecurityAlgorithm;
 use dnssec_keyset::{Action, Available, Error, KeySet, RollType, UnixTime};
+use std::alloc::AllocError;
 
 /// A call that can change a key set, with its arguments.
 ///
@@ -164,8 +164,8 @@ impl<'a> Call<'a> {
     ///
     /// # Errors
     ///
-    /// Only `OutOfMemory`, if there is no memory for the reference of the key that it adds.
-    pub(crate) fn meaning(&self) -> Result<Meaning<'a>, Error>
+    /// If there is no memory for the reference of the key that it adds.
+    pub(crate) fn meaning(&self) -> Result<Meaning<'a>, AllocError>
         ensures moment { IfOk result (λ means. means.moment ≡ call_moment self.now) }
         ensures mark { IfOk result (λ means. means.mark ≡ mark_of self.now) }
         ensures only { IfOk result (λ means. option_map (λ r. r.now) means.reference_set
@@ -177,7 +177,6 @@ impl<'a> Call<'a> {
             ≡ reference_added (call_of self.now)) }
         ensures taken { IfOk result (λ means. taken_by means.change
             ≡ reference_deleted (call_of self.now)) }
-        ensures err { IfErr result (λ e. e ≡ OutOfMemory) }
     {
         // By value: a borrowed field has the whole call copied, 47 instructions of each line.
         match *self {

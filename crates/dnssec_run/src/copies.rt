@@ -1,18 +1,15 @@
 //! Copies of what is published.
-ghost use Rattle.std.specs.Prelude.{◌≡◌, IfOk, IfErr, map};
-ghost use Rattle.dnssec_base.specs.declared.error.Error.TheVariants.{OutOfMemory};
+ghost use Rattle.std.specs.Prelude.{◌≡◌, IfOk, map};
 ghost use Rattle.dnssec_run.specs.Published.{id_of};
 ghost use Rattle.dnssec_run.specs.Recorder.{HasSameKeys};
 
 use crate::record::{Published, PublishedKey};
-use dnssec_keyset::Error;
-use std::alloc::Global;
+use std::alloc::{AllocError, Global};
 
 /// A copy of a list of published keys: the same references and positions in the same order. It
-/// takes its memory from `alloc`, and the only error is `OutOfMemory`.
-fn copy_keys(alloc: Global, keys: &[PublishedKey]) -> Result<Vec<PublishedKey>, Error>
-    ensures ok { IfOk result (λ copies. map id_of copies.items ≡ map id_of keys.now) }
-    ensures err { IfErr result (λ e. e ≡ OutOfMemory) }
+/// takes its memory from `alloc`, and fails only if there is none.
+fn copy_keys(alloc: Global, keys: &[PublishedKey]) -> Result<Vec<PublishedKey>, AllocError>
+    ensures { IfOk result (λ copies. map id_of copies.items ≡ map id_of keys.now) }
 {
     let mut copies = Vec::with_capacity(alloc, keys.len())?;
     for key in keys {
@@ -25,10 +22,9 @@ fn copy_keys(alloc: Global, keys: &[PublishedKey]) -> Result<Vec<PublishedKey>, 
 }
 
 /// A copy of the four lists of what is published, to keep in an entry of a record. It takes its
-/// memory from `alloc`, and the only error is `OutOfMemory`.
-pub(crate) fn copy_sets(alloc: Global, sets: &Published) -> Result<Published, Error>
-    ensures ok { IfOk result (λ copy. HasSameKeys copy sets.now) }
-    ensures err { IfErr result (λ e. e ≡ OutOfMemory) }
+/// memory from `alloc`, and fails only if there is none.
+pub(crate) fn copy_sets(alloc: Global, sets: &Published) -> Result<Published, AllocError>
+    ensures { IfOk result (λ copy. HasSameKeys copy sets.now) }
 {
     Ok(Published {
         ds: copy_keys(alloc, &sets.ds)?,

@@ -1,9 +1,8 @@
 //! The places of one key in the sets.
-ghost use Rattle.std.specs.Prelude.{◌≡◌, ◌≢◌, Bool, None, Some, map, IfOk, IfErr, OnOk, true};
+ghost use Rattle.std.specs.Prelude.{◌≡◌, ◌≢◌, Bool, None, Some, map, IfOk, OnOk, true};
 ghost use Rattle.std.specs.Prelude.{false, length};
 ghost use Rattle.std.specs.BTreeMap as tree;
 ghost use Rattle.std.specs.FinMap.{get};
-ghost use Rattle.dnssec_base.specs.declared.error.Error.TheVariants.{OutOfMemory};
 ghost use Rattle.dnssec_run.specs.Frames.{KeepsFrame, KeepsFrames};
 ghost use Rattle.dnssec_run.specs.Published.{IsPublished, World, id_of};
 ghost use Rattle.dnssec_run.specs.declared.lists.Shown.{Shown};
@@ -12,8 +11,8 @@ ghost use Rattle.dnssec_run.specs.Recorder.{PlacesKey, SaysShownAt, at_list, pas
 
 use crate::lists::{ByList, Shown};
 use crate::record::{Frame, Frames, Published, PublishedKey};
-use dnssec_keyset::{Error, KeySet, KeyType};
-use std::alloc::Global;
+use dnssec_keyset::{KeySet, KeyType};
+use std::alloc::{AllocError, Global};
 use std::collections::BTreeMap;
 
 /// Brings the published lists `sets` up to date after a call that set the key `reference` by hand,
@@ -24,7 +23,7 @@ use std::collections::BTreeMap;
 /// looked up in the key set. `added` has the position of each key's add. `frames` then says how
 /// many keys at the front and at the back of each list stayed.
 ///
-/// The only error is `OutOfMemory`. The lists and `frames` are then of no more use.
+/// It fails only if there is no memory. The lists and `frames` are then of no more use.
 pub(crate) fn renew_key(
     alloc: Global,
     keyset: &KeySet,
@@ -34,14 +33,13 @@ pub(crate) fn renew_key(
     reference: &str,
     says: Option<bool>,
     frames: &mut Frames,
-) -> Result<bool, Error>
+) -> Result<bool, AllocError>
     ensures kept { IfOk result (λ changed. changed ≡ false → sets.new ≡ sets.old) }
     ensures changed { IfOk result (λ changed. changed ≡ true → ¬ HasSameKeys sets.old sets.new) }
     ensures frames { OnOk result (KeepsFrames frames.new sets.old sets.new) }
     ensures read { OnOk result ((v w : World) → IsPublished sets.old v → Leaves touched v w →
         ChangesAt reference.now v w → SaysShownAt says touched reference.now keyset.now →
         Agrees keyset.now (tree.get_by_text added.now) w → IsPublished sets.new w) }
-    ensures err { IfErr result (λ e. e ≡ OutOfMemory) }
 {
     let shown = lists_with(keyset, reference, says);
     let keys = &mut sets.ds;
@@ -113,8 +111,8 @@ fn lists_showing(keytype: &KeyType) -> ByList
 /// changed. If the call touched the list (`is_touched`), `keys` then has the key only if
 /// `is_shown`, with the position of its add, which `added` has. Any other list stays.
 ///
-/// `frame` then says how many keys at the front and at the back of the list stayed. The only error
-/// is `OutOfMemory`. The list and `frame` are then of no more use.
+/// `frame` then says how many keys at the front and at the back of the list stayed. It fails only
+/// if there is no memory. The list and `frame` are then of no more use.
 // It only tests, so that a list that stays costs no call.
 #[inline(always)]
 fn renew_place(
@@ -125,7 +123,7 @@ fn renew_place(
     keys: &mut Vec<PublishedKey>,
     reference: &str,
     frame: &mut Frame,
-) -> Result<bool, Error>
+) -> Result<bool, AllocError>
     ensures kept { IfOk result (λ changed. changed ≡ false → keys.new ≡ keys.old) }
     ensures changed { IfOk result (λ changed. changed ≡ true →
         length keys.old.items ≢ length keys.new.items) }
@@ -135,7 +133,6 @@ fn renew_place(
         reference.now is_shown (map id_of keys.old.items) (map id_of keys.new.items)) }
     ensures left { OnOk result (is_touched ≡ false →
         map id_of keys.new.items ≡ map id_of keys.old.items) }
-    ensures err { IfErr result (λ e. e ≡ OutOfMemory) }
 {
     if !is_touched {
         *frame = Frame {
@@ -152,8 +149,8 @@ fn renew_place(
 /// and at its place in the order of the references. A key that is there already stays, and one
 /// without a position doesn't come in.
 ///
-/// `frame` then says how many keys stand before and after that place. The only error is
-/// `OutOfMemory`. The list and `frame` are then of no more use.
+/// `frame` then says how many keys stand before and after that place. It fails only if
+/// there is no memory. The list and `frame` are then of no more use.
 #[inline(never)]
 fn place_key(
     alloc: Global,
@@ -162,7 +159,7 @@ fn place_key(
     keys: &mut Vec<PublishedKey>,
     reference: &str,
     frame: &mut Frame,
-) -> Result<bool, Error>
+) -> Result<bool, AllocError>
     ensures kept { IfOk result (λ changed. changed ≡ false → keys.new ≡ keys.old) }
     ensures changed { IfOk result (λ changed. changed ≡ true →
         length keys.old.items ≢ length keys.new.items) }
@@ -170,7 +167,6 @@ fn place_key(
         (map id_of keys.new.items)) }
     ensures ok { OnOk result (PlacesKey (tree.get_by_text added.now) reference.now is_shown
         (map id_of keys.old.items) (map id_of keys.new.items)) }
-    ensures err { IfErr result (λ e. e ≡ OutOfMemory) }
 {
     match keys.binary_search_by(|key| key.reference.as_str().cmp(reference)) {
         Ok(place) => {

@@ -24,22 +24,21 @@ use crate::record::{Entry, Frames, Mark, Outcome, Published, Reply, Run};
 use crate::sets::{WalkOrder, renew};
 use dnssec_base::Name;
 use dnssec_keyset::{Error, KeySet};
-use std::alloc::Global;
+use std::alloc::{AllocError, Global};
 use std::collections::BTreeMap;
 
 /// Keeps `added`, the position of each key's add by its reference, up to date after the accepted
 /// call at position `at`. `change` is which key the call added or deleted. Answers whether it added
-/// or deleted one. The only error is `OutOfMemory`, and `added` is then of no more use.
+/// or deleted one. It fails only if there is no memory, and `added` is then of no more use.
 #[tactic(auto, using(std::proofs::lemmas::Map::Text::text_keys))]
 fn note(
     added: &mut BTreeMap<String, usize>,
     change: KeyChange<'_>,
     at: usize,
-) -> Result<bool, Error>
-    ensures ok { OnOk result ((q : List ℕ) → tree.get_by_text added.new q
+) -> Result<bool, AllocError>
+    ensures { OnOk result ((q : List ℕ) → tree.get_by_text added.new q
         ≡ positions_after at (put_by change.entry) (taken_by change.entry)
         (tree.get_by_text added.old) q) }
-    ensures err { IfErr result (λ e. e ≡ OutOfMemory) }
 {
     match change {
         KeyChange::Adds(reference) => {

@@ -1,12 +1,11 @@
 //! What is published of a key set, read in the order of its references. A set is read anew in
 //! place.
-ghost use Rattle.std.specs.Prelude.{◌≡◌, ◌≤◌, ◌++◌, ◌∷◌, [], List, IfOk, IfErr, OnOk, map, true};
+ghost use Rattle.std.specs.Prelude.{◌≡◌, ◌≤◌, ◌++◌, ◌∷◌, [], List, IfOk, OnOk, map, true};
 ghost use Rattle.std.specs.Prelude.{◌||◌, false, IsSome, None, Some, if◌then◌else◌};
 ghost use Rattle.std.specs.Prelude.{string_bytes, vec_len};
 ghost use Rattle.std.specs.BTreeMap as tree;
 ghost use Rattle.std.specs.HashMap as hash;
 ghost use Rattle.std.specs.Option.{option_map};
-ghost use Rattle.dnssec_base.specs.declared.error.Error.TheVariants.{OutOfMemory};
 ghost use Rattle.dnssec_run.specs.Frames.{KeepsFrame, KeepsFrames, frame_with};
 ghost use Rattle.dnssec_run.specs.Published.{IsPublished, World, id_of};
 ghost use Rattle.dnssec_run.specs.Recorder.{Agrees, AreFound, ChangesOnly, HasKept, HasSameKeys};
@@ -16,8 +15,8 @@ ghost use Rattle.dnssec_run.specs.declared.record.PublishedKey.{PublishedKey};
 use crate::lists::{ByList, Shown};
 use crate::places::renew_key;
 use crate::record::{Frame, Frames, Published, PublishedKey};
-use dnssec_keyset::{Error, Key, KeySet, KeyType};
-use std::alloc::Global;
+use dnssec_keyset::{Key, KeySet, KeyType};
+use std::alloc::{AllocError, Global};
 use std::collections::{BTreeMap, HashMap};
 use std::mem;
 
@@ -83,9 +82,9 @@ impl Renewal {
 
     /// Reads the next key of the key set, in the order of the references. The list then has it as
     /// its last read key if `shown` shows a key of this kind. `added` is the position of the call
-    /// that added the key. A list that isn't touched stays as it is. The only error is
-    /// `OutOfMemory`, and the list is then of no more use. It is inlined, since it is called four
-    /// times for each key, and mostly nothing changes.
+    /// that added the key. A list that isn't touched stays as it is. It fails only if there is no
+    /// memory, and the list is then of no more use. It is inlined, since it is called four times
+    /// for each key, and mostly nothing changes.
     #[inline(always)]
     fn show(
         &mut self,
@@ -94,7 +93,7 @@ impl Renewal {
         keytype: &KeyType,
         reference: &String,
         added: usize,
-    ) -> Result<(), Error>
+    ) -> Result<(), AllocError>
         requires { self.old.read ≤ vec_len self.old.keys }
         ensures ok { OnOk result (self.old.is_touched ≡ true →
             ids_read self.new ≡ ids_read self.old
@@ -104,7 +103,6 @@ impl Renewal {
         ensures fits { OnOk result (self.new.read ≤ vec_len self.new.keys) }
         ensures kept { OnOk result ((before : List PublishedKey) → HasKept before self.old →
             HasKept before self.new) }
-        ensures err { IfErr result (λ e. e ≡ OutOfMemory) }
     {
         if !self.is_touched {
             return Ok(());
@@ -127,15 +125,15 @@ impl Renewal {
     /// `reference`, with the position `added` of the call that added the key. Otherwise it takes
     /// out the old key that stands there, if there is one. `around` then says how many keys at the
     /// front and at the back are as before. After `MANY` changes it first drops all old keys that
-    /// aren't read yet, so that the time doesn't grow with the square of their number. The only
-    /// error is `OutOfMemory`. The list is then of no more use.
+    /// aren't read yet, so that the time doesn't grow with the square of their number. It fails
+    /// only if there is no memory. The list is then of no more use.
     fn change(
         &mut self,
         alloc: Global,
         is_shown: bool,
         reference: &str,
         added: usize,
-    ) -> Result<(), Error>
+    ) -> Result<(), AllocError>
         requires { self.old.read ≤ vec_len self.old.keys }
         ensures ok { OnOk result (ids_read self.new ≡ ids_read self.old
             ++ (if is_shown then (reference.now, added) ∷ [] else [])) }
@@ -143,7 +141,6 @@ impl Renewal {
         ensures fits { OnOk result (self.new.read ≤ vec_len self.new.keys) }
         ensures kept { OnOk result ((before : List PublishedKey) → HasKept before self.old →
             HasKept before self.new) }
-        ensures err { IfErr result (λ e. e ≡ OutOfMemory) }
     {
         match self.changes_left.checked_sub(1) {
             Some(left) => self.changes_left = left,
@@ -240,15 +237,14 @@ impl WalkOrder {
     /// their bytes and keeps their order in `self`, which isn't stale any more. Most places are as
     /// before, so the sort begins with the last order.
     ///
-    /// The only error is `OutOfMemory`. The order is then as it was.
+    /// It fails only if there is no memory. The order is then as it was.
     fn walk<'a>(
         &mut self,
         alloc: Global,
         keys: &'a HashMap<String, Key>,
-    ) -> Result<Vec<(&'a String, &'a Key)>, Error>
-        ensures found { IfOk result (λ entries. AreFound (hash.get_by_text keys.now)
+    ) -> Result<Vec<(&'a String, &'a Key)>, AllocError>
+        ensures { IfOk result (λ entries. AreFound (hash.get_by_text keys.now)
             entries.items) }
-        ensures err { IfErr result (λ e. e ≡ OutOfMemory) }
     {
         let entries = keys.iter().collect::<Vec<_>>(alloc)?;
         if self.is_stale {
@@ -307,7 +303,7 @@ fn key_at<'a>(
 /// `None` if its flags decide. Without `only` all keys are read, and the answer is whether a list
 /// is touched, so that it may have changed. `order` keeps the order of the keys for the next call.
 ///
-/// The only error is `OutOfMemory`. The lists are then of no more use.
+/// It fails only if there is no memory. The lists are then of no more use.
 #[inline(always)]
 pub(crate) fn renew(
     alloc: Global,
@@ -319,7 +315,7 @@ pub(crate) fn renew(
     only: Option<&str>,
     says: Option<bool>,
     frames: &mut Frames,
-) -> Result<bool, Error>
+) -> Result<bool, AllocError>
     ensures frames { IfOk result (λ changed. changed ≡ true →
         KeepsFrames frames.new sets.old sets.new) }
     ensures kept { IfOk result (λ changed. changed ≡ false → sets.new ≡ sets.old) }
@@ -332,7 +328,6 @@ pub(crate) fn renew(
         ChangesOnly (option_map (λ r. r.now) only.entry) v w →
         SaysShown says touched (option_map (λ r. r.now) only.entry) keyset.now →
         Agrees keyset.now (tree.get_by_text added.now) w → IsPublished sets.new w) }
-    ensures err { IfErr result (λ e. e ≡ OutOfMemory) }
 {
     if !(touched.ds | touched.dnskey | touched.dnskey_signers | touched.zone_signers) {
         return Ok(false);
@@ -349,7 +344,7 @@ pub(crate) fn renew(
 /// that were published before stay in place. `order` keeps that order for the next call. `frames`
 /// then says how many keys at the front and at the back of each list stayed.
 ///
-/// The only error is `OutOfMemory`. The lists are then of no more use.
+/// It fails only if there is no memory. The lists are then of no more use.
 // Out of line, so that a call that touches no set doesn't clear the room for its lists.
 #[inline(never)]
 fn renew_all(
@@ -360,11 +355,10 @@ fn renew_all(
     sets: &mut Published,
     touched: ByList,
     frames: &mut Frames,
-) -> Result<(), Error>
+) -> Result<(), AllocError>
     ensures frames { OnOk result (KeepsFrames frames.new sets.old sets.new) }
     ensures read { OnOk result ((v w : World) → IsPublished sets.old v → Leaves touched v w →
         Agrees keyset.now (tree.get_by_text added.now) w → IsPublished sets.new w) }
-    ensures err { IfErr result (λ e. e ≡ OutOfMemory) }
 {
     let keys = keyset.keys();
     let mut ds = Renewal::new(alloc, &mut sets.ds, touched.ds);

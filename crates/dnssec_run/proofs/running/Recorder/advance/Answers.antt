@@ -42,7 +42,7 @@ returns c = record {
       let agrees = agrees-accepted n before _ c.make-reply.new.set at
       (tree.get_by_text c.note.new.added) x r ok so.agrees
       (step-after _ _ (call_of x) (reply_of r) c.make-reply.ensures)
-      (λ q. c.in_ok-self.ensures.ok q ∙ (λ i. positions_after n (c.in_ok-meaning.ensures.put i)
+      (λ q. c.in_ok-self.ensures q ∙ (λ i. positions_after n (c.in_ok-meaning.ensures.put i)
       (c.in_ok-meaning.ensures.taken i) at q)) in
       let left = leaves n before after x r (subst (λ (t : KeySetParts × KeySetParts).
       keyset.Step t.0 (call_of x) (reply_of r) t.1) (λ i. (so.agrees.same i, agrees.same i))

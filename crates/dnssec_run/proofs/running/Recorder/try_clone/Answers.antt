@@ -7,7 +7,7 @@ pub returns-clause-same : goal.returns-clause-same
 returns-clause-same c = record {
   keyset = c.in_ok-try_clone.ensures.same;
   added = positions-cloned _ _ c.in_ok-added.ensures.cases;
-  published = c.in_ok-copy_sets.ensures.ok;
+  published = c.in_ok-copy_sets.ensures;
   at = refl;
 }
 

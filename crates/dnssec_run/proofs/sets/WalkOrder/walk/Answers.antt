@@ -14,8 +14,8 @@ lends P f [] h = All-nil (λ a. P (f a))
 lends P f (x ∷ xs) h = All-cons (λ a. P (f a)) x xs (All-head P (f x) (map f xs) h)
     (lends P f xs (All-tail P (f x) (map f xs) h))
 
-pub returns-clause-found : goal.returns-clause-found
-returns-clause-found c =
+pub returns : goal.returns
+returns c =
     let P : String Global × KeyParts → Type 0 =
     λ e. hash.get_by_text c.args.keys.now (string_bytes e.0) ≡ Some e.1 in
     let ran = c.in_ok-entries.ensures.ran in
