@@ -1,10 +1,12 @@
 -- The keys of a record as small numbers: what numbers, and sets of them, stand for.
-use Rattle.std.specs.Prelude.{◌≡◌, ℕ, Bool, true, not, List, map, nat_eq, slice_get, Option, None}
-use Rattle.std.specs.{Prelude.Some, Prelude.IsSome, Option.option_map, List.Contains, HashMap.get}
+use Rattle.std.specs.Prelude.{◌≡◌, ◌≤◌, ℕ, Bool, true, not, List, map, nat_eq, slice_get, Option}
+use Rattle.std.specs.Prelude.{None, Some, IsSome}
+use Rattle.std.specs.{Option.option_map, List.Contains, HashMap.get}
 use Rattle.dnssec_run.specs.declared.{record.PublishedKey.PublishedKey, record.Frame.Frame}
 use Rattle.dnssec_run.specs.{Origins.CachedSet, Origins.same_ids, Published.Id, Published.id_of}
 use Rattle.dnssec_run.specs.Frames.{KeepsFrame}
-use Rattle.dnssec_judge.specs.{declared.sets.numbers.Numbers.Numbers, Sets.Numbered, Bits.has_bit}
+use Rattle.dnssec_judge.specs.declared.sets.numbers.{Numbers.Numbers, TheConstants.FEW}
+use Rattle.dnssec_judge.specs.{Sets.Numbered, Bits.has_bit}
 
 -- what stands at a place: a key, or none
 abbrev pub key_in : Option (Option PublishedKey) → Option Id
@@ -15,10 +17,12 @@ key_in (Some key) = option_map id_of key
 abbrev pub key_at : Numbers → ℕ → Option Id
 key_at t n = key_in (slice_get t.keys.items n)
 
--- no two numbers are of one key, and each key is known by the position of its add
+-- no two numbers are of one key, a key is known by the position of its add, unless its number is
+-- one of a few, and none was added later than the newest
 pub record IsTable (t : Numbers) : Type 0 where
   pub apart : (m n : ℕ) (k : Id) → key_at t m ≡ Some k → key_at t n ≡ Some k → m ≡ n
-  pub known : (n : ℕ) (k : Id) → key_at t n ≡ Some k → IsSome (get nat_eq t.by_added k.1)
+  pub known : (n : ℕ) (k : Id) → FEW ≤ n → key_at t n ≡ Some k → IsSome (get nat_eq t.by_added k.1)
+  pub within : (n : ℕ) (k : Id) → key_at t n ≡ Some k → k.1 ≤ t.newest
 
 -- each key that has a number keeps it
 abbrev pub Grows : Numbers → Numbers → Type 0

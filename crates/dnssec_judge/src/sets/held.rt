@@ -1,14 +1,12 @@
 //! A set that caches may hold, by bits of the numbers of its keys.
 ghost use Rattle.std.specs.Prelude.{◌≡◌, ◌&&◌, ◌||◌, ◌∷◌, ℕ, List, [], false, true, nat_eq};
 ghost use Rattle.std.specs.Prelude.{◌≤◌, if◌then◌else◌};
-ghost use Rattle.std.specs.{List.list_any, Prelude.IfErr, Prelude.IfOk, Prelude.OnOk};
-ghost use Rattle.dnssec_base.specs.declared.error.Error.TheVariants.{OutOfMemory};
+ghost use Rattle.std.specs.{List.list_any, Prelude.IfOk, Prelude.OnOk};
 ghost use Rattle.dnssec_judge.specs.Bits.{HasSome, all_at, has, has_bit, has_none, meet_three};
 ghost use Rattle.dnssec_judge.specs.Bits.{rest_of, words_of};
 ghost use Rattle.dnssec_judge.specs.Inner.Spans.{IsWithin};
 ghost use Rattle.dnssec_judge.specs.Sets.{keys_hold, sets_have_chain, zone_holds};
 
-use dnssec_keyset::Error;
 use std::alloc::{AllocError, Global};
 use std::marker::Model;
 use std::sync::ArcSlice;
@@ -57,19 +55,27 @@ impl Bits {
 
     /// The set of these `numbers`. A number that stands there twice is in it once. It fails only if
     /// there is no memory.
-    pub(crate) fn of(alloc: Global, numbers: &[usize]) -> Result<Self, Error>
-        ensures ok { IfOk result (λ bits. (n : ℕ) →
+    pub(crate) fn of(alloc: Global, numbers: &[usize]) -> Result<Self, AllocError>
+        ensures { IfOk result (λ bits. (n : ℕ) →
             has bits n ≡ list_any (λ number. nat_eq number n) numbers.now) }
-        ensures err { IfErr result (λ e. e ≡ OutOfMemory) }
     {
-        let mut bits = Bits {
-            first: 0,
-            rest: None,
-        };
+        let mut first = 0;
+        let mut rest = Vec::new(alloc);
         for number in numbers {
-            bits = bits.with(alloc, *number, true, &bits)?;
+            let bit = 1u64 << (*number % WORD);
+            let Some(index) = (*number / WORD).checked_sub(1) else {
+                first |= bit;
+                continue;
+            };
+            let len = rest.len().max(index + 1);
+            rest.resize(len, 0)?;
+            rest[index] |= bit;
         }
-        Ok(bits)
+        if rest.is_empty() {
+            return Ok(Bits { first, rest: None });
+        }
+        let rest = Some(ArcSlice::from_vec(rest)?);
+        Ok(Bits { first, rest })
     }
 
     /// This set with `number` in it if `is_in`, or else without it. Copies of this set stay as they
@@ -82,10 +88,9 @@ impl Bits {
         number: usize,
         is_in: bool,
         before: &Bits,
-    ) -> Result<Self, Error>
-        ensures ok { IfOk result (λ bits. (n : ℕ) → has bits n
+    ) -> Result<Self, AllocError>
+        ensures { IfOk result (λ bits. (n : ℕ) → has bits n
             ≡ (if nat_eq number n then is_in else has self.now n)) }
-        ensures err { IfErr result (λ e. e ≡ OutOfMemory) }
     {
         if number >= WORD {
             let bits = self.with_word(alloc, number, is_in)?;
@@ -107,11 +112,10 @@ impl Bits {
 
     /// The same for a `number` from 64 on, with words of its own.
     #[inline(never)]
-    fn with_word(&self, alloc: Global, number: usize, is_in: bool) -> Result<Self, Error>
+    fn with_word(&self, alloc: Global, number: usize, is_in: bool) -> Result<Self, AllocError>
         requires { 64 ≤ number }
-        ensures ok { IfOk result (λ bits. (n : ℕ) → has bits n
+        ensures { IfOk result (λ bits. (n : ℕ) → has bits n
             ≡ (if nat_eq number n then is_in else has self.now n)) }
-        ensures err { IfErr result (λ e. e ≡ OutOfMemory) }
     {
         let index = number / WORD - 1;
         let len = self.rest().len().max(index + 1);
@@ -130,10 +134,9 @@ impl Bits {
 
     /// The numbers that are in this set and in `other`. It fails only if there is no memory.
     #[inline(always)]
-    pub(crate) fn common(&self, alloc: Global, other: &Bits) -> Result<Self, Error>
-        ensures ok { IfOk result (λ bits. (n : ℕ) →
+    pub(crate) fn common(&self, alloc: Global, other: &Bits) -> Result<Self, AllocError>
+        ensures { IfOk result (λ bits. (n : ℕ) →
             has bits n ≡ (has self.now n && has other.now n)) }
-        ensures err { IfErr result (λ e. e ≡ OutOfMemory) }
     {
         let first = self.first & other.first;
         if self.rest.is_none() {
@@ -240,12 +243,11 @@ impl OpenSet {
     /// The keys, and the signers, that this set and `other` have. It fails only if there is no
     /// memory.
     #[inline(always)]
-    pub(crate) fn common(&self, alloc: Global, other: &OpenSet) -> Result<Self, Error>
+    pub(crate) fn common(&self, alloc: Global, other: &OpenSet) -> Result<Self, AllocError>
         ensures keys { IfOk result (λ common. (n : ℕ) →
             has_bit common.0 n ≡ (has_bit self.now.0 n && has_bit other.now.0 n)) }
         ensures signers { IfOk result (λ common. (n : ℕ) →
             has_bit common.1 n ≡ (has_bit self.now.1 n && has_bit other.now.1 n)) }
-        ensures err { IfErr result (λ e. e ≡ OutOfMemory) }
     {
         Ok(OpenSet {
             keys: self.keys.common(alloc, &other.keys)?,

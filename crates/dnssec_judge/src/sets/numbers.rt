@@ -1,20 +1,17 @@
 //! The keys of a record as small numbers.
-ghost use Rattle.std.specs.Prelude.{◌↔◌, ◌≡◌, ◌≤◌, ◌<◌, ℕ, false, true, None, Some, []};
-ghost use Rattle.std.specs.Prelude.{length, map, nat_eq, if◌then◌else◌};
-ghost use Rattle.std.specs.Prelude.{IfOk, IfErr, IfSome, OnOk, vec_len};
+ghost use Rattle.std.specs.Prelude.{◌↔◌, ◌≡◌, ◌≤◌, ◌<◌, ℕ, false, true, None, Some, [], IfOk};
+ghost use Rattle.std.specs.Prelude.{length, map, nat_eq, if◌then◌else◌, vec_len, IfSome, OnOk};
 ghost use Rattle.std.specs.List.{insert, list_any, remove};
-ghost use Rattle.dnssec_base.specs.declared.error.Error.TheVariants.{OutOfMemory};
 ghost use Rattle.dnssec_run.specs.Published.{id_of};
 ghost use Rattle.dnssec_judge.specs.Bits.{has};
 ghost use Rattle.dnssec_judge.specs.Numbers.{Extends, IsRead, IsTable, StandFor, key_at};
 
 use super::held::Bits;
-use dnssec_keyset::Error;
 use dnssec_run::{Frame, PublishedKey};
-use std::alloc::Global;
+use std::alloc::{AllocError, Global};
 use std::collections::HashMap;
 
-/// A table has room for this many keys before numbers are given back.
+/// A table has room for this many keys before numbers are given back. So few are looked at in turn.
 const FEW: usize = 8;
 
 /// A key of a record has the number of the place at which it stands here. Numbers of keys that have
@@ -28,8 +25,10 @@ const FEW: usize = 8;
 #[derive(Debug, Drop)]
 pub(crate) struct Numbers {
     keys: Vec<Option<PublishedKey>>,
-    /// By the position of its add, the number of a key.
+    /// By the position of its add, the number of a key from `FEW` on. Lesser ones are looked at.
     by_added: HashMap<usize, usize>,
+    /// No key was added later than this.
+    newest: usize,
     /// Each number below this one is some key's.
     least: usize,
     /// So many more numbers may be given before it is time to give some back.
@@ -46,6 +45,7 @@ impl Numbers {
         Numbers {
             keys: Vec::new(alloc),
             by_added: HashMap::new(alloc),
+            newest: 0,
             least: 0,
             left: FEW,
         }
@@ -53,10 +53,9 @@ impl Numbers {
 
     /// A copy of the table, in which each key has the same number. It takes its memory from
     /// `alloc`, and fails only if there is none.
-    pub(crate) fn try_clone(&self, alloc: Global) -> Result<Self, Error>
+    pub(crate) fn try_clone(&self, alloc: Global) -> Result<Self, AllocError>
         ensures same { IfOk result (λ copy. (n : ℕ) → key_at copy n ≡ key_at self.now n) }
         ensures table { IfOk result (λ copy. IsTable self.now ↔ IsTable copy) }
-        ensures err { IfErr result (λ e. e ≡ OutOfMemory) }
     {
         let mut keys = Vec::with_capacity(alloc, self.keys.len())?;
         for key in &self.keys {
@@ -72,6 +71,7 @@ impl Numbers {
         Ok(Numbers {
             keys,
             by_added: self.by_added.clone()?,
+            newest: self.newest,
             least: self.least,
             left: self.left,
         })
@@ -79,24 +79,39 @@ impl Numbers {
 
     /// Brings `known`, a list of keys by their numbers, up to `list`, and answers whether that is
     /// another list than before. `frame` has to say truly how many keys at the front and at the
-    /// back stay. A key without a number gets one in this table. After an error neither the table
-    /// nor `known` is of more use.
+    /// back stay. A key without a number gets one. After an error both are of no more use.
+    // Inline, so that a list that stays makes no call.
+    #[inline(always)]
     pub(crate) fn read(
         &mut self,
         alloc: Global,
         list: &[PublishedKey],
         known: &mut NumberList,
         frame: Frame,
-    ) -> Result<bool, Error>
-        ensures ok { IfOk result (IsRead self.old self.new known.old.numbers.items
+    ) -> Result<bool, AllocError>
+        ensures { IfOk result (IsRead self.old self.new known.old.numbers.items
             known.new.numbers.items frame (map id_of list.now)) }
-        ensures err { IfErr result (λ e. e ≡ OutOfMemory) }
+    {
+        if frame.front == list.len() && known.numbers.len() == list.len() {
+            return Ok(false);
+        }
+        self.read_change(alloc, list, known, frame)
+    }
+
+    /// Does what `read` has to do if the frame doesn't say that all keys stay.
+    #[inline(never)]
+    fn read_change(
+        &mut self,
+        alloc: Global,
+        list: &[PublishedKey],
+        known: &mut NumberList,
+        frame: Frame,
+    ) -> Result<bool, AllocError>
+        ensures { IfOk result (IsRead self.old self.new known.old.numbers.items
+            known.new.numbers.items frame (map id_of list.now)) }
     {
         let len = list.len();
         let old_len = known.numbers.len();
-        if frame.front == len && old_len == len {
-            return Ok(false);
-        }
         let around = frame.front.saturating_add(frame.back);
         if old_len == len + 1 && around == len {
             known.remove(alloc, frame.front)?;
@@ -142,6 +157,7 @@ impl Numbers {
     }
 
     /// Whether this is the `number` of `key`.
+    #[inline(always)]
     fn is(&self, number: usize, key: &PublishedKey) -> bool
         ensures yes { result ≡ true → key_at self.now number ≡ Some (id_of key.now) }
         ensures no { result ≡ false → key_at self.now number ≡ Some (id_of key.now) → ⊥ }
@@ -155,35 +171,51 @@ impl Numbers {
 
     /// The number of `key`. If it has none, the table gives it the least number that is free, and
     /// other keys keep theirs. After an error the table is of no more use.
-    pub(crate) fn number_of(&mut self, key: &PublishedKey) -> Result<usize, Error>
+    pub(crate) fn number_of(&mut self, key: &PublishedKey) -> Result<usize, AllocError>
         ensures ok { IfOk result (λ n. key_at self.new n ≡ Some (id_of key.now)) }
         ensures extends { OnOk result (Extends self.old self.new) }
-        ensures err { IfErr result (λ e. e ≡ OutOfMemory) }
     {
-        if let Some(number) = self.by_added.get(&key.added).copied() {
-            if self.is(number, key) {
-                return Ok(number);
-            }
-            if let Some(number) = self.search(key) {
-                return Ok(number);
-            }
+        if let Some(number) = self.find(key) {
+            return Ok(number);
         }
-        let reference = key.reference.clone()?;
         let added = key.added;
+        self.newest = self.newest.max(added);
+        let reference = key.reference.clone()?;
         let number = self.spare_number();
-        self.by_added.insert(added, number)?;
+        if number >= FEW {
+            self.by_added.insert(added, number)?;
+        }
         self.write(number, PublishedKey { added, reference })?;
         Ok(number)
     }
 
-    /// The number of `key` by a look at all keys of the table, or `None` if it has none. It is only
-    /// asked if another key has the same position of its add, which is never so in the record of a
-    /// run.
-    fn search(&self, key: &PublishedKey) -> Option<usize>
+    /// The number of `key`, or `None` if it has none.
+    fn find(&self, key: &PublishedKey) -> Option<usize>
         ensures some { IfSome result (λ n. key_at self.now n ≡ Some (id_of key.now)) }
-        ensures none { result ≡ None → (n : ℕ) → key_at self.now n ≡ Some (id_of key.now) → ⊥ }
+        ensures none { result ≡ None → IsTable self.now → (n : ℕ) →
+            key_at self.now n ≡ Some (id_of key.now) → ⊥ }
     {
-        for number in 0..self.end() {
+        if key.added > self.newest {
+            return None;
+        }
+        if let Some(number) = self.search(key, FEW) {
+            return Some(number);
+        }
+        let number = self.by_added.get(&key.added).copied()?;
+        if self.is(number, key) {
+            return Some(number);
+        }
+        // Never in the record of a run: another key has the same position of its add.
+        self.search(key, self.end())
+    }
+
+    /// The number of `key` if it is below `end`, by a look at all of these, or else `None`.
+    fn search(&self, key: &PublishedKey, end: usize) -> Option<usize>
+        ensures some { IfSome result (λ n. key_at self.now n ≡ Some (id_of key.now)) }
+        ensures none { result ≡ None → (n : ℕ) → n < end →
+            key_at self.now n ≡ Some (id_of key.now) → ⊥ }
+    {
+        for number in 0..end.min(self.keys.len()) {
             if self.is(number, key) {
                 return Some(number);
             }
@@ -197,32 +229,23 @@ impl Numbers {
         ensures within { result ≤ vec_len self.now.keys }
     {
         for number in self.least..self.keys.len() {
-            if self.is_spare(number) {
+            if matches!(self.keys.get(number), Some(None)) {
                 return number;
             }
         }
         self.keys.len()
     }
 
-    /// Whether `keys` has a place for `number` at which no key stands: the number was given back.
-    fn is_spare(&self, number: usize) -> bool
-        ensures none { result ≡ true → key_at self.now number ≡ None }
-        ensures within { result ≡ true → number ≤ vec_len self.now.keys }
-    {
-        matches!(self.keys.get(number), Some(None))
-    }
-
-    /// Gives `number`, which no key has, to `key`. It is at most one more than the greatest so far.
-    /// The search for a free number then goes on after this one (`least`), and one number less may
-    /// be given before the next look for free ones (`left`). `by_added` stays, and is up to the
-    /// caller. If there is no memory, it fails and changes nothing.
-    fn write(&mut self, number: usize, key: PublishedKey) -> Result<(), Error>
+    /// Gives `number`, which no key has, to `key`. The search for a free number then goes on after
+    /// this one (`least`), and one number less may be given before the next look for free ones
+    /// (`left`). All else stays. If there is no memory, it fails and changes nothing.
+    fn write(&mut self, number: usize, key: PublishedKey) -> Result<(), AllocError>
         requires { number ≤ vec_len self.old.keys }
         ensures ok { OnOk result (key_at self.new number ≡ Some (id_of key)) }
         ensures others { OnOk result ((n : ℕ) → (n ≡ number → ⊥) →
             key_at self.new n ≡ key_at self.old n) }
         ensures kept { OnOk result (self.new.by_added ≡ self.old.by_added) }
-        ensures err { IfErr result (λ e. e ≡ OutOfMemory) }
+        ensures newest { OnOk result (self.new.newest ≡ self.old.newest) }
     {
         if number < self.keys.len() {
             self.keys[number] = Some(key);
@@ -257,23 +280,25 @@ impl Numbers {
     /// where on free numbers are sought, and `left`, how many numbers may be given before the next
     /// look for keys that are in no set any more. Each key keeps its number. After an error the
     /// table is of no more use.
-    pub(crate) fn renew(&mut self, alloc: Global) -> Result<(), Error>
+    pub(crate) fn renew(&mut self, alloc: Global) -> Result<(), AllocError>
         ensures same { OnOk result ((n : ℕ) → key_at self.new n ≡ key_at self.old n) }
         ensures table { OnOk result (IsTable self.old → IsTable self.new) }
-        ensures err { IfErr result (λ e. e ≡ OutOfMemory) }
     {
         let mut by_added = HashMap::new(alloc);
+        let mut in_use = 0usize;
         let mut end = 0;
         for (number, key) in self.keys.iter().enumerate() {
             let Some(key) = key else {
                 continue;
             };
-            by_added.insert(key.added, number)?;
+            if number >= FEW {
+                by_added.insert(key.added, number)?;
+            }
+            in_use = in_use.saturating_add(1);
             end = number + 1;
         }
         // No key stands from here on.
         self.keys.truncate(end);
-        let in_use = by_added.len();
         let room = FEW.max(end).max(in_use.saturating_mul(2));
         self.keys.shrink_to(room);
         self.by_added = by_added;
@@ -306,9 +331,8 @@ impl NumberList {
     }
 
     /// A copy of the list, with its set. It fails only if there is no memory.
-    pub(crate) fn try_clone(&self) -> Result<Self, Error>
-        ensures ok { IfOk result (λ list. list.numbers.items ≡ self.now.numbers.items) }
-        ensures err { IfErr result (λ e. e ≡ OutOfMemory) }
+    pub(crate) fn try_clone(&self) -> Result<Self, AllocError>
+        ensures { IfOk result (λ list. list.numbers.items ≡ self.now.numbers.items) }
     {
         Ok(NumberList {
             numbers: self.numbers.clone()?,
@@ -319,11 +343,15 @@ impl NumberList {
 
     /// Puts `number` into the list at index `place`, counted from 0, and into `bits`. If there is
     /// no memory, it fails, and the list stays as it was.
-    pub(crate) fn insert(&mut self, alloc: Global, place: usize, number: usize) -> Result<(), Error>
+    pub(crate) fn insert(
+        &mut self,
+        alloc: Global,
+        place: usize,
+        number: usize,
+    ) -> Result<(), AllocError>
         requires { place ≤ vec_len self.old.numbers }
-        ensures ok { OnOk result (self.new.numbers.items
+        ensures { OnOk result (self.new.numbers.items
             ≡ insert self.old.numbers.items place number) }
-        ensures err { IfErr result (λ e. e ≡ OutOfMemory) }
     {
         let bits = self.bits.with(alloc, number, true, &self.before)?;
         let before = self.bits.clone()?;
@@ -336,10 +364,9 @@ impl NumberList {
     /// Takes the number at index `place`, counted from 0, out of the list. It also leaves `bits`,
     /// unless it stands in the list once more. If there is no memory, it fails, and the list stays
     /// as it was.
-    pub(crate) fn remove(&mut self, alloc: Global, place: usize) -> Result<(), Error>
+    pub(crate) fn remove(&mut self, alloc: Global, place: usize) -> Result<(), AllocError>
         requires { place < vec_len self.old.numbers }
-        ensures ok { OnOk result (self.new.numbers.items ≡ remove self.old.numbers.items place) }
-        ensures err { IfErr result (λ e. e ≡ OutOfMemory) }
+        ensures { OnOk result (self.new.numbers.items ≡ remove self.old.numbers.items place) }
     {
         let number = self.numbers[place];
         let is_in = stands_beside(number, &self.numbers, place);

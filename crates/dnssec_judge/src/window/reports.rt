@@ -1,16 +1,15 @@
 //! A report that a judge keeps, when it is over, and how it lifts the floor of a window.
 ghost use Rattle.std.specs.Prelude.{◌≡◌, ◌<◌, ◌≤◌, ◌+◌, ◌*◌, ℕ, nat_lt, not, max};
-ghost use Rattle.std.specs.Prelude.{OnOk, IfErr, IfOk, []};
-ghost use Rattle.dnssec_base.specs.declared.error.Error.TheVariants.{OutOfMemory};
+ghost use Rattle.std.specs.Prelude.{OnOk, IfOk, []};
 ghost use Rattle.dnssec_run.specs.Safe.{kind_of};
 ghost use Rattle.dnssec_run.specs.Steps.{base_of};
 ghost use Rattle.dnssec_judge.specs.Inner.Floor.{over_by};
 ghost use Rattle.dnssec_judge.specs.Inner.Reports.{IsNoneBefore, floor_with, is_over_at, most};
 ghost use Rattle.dnssec_judge.specs.Inner.Reports.{over_all, over_any};
 
-use dnssec_keyset::{Error, Half, UnixTime};
+use dnssec_keyset::{Half, UnixTime};
 use dnssec_run::{Mark, SetKind, Steps, retires};
-use std::alloc::Global;
+use std::alloc::{AllocError, Global};
 use std::time::Duration;
 
 /// The greatest second since 1970: without a report, none is over before it.
@@ -84,9 +83,8 @@ impl Dues {
     }
 
     /// A copy of the reports. It fails only if there is no memory.
-    pub(super) fn try_clone(&self) -> Result<Self, Error>
-        ensures ok { IfOk result (λ dues. dues.list.items ≡ self.now.list.items) }
-        ensures err { IfErr result (λ e. e ≡ OutOfMemory) }
+    pub(super) fn try_clone(&self) -> Result<Self, AllocError>
+        ensures { IfOk result (λ dues. dues.list.items ≡ self.now.list.items) }
     {
         Ok(Dues {
             list: self.list.clone()?,
@@ -97,10 +95,9 @@ impl Dues {
     /// Adds the report `due`, if there is one. If there is no memory, it fails and changes nothing.
     #[inline(always)]
     #[tactic(auto, using(crate::proofs::OneByOne::Windows::over_more))]
-    pub(super) fn note(&mut self, due: Option<Due>) -> Result<(), Error>
-        ensures dues { OnOk result ((t : ℕ) → over_all self.new.list.items t
+    pub(super) fn note(&mut self, due: Option<Due>) -> Result<(), AllocError>
+        ensures { OnOk result ((t : ℕ) → over_all self.new.list.items t
             ≡ max (over_all self.old.list.items t) (over_any due t)) }
-        ensures err { IfErr result (λ e. e ≡ OutOfMemory) }
     {
         let Some(due) = due else {
             return Ok(());

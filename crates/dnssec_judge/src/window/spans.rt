@@ -1,15 +1,13 @@
 //! The sets that caches may hold, by the positions that publish them, and what all of them have.
-ghost use Rattle.std.specs.Prelude.{◌≡◌, ◌<◌, ◌∷◌, [], IfOk, IfErr, OnOk, length, drop};
+ghost use Rattle.std.specs.Prelude.{◌≡◌, ◌<◌, ◌∷◌, [], IfOk, OnOk, length, drop};
 ghost use Rattle.std.specs.Prelude.{◌≤◌, false, true};
 ghost use Rattle.std.specs.{List.All, Option.ForSome};
-ghost use Rattle.dnssec_base.specs.declared.error.Error.TheVariants.{OutOfMemory};
 ghost use Rattle.dnssec_judge.specs.declared.window.spans.TheConstants.{FEW};
 ghost use Rattle.dnssec_judge.specs.{Sets.holds};
 ghost use Rattle.dnssec_judge.specs.Inner.Spans.{IsWithin, all_in, first_span, in_spans, trimmed};
 
 use super::Link;
 use crate::sets::OpenSet;
-use dnssec_keyset::Error;
 use std::alloc::{AllocError, Global};
 use std::collections::VecDeque;
 
@@ -51,9 +49,8 @@ pub(crate) struct Spans {
 
 impl Spans {
     /// The spans before the first call: one, of the empty set. It fails only if there is no memory.
-    pub(super) fn new(alloc: Global) -> Result<Self, Error>
-        ensures ok { IfOk result (λ spans. spans.list.items ≡ first_span ∷ []) }
-        ensures err { IfErr result (λ e. e ≡ OutOfMemory) }
+    pub(super) fn new(alloc: Global) -> Result<Self, AllocError>
+        ensures { IfOk result (λ spans. spans.list.items ≡ first_span ∷ []) }
     {
         let mut list = VecDeque::with_capacity(alloc, FIRST)?;
         list.push_back(Span {
@@ -64,9 +61,8 @@ impl Spans {
     }
 
     /// A copy of the spans. It fails only if there is no memory.
-    pub(super) fn try_clone(&self) -> Result<Self, Error>
-        ensures ok { IfOk result (λ spans. spans.list.items ≡ self.now.list.items) }
-        ensures err { IfErr result (λ e. e ≡ OutOfMemory) }
+    pub(super) fn try_clone(&self) -> Result<Self, AllocError>
+        ensures { IfOk result (λ spans. spans.list.items ≡ self.now.list.items) }
     {
         let list = self.list.clone()?;
         let Some(common) = &self.common else {
@@ -86,9 +82,8 @@ impl Spans {
     /// Drops the spans whose positions all lie below `floor`: caches hold their sets no more. The
     /// last span stays, since it has no end yet. After an error the spans are of no more use.
     #[inline(never)]
-    pub(super) fn trim(&mut self, alloc: Global, floor: usize) -> Result<(), Error>
-        ensures ok { OnOk result (self.new.list.items ≡ trimmed floor self.old.list.items) }
-        ensures err { IfErr result (λ e. e ≡ OutOfMemory) }
+    pub(super) fn trim(&mut self, alloc: Global, floor: usize) -> Result<(), AllocError>
+        ensures { OnOk result (self.new.list.items ≡ trimmed floor self.old.list.items) }
     {
         if !self.has_past(floor) {
             return Ok(());
@@ -120,11 +115,10 @@ impl Spans {
     /// The keys and signers that each set has, and `set` too, as a set: by `common`, or else by a
     /// look at all. It fails only if there is no memory.
     #[inline(never)]
-    pub(super) fn common_with(&self, alloc: Global, set: &OpenSet) -> Result<OpenSet, Error>
+    pub(super) fn common_with(&self, alloc: Global, set: &OpenSet) -> Result<OpenSet, AllocError>
         ensures each { IfOk result (λ common. All (λ span. IsWithin common span.set)
             self.now.list.items) }
         ensures set { IfOk result (λ common. IsWithin common set.now) }
-        ensures err { IfErr result (λ e. e ≡ OutOfMemory) }
     {
         if let Some(common) = &self.common {
             let common = common.common(alloc, set)?;

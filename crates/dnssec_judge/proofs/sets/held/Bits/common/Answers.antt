@@ -5,8 +5,8 @@ use Rattle.std.proofs.lemmas.List.{get_or_past}
 use Rattle.dnssec_judge.proofs.Words.{word-of}
 use Rattle.dnssec_judge.proofs.sets.held.Bits.common.Goals as goal
 
-pub returns-clause-ok : goal.returns-clause-ok
-returns-clause-ok c n =
+pub returns : goal.returns
+returns c n =
     let rest = c.loop-index.invariant.1 (n / 64 - 1) in
     grind (
       arith,
@@ -20,8 +20,8 @@ returns-clause-ok c n =
       c.loop-index-test.false,
     )
 
-pub returns-then-is_none-clause-ok : goal.returns-then-is_none-clause-ok
-returns-then-is_none-clause-ok c n =
+pub returns-then-is_none : goal.returns-then-is_none
+returns-then-is_none c n =
     grind (
       arith,
       nat_tests,

@@ -5,8 +5,8 @@ use Rattle.dnssec_judge.specs.Bits.{has_bit, words_of}
 use Rattle.dnssec_judge.proofs.Words.{bit-cleared, bit-set, word-of}
 use Rattle.dnssec_judge.proofs.sets.held.Bits.with.Goals as goal
 
-pub returns-clause-ok : goal.returns-clause-ok
-returns-clause-ok c n =
+pub returns : goal.returns
+returns c n =
     let word = c.args.self.now.first in let m = c.args.number in
     let lt : m < 64 = omega (arith, c.if-number-ge-WORD.false) in
     let bit : nat_eq (bit_at c.if-is_in.first (n % 64)) 1
@@ -17,7 +17,7 @@ returns-clause-ok c n =
     ] in
     grind (arith, nat_tests, word-of, bit, c.in_ok-rest.ensures.cases, lt)
 
-pub returns-in_ok-clone-clause-ok : goal.returns-in_ok-clone-clause-ok
-returns-in_ok-clone-clause-ok c n =
+pub returns-in_ok-clone : goal.returns-in_ok-clone
+returns-in_ok-clone c n =
     let same : words_of c.in_ok-clone.field-0 ≡ words_of c.in_ok-bits.bits = search rules in
-    ap (λ words. has_bit words n) same ∙ c.in_ok-bits.ensures.ok n
+    ap (λ words. has_bit words n) same ∙ c.in_ok-bits.ensures n

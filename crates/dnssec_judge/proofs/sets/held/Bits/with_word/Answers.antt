@@ -11,8 +11,8 @@ filled : (words : List ℕ) (m n i : ℕ) → length words ≤ n
     → get_or (take n words ++ replicate m 0) i 0 ≡ get_or words i 0
 filled words m n i le = grind (arith, elements, get_or_past)
 
-pub returns-clause-ok : goal.returns-clause-ok
-returns-clause-ok c n =
+pub returns : goal.returns
+returns c n =
     let old = rest_of c.args.self.now.rest in let index = c.args.number / 64 - 1 in
     let word = c.index-old.result.now in let m = c.args.number % 64 in
     let bit : nat_eq (bit_at c.if-is_in.word (n % 64)) 1

@@ -10,5 +10,5 @@ invariant_of-self-2 c = record {
       (let xs = c.args.self.now.numbers.items in let m = c.args.number in
       let any = list_any-IsPermutation (λ k. nat_eq k n) (m ∷ xs) (insert xs c.args.place m)
       (IsPermutation-insert xs c.args.place m) in
-      grind (arith, any, c.in_ok-bits.ensures.ok n, c.in_ok-insert.ensures.items));
+      grind (arith, any, c.in_ok-bits.ensures n, c.in_ok-insert.ensures.items));
 }

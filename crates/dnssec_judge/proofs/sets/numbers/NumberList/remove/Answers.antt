@@ -16,7 +16,7 @@ invariant_of-self-2 c = record {
       let same : m ≡ n → list_any (λ k. nat_eq k m) rest ≡ list_any (λ k. nat_eq k n) rest =
       (λ e. ap (λ l. list_any (λ k. nat_eq k l) rest) e) in
       let there = rw c.deref.ensures.value at c.stands_beside-is_in.ensures in
-      let bits = c.in_ok-bits.ensures.ok n in
+      let bits = c.in_ok-bits.ensures n in
       let left = c.remove.ensures.items in
       grind (arith, nat_tests, any, same, there, bits, left));
 }

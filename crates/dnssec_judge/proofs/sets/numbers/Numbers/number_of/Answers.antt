@@ -1,28 +1,41 @@
 -- A number that no key had.
-use Rattle.std.proofs.Common.{◌≡◌, ◌∙◌, ap, sym, Some}
-use Rattle.std.specs.{HashMap.get, Prelude.nat_eq}
+use Rattle.std.proofs.Common.{◌≡◌, ◌∙◌, ℕ, ap, arith, refl, Some}
+use Rattle.std.proofs.lemmas.Bool.Decides.{nat_tests}
+use Rattle.std.specs.Prelude.{◌&&◌, if◌then◌else◌, max, nat_eq, nat_le}
+use Rattle.std.specs.{HashMap.get}
 use Rattle.dnssec_run.specs.Published.{id_of}
+use Rattle.dnssec_judge.specs.declared.sets.numbers.TheConstants.{FEW}
 use Rattle.dnssec_judge.specs.Numbers.{key_at}
 use Rattle.dnssec_judge.proofs.Table.{grown}
-use Rattle.std.{proofs.lemmas.Bool.false≢true, specs.Prelude.is_some, proofs.Common.rules}
+use Rattle.std.proofs.Common.{rules}
 use Rattle.dnssec_judge.proofs.sets.numbers.Numbers.number_of.Goals as goal
 
 pub returns : goal.returns
 returns c =
-    let old = c.args.self.now in let new = c.write.new.self in
+    let old = c.args.self.now in let new = c.write.new.self in let mid = c.if-number-ge-FEW.self in
     let number = c.spare_number-number.result in let key = id_of c.args.key.now in
     let here : key_at new number ≡ Some key = c.in_ok-write.ensures.ok ∙ search rules in
+    let places : (n : ℕ) → key_at mid n ≡ key_at old n = elim c.if-number-ge-FEW.branch [
+      | goal.then-number-ge-FEW+in_ok-insert w ↦ λ n. rw w.self-is refl
+      | goal.else-number-ge-FEW w ↦ λ n. rw w.self-is refl
+    ] in
+    let known : (at : ℕ) → get nat_eq mid.by_added at ≡ (if nat_le FEW number && nat_eq key.1 at
+    then Some number else get nat_eq old.by_added at) = elim c.if-number-ge-FEW.branch [
+      | goal.then-number-ge-FEW+in_ok-insert w ↦ λ at. (let new = w.in_ok-insert.ensures.updates in
+          grind (arith, nat_tests, w.self-is, w.if-number-ge-FEW.true, new.0 at))
+      | goal.else-number-ge-FEW w ↦ λ at.
+          grind (arith, nat_tests, w.self-is, w.if-number-ge-FEW.false)
+    ] in
+    let newest : new.newest ≡ max old.newest key.1 = elim c.if-number-ge-FEW.branch [
+      | goal.then-number-ge-FEW+in_ok-insert w ↦
+          grind (arith, w.self-is, c.in_ok-write.ensures.newest, c.max-self.ensures)
+      | goal.else-number-ge-FEW w ↦
+          grind (arith, w.self-is, c.in_ok-write.ensures.newest, c.max-self.ensures)
+    ] in
     record {
       ok = here;
       extends = grown old new number key c.spare_number-number.ensures.none here
-          c.in_ok-write.ensures.others
-          (λ p. ap (λ m. get nat_eq m p) c.in_ok-write.ensures.kept
-          ∙ c.in_ok-insert.ensures.updates.0 p)
-          (λ t n e. elim c.match-copied.branch [
-            | goal.in-Some+else-is+in_default-search w ↦
-                w.search.ensures.none w.in_default-search.is n e
-            | goal.in_default w ↦ false≢true (ap is_some (sym w.in_default.is ∙ c.copied.ensures
-                ∙ c.get.ensures.value) ∙ t.known n key e)
-          ]);
-      err = tt;
+          (λ n isnt. c.in_ok-write.ensures.others n isnt ∙ places n)
+          (λ p. ap (λ m. get nat_eq m p) c.in_ok-write.ensures.kept ∙ known p) newest
+          (c.find.ensures.none c.in_default.is);
     }

@@ -1,31 +1,44 @@
 -- Each key that has a number is known anew.
-use Rattle.std.proofs.Common.{◌≡◌, ◌<◌, arith, ℕ, Some}
+use Rattle.std.proofs.Common.{◌≡◌, ◌<◌, ◌≤◌, arith, refl, ℕ, Some}
 use Rattle.std.proofs.lemmas.{Bool.Decides.nat_tests, Option.gets, List.get_or_default}
 use Rattle.std.proofs.lemmas.List.{get_or-take, length-take}
 use Rattle.std.specs.{Prelude.IsSome, Prelude.nat_eq, Prelude.slice_get, HashMap.get}
 use Rattle.dnssec_run.specs.Published.{Id}
+use Rattle.dnssec_judge.specs.declared.sets.numbers.TheConstants.{FEW}
 use Rattle.dnssec_judge.{proofs.Table.table-from, specs.Numbers.key_at, specs.Numbers.key_in}
 use Rattle.dnssec_judge.proofs.sets.numbers.Numbers.renew.Goals as goal
 
 pub loop-number-preserved : goal.loop-number-preserved
 loop-number-preserved c n k lt e =
-    let so = c.loop-number.invariant n k in let new = c.in_ok-insert.ensures.updates in (
-      omega (arith, lt),
-      grind (
+    let so = c.loop-number.invariant n k in
+    let there : FEW ≤ n → IsSome (get nat_eq c.if-number-ge-FEW.by_added k.1) =
+    λ few. (elim c.if-number-ge-FEW.branch [
+      | goal.then-number-ge-FEW+in_ok-insert w ↦ grind (
         arith,
         nat_tests,
         gets,
         get_or_default,
         lt,
+        few,
         c.loop-number-test.true,
         c.key-item.is,
         c.in-Some.is,
         e,
         so,
-        new.0 k.1,
-        new.1,
-      ),
-    )
+        w.by_added-is,
+        w.in_ok-insert.ensures.updates.0 k.1,
+        w.in_ok-insert.ensures.updates.1,
+      )
+      | goal.else-number-ge-FEW w ↦ grind (
+        arith,
+        lt,
+        few,
+        e,
+        so,
+        w.by_added-is,
+        w.if-number-ge-FEW.false,
+      )
+    ]) in (omega (arith, lt), there)
 
 pub loop-number-preserved-in_default : goal.loop-number-preserved-in_default
 loop-number-preserved-in_default c n k lt e =
@@ -46,7 +59,7 @@ returns c =
     let old = c.args.self.now in let end = c.loop-number.end in
     let items = c.deref-key-items.result.now in
     let all : (n : ℕ) (k : Id) → key_at old n ≡ Some k
-    → (n < end) × IsSome (get nat_eq c.loop-number.by_added k.1) =
+    → (n < end) × (FEW ≤ n → IsSome (get nat_eq c.loop-number.by_added k.1)) =
     (λ n k e.
     (let there : key_in (slice_get items n) ≡ Some k = rw c.deref-key-items.ensures.value e in
     c.loop-number.invariant n k (grind (arith, gets, there, c.loop-number-test.false)) there)) in
@@ -63,6 +76,5 @@ returns c =
       so,
     ))) in record {
       same = same;
-      table = table-from old _ same (λ n k e. (all n k e).1);
-      err = tt;
+      table = table-from old _ same (λ n k few e. (all n k e).1 few) refl;
     }
