@@ -195,9 +195,9 @@ impl Bits {
 /// A set that caches may hold, by the numbers of its keys.
 #[derive(Debug, Drop)]
 pub(crate) struct OpenSet {
-    keys: Bits,
+    pub(crate) keys: Bits,
     /// The keys that sign it, if it is a DNSKEY set.
-    signers: Bits,
+    pub(crate) signers: Bits,
 }
 
 impl Model for OpenSet {
@@ -230,14 +230,6 @@ impl OpenSet {
             keys: Bits::none(),
             signers: Bits::none(),
         }
-    }
-
-    /// The set with these keys, and with these that sign it.
-    #[inline(always)]
-    pub(crate) fn of(keys: Bits, signers: Bits) -> Self
-        ensures { result ≡ (words_of keys, words_of signers) }
-    {
-        OpenSet { keys, signers }
     }
 
     /// The keys, and the signers, that this set and `other` have. It fails only if there is no

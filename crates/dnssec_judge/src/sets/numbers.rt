@@ -10,6 +10,7 @@ use super::held::Bits;
 use dnssec_run::{Frame, PublishedKey};
 use std::alloc::{AllocError, Global};
 use std::collections::HashMap;
+use std::mem;
 
 /// A table has room for this many keys before numbers are given back. So few are looked at in turn.
 const FEW: usize = 8;
@@ -36,8 +37,7 @@ pub(crate) struct Numbers {
 }
 
 impl Numbers {
-    /// A table of keys by their numbers, in which no key has one yet. It takes its memory from
-    /// `alloc` as it grows.
+    /// A table in which no key has a number yet. It takes its memory from `alloc` as it grows.
     pub(crate) fn new(alloc: Global) -> Self
         ensures table { IsTable result }
         ensures none { (n : ℕ) → key_at result n ≡ None }
@@ -79,7 +79,7 @@ impl Numbers {
 
     /// Brings `known`, a list of keys by their numbers, up to `list`, and answers whether that is
     /// another list than before. `frame` has to say truly how many keys at the front and at the
-    /// back stay. A key without a number gets one. After an error both are of no more use.
+    /// back stay. A key without a number gets one. After an error neither table nor list is of use.
     // Inline, so that a list that stays makes no call.
     #[inline(always)]
     pub(crate) fn read(
@@ -125,7 +125,10 @@ impl Numbers {
         if old_len == len && self.are(&known.numbers, list) {
             return Ok(false);
         }
-        let mut numbers = Vec::with_capacity(alloc, len)?;
+        // Its room is used again.
+        let old = mem::replace(known, NumberList::none(alloc));
+        let mut numbers = old.numbers;
+        numbers.clear();
         for key in list {
             let number = self.number_of(key)?;
             numbers.push(number)?;
@@ -133,7 +136,7 @@ impl Numbers {
         *known = NumberList {
             bits: Bits::of(alloc, &numbers)?,
             numbers,
-            before: known.bits.clone()?,
+            before: old.bits,
         };
         Ok(true)
     }
@@ -175,10 +178,15 @@ impl Numbers {
         ensures ok { IfOk result (λ n. key_at self.new n ≡ Some (id_of key.now)) }
         ensures extends { OnOk result (Extends self.old self.new) }
     {
-        if let Some(number) = self.find(key) {
-            return Ok(number);
-        }
         let added = key.added;
+        if added <= self.newest {
+            if let Some(number) = self.search(key, FEW) {
+                return Ok(number);
+            }
+            if let Some(number) = self.find(key) {
+                return Ok(number);
+            }
+        }
         self.newest = self.newest.max(added);
         let reference = key.reference.clone()?;
         let number = self.spare_number();
@@ -189,18 +197,12 @@ impl Numbers {
         Ok(number)
     }
 
-    /// The number of `key`, or `None` if it has none.
+    /// The number of `key` from `FEW` on, or `None` if it has none of these.
     fn find(&self, key: &PublishedKey) -> Option<usize>
         ensures some { IfSome result (λ n. key_at self.now n ≡ Some (id_of key.now)) }
-        ensures none { result ≡ None → IsTable self.now → (n : ℕ) →
+        ensures none { result ≡ None → IsTable self.now → (n : ℕ) → FEW ≤ n →
             key_at self.now n ≡ Some (id_of key.now) → ⊥ }
     {
-        if key.added > self.newest {
-            return None;
-        }
-        if let Some(number) = self.search(key, FEW) {
-            return Some(number);
-        }
         let number = self.by_added.get(&key.added).copied()?;
         if self.is(number, key) {
             return Some(number);
@@ -216,8 +218,10 @@ impl Numbers {
             key_at self.now n ≡ Some (id_of key.now) → ⊥ }
     {
         for number in 0..end.min(self.keys.len()) {
-            if self.is(number, key) {
-                return Some(number);
+            if let Some(other) = &self.keys[number] {
+                if *other == *key {
+                    return Some(number);
+                }
             }
         }
         None
@@ -236,9 +240,8 @@ impl Numbers {
         self.keys.len()
     }
 
-    /// Gives `number`, which no key has, to `key`. The search for a free number then goes on after
-    /// this one (`least`), and one number less may be given before the next look for free ones
-    /// (`left`). All else stays. If there is no memory, it fails and changes nothing.
+    /// Gives `number`, which no key has, to `key`. Free numbers are then sought after it (`least`),
+    /// and `left` is one less. If there is no memory, it fails and changes nothing.
     fn write(&mut self, number: usize, key: PublishedKey) -> Result<(), AllocError>
         requires { number ≤ vec_len self.old.keys }
         ensures ok { OnOk result (key_at self.new number ≡ Some (id_of key)) }
@@ -276,10 +279,8 @@ impl Numbers {
         }
     }
 
-    /// Brings the table up to date after `give_back`: the numbers in `by_added`, `least`, from
-    /// where on free numbers are sought, and `left`, how many numbers may be given before the next
-    /// look for keys that are in no set any more. Each key keeps its number. After an error the
-    /// table is of no more use.
+    /// Brings `by_added`, `least` and `left` up to date after `give_back`. Each key keeps its
+    /// number. After an error the table is of no more use.
     pub(crate) fn renew(&mut self, alloc: Global) -> Result<(), AllocError>
         ensures same { OnOk result ((n : ℕ) → key_at self.new n ≡ key_at self.old n) }
         ensures table { OnOk result (IsTable self.old → IsTable self.new) }
@@ -361,9 +362,8 @@ impl NumberList {
         Ok(())
     }
 
-    /// Takes the number at index `place`, counted from 0, out of the list. It also leaves `bits`,
-    /// unless it stands in the list once more. If there is no memory, it fails, and the list stays
-    /// as it was.
+    /// Takes the number at index `place`, counted from 0, out of the list, and out of `bits` unless
+    /// it stands there once more. If there is no memory, it fails, and the list stays as it was.
     pub(crate) fn remove(&mut self, alloc: Global, place: usize) -> Result<(), AllocError>
         requires { place < vec_len self.old.numbers }
         ensures { OnOk result (self.new.numbers.items ≡ remove self.old.numbers.items place) }

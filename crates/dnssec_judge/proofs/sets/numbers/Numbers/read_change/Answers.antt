@@ -49,7 +49,7 @@ returns-then-are c = record {
 
 pub loop-key-init : goal.loop-key-init
 loop-key-init c t =
-    let none : c.in_ok-numbers.numbers.items ≡ [] = search rules in
+    let none : c.clear.new.self.items ≡ [] = search rules in
     (t, λ n k e. e, ap (map (key_at c.args.self.now)) none)
 
 pub loop-key-preserved : goal.loop-key-preserved
