@@ -8,10 +8,9 @@ use Rattle.std.proofs.lemmas.List.{take-append-drop}
 use Rattle.std.specs.Prelude.{Option, unwrap_or}
 use Rattle.dnssec_run.specs.declared.record.{Frame.Frame, Frames.Frames, Published.Published}
 use Rattle.dnssec_run.specs.declared.record.PublishedKey.{PublishedKey}
-use Rattle.dnssec_run.specs.declared.sets.Renewal.{Renewal}
 use Rattle.dnssec_run.specs.Frames.{KeepsFrame, KeepsFrames, KeepsSet, frame_with, frames_in}
 use Rattle.dnssec_run.specs.Frames.{no_frame, whole}
-use Rattle.dnssec_run.specs.Recorder.{HasKept, KeptBy}
+use Rattle.dnssec_run.specs.Recorder.{HasKept, KeptBy, Reading}
 use Rattle.dnssec_run.specs.Origins.{set_in}
 use Rattle.dnssec_run.specs.Published.{Id, id_of}
 use Rattle.dnssec_run.specs.Safe.{SetKind, Ds, Dnskey, ZoneSigners}
@@ -209,40 +208,41 @@ abbrev Kept : List PublishedKey → Vec PublishedKey Global → ℕ → Frame �
 Kept before keys read frame = KeepsFrame frame (ids before) (ids keys.items)
     × (frame.front ≤ read) × (vec_len keys ≤ read + frame.back)
 
-pub kept-more : (before : List PublishedKey) (old : Renewal) (keys : Vec PublishedKey Global)
+pub kept-more : (before : List PublishedKey) (old : Reading) (keys : Vec PublishedKey Global)
     (read n : ℕ) (frame : Frame) → HasKept before old
-    → KeepsFrame (record { front = old.read; back = n }) (ids old.keys.items) (ids keys.items)
-    → old.read + n ≤ vec_len old.keys → frame ≡ frame_with old.around old.read n
-    → old.read ≤ read → vec_len keys ≤ read + n → Kept before keys read frame
+    → KeepsFrame (record { front = old.at.read; back = n }) (ids old.keys.items) (ids keys.items)
+    → old.at.read + n ≤ vec_len old.keys → frame ≡ frame_with old.at.around old.at.read n
+    → old.at.read ≤ read → vec_len keys ≤ read + n → Kept before keys read frame
 kept-more before old keys read n frame kept step fits is further long =
-    subst (Kept before keys read) (sym is) (by old.around kept)
+    subst (Kept before keys read) (sym is) (by old.at.around kept)
   where
-    by : (o : Option Frame) → KeptBy o before old → Kept before keys read (frame_with o old.read n)
+    by : (o : Option Frame) → KeptBy o before old
+        → Kept before keys read (frame_with o old.at.read n)
     by None same = (
-      subst (λ (l : List PublishedKey). KeepsFrame (record { front = old.read; back = n }) (ids l)
-          (ids keys.items)) same step,
+      subst (λ (l : List PublishedKey). KeepsFrame (record { front = old.at.read; back = n })
+          (ids l) (ids keys.items)) same step,
       further,
       long,
     )
     by (Some f) k = (
       keeps-both (ids before) (ids old.keys.items) (ids keys.items) f
-          (record { front = old.read; back = n }) k.0 step k.1 (omega (arith, k.2, fits)),
+          (record { front = old.at.read; back = n }) k.0 step k.1 (omega (arith, k.2, fits)),
       omega (arith, k.1, further),
       long,
     )
 
 -- the changes that are left don't matter
-pub kept-counted : (before : List PublishedKey) (set : Renewal) (left : ℕ) → HasKept before set
-    → HasKept before (record (set) { changes_left = left })
-kept-counted before set left = by set.around
+pub kept-counted : (before : List PublishedKey) (set : Reading) (left : ℕ) → HasKept before set
+    → HasKept before (record { keys = set.keys; at = record (set.at) { changes_left = left } })
+kept-counted before set left = by set.at.around
   where
     by : (o : Option Frame) → KeptBy o before set
-        → KeptBy o before (record (set) { changes_left = left })
+        → KeptBy o before (record { keys = set.keys; at = record (set.at) { changes_left = left } })
     by None k = k
     by (Some f) k = k
 
 -- a set without a change is whole
-pub kept-whole : (before : List PublishedKey) (set : Renewal) (frame : Frame) → set.around ≡ None
+pub kept-whole : (before : List PublishedKey) (set : Reading) (frame : Frame) → set.at.around ≡ None
     → frame ≡ whole (length set.keys.items) → HasKept before set
     → KeepsFrame frame (ids before) (ids set.keys.items)
 kept-whole before set frame none is kept =

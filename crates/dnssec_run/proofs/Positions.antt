@@ -25,9 +25,9 @@ use Rattle.dnssec_zone.proofs.Quantified.{apart, below_found, first, same_key, s
 use Rattle.dnssec_run.specs.Published.{Id, World, keys_where, id_of}
 use Rattle.dnssec_run.specs.Record.{new_world}
 use Rattle.dnssec_run.specs.Recorder.{Agrees, IsAscending, ids_where, position_in, position_shown}
-use Rattle.dnssec_run.specs.Recorder.{HasKept, KeptBy, shown_once, ids_read}
+use Rattle.dnssec_run.specs.Recorder.{HasKept, KeptBy, Reading, shown_once, ids_read}
 pub use Rattle.dnssec_run.specs.Recorder.{passing}
-use Rattle.dnssec_run.specs.declared.{record.PublishedKey.PublishedKey, sets.Renewal.Renewal}
+use Rattle.dnssec_run.specs.declared.record.PublishedKey.{PublishedKey}
 use Rattle.std.specs.BTreeMap as tree
 
 abbrev pub order : List ℕ → List ℕ → Ordering
@@ -233,16 +233,16 @@ module _ {Y : Type 0} (passes : KeyType → Bool) (key : List ℕ → Option Key
   ids es = ids_where passes key es
 
   -- a set that is touched has what it shows of the keys that were met; another is as before
-  pub record Reads (left : List (String Y × ℕ)) (set : Renewal) : Type 0 where
-    pub mark : set.is_touched ≡ touched
+  pub record Reads (left : List (String Y × ℕ)) (set : Reading) : Type 0 where
+    pub mark : set.at.is_touched ≡ touched
     pub read : touched ≡ true → ids_read set ++ ids_where passes key left ≡ ids_where passes key all
     pub stays : touched ≡ false → set.keys.items ≡ before
-    pub fits : set.read ≤ vec_len set.keys
+    pub fits : set.at.read ≤ vec_len set.keys
     pub kept : HasKept before set
 
-  pub reads-begin : (set : Renewal) (left : List (String Y × ℕ)) → left ≡ all
-      → set.is_touched ≡ touched → ids_read set ≡ [] → set.keys.items ≡ before
-      → set.read ≤ vec_len set.keys → set.around ≡ None → Reads left set
+  pub reads-begin : (set : Reading) (left : List (String Y × ℕ)) → left ≡ all
+      → set.at.is_touched ≡ touched → ids_read set ≡ [] → set.keys.items ≡ before
+      → set.at.read ≤ vec_len set.keys → set.at.around ≡ None → Reads left set
   reads-begin set left begun mark none same fits alone = record {
     mark = mark;
     read = λ t i. none i ++ ids (begun i);
@@ -251,36 +251,36 @@ module _ {Y : Type 0} (passes : KeyType → Bool) (key : List ℕ → Option Key
     kept = subst (λ o. KeptBy o before set) (sym alone) same;
   }
 
-  pub reads-next : (old new : Renewal) (left : List (String Y × ℕ)) (e : String Y × ℕ)
+  pub reads-next : (old new : Reading) (left : List (String Y × ℕ)) (e : String Y × ℕ)
       (es : List (String Y × ℕ)) (o : Option KeyType) → left ≡ e ∷ es
       → o ≡ kind_at key (string_bytes e.0)
-      → (old.is_touched ≡ true
+      → (old.at.is_touched ≡ true
       → ids_read new ≡ ids_read old ++ shown_once passes o (string_bytes e.0, e.1))
-      → (old.is_touched ≡ false → new ≡ old) → new.is_touched ≡ old.is_touched
-      → new.read ≤ vec_len new.keys → (HasKept before old → HasKept before new)
+      → (old.at.is_touched ≡ false → new ≡ old) → new.at.is_touched ≡ old.at.is_touched
+      → new.at.read ≤ vec_len new.keys → (HasKept before old → HasKept before new)
       → Reads left old → Reads es new
   reads-next old new left e es o steps found read stays mark fits kept so = record {
     mark = mark ∙ so.mark;
     read = λ t. rw (read (so.mark ∙ t), found, append_assoc)
         (ap (λ l. ids_read old ++ l) (sym (passing-first passes key e es))
         ∙ ap (λ l. ids_read old ++ ids l) (sym steps) ∙ so.read t);
-    stays = λ t. ap (λ (set : Renewal). set.keys.items) (stays (so.mark ∙ t)) ∙ so.stays t;
+    stays = λ t. ap (λ (set : Reading). set.keys.items) (stays (so.mark ∙ t)) ∙ so.stays t;
     fits = fits;
     kept = kept so.kept;
   }
 
   -- a key that isn't there is in no set
-  pub reads-past : (set : Renewal) (left : List (String Y × ℕ)) (e : String Y × ℕ)
+  pub reads-past : (set : Reading) (left : List (String Y × ℕ)) (e : String Y × ℕ)
       (es : List (String Y × ℕ)) → left ≡ e ∷ es → None ≡ kind_at key (string_bytes e.0)
       → Reads left set → Reads es set
   reads-past set left e es steps none so =
       reads-next set set left e es None steps none (λ t. sym (append-nil (ids_read set)))
       (λ t. refl) refl so.fits (λ k. k) so
 
-  pub reads-all : (set : Renewal) (left : List (String Y × ℕ)) (items : List PublishedKey)
+  pub reads-all : (set : Reading) (left : List (String Y × ℕ)) (items : List PublishedKey)
       (v w : World) → left ≡ [] → Reads left set
-      → (set.is_touched ≡ true → map id_of items ≡ ids_read set)
-      → (set.is_touched ≡ false → items ≡ set.keys.items)
+      → (set.at.is_touched ≡ true → map id_of items ≡ ids_read set)
+      → (set.at.is_touched ≡ false → items ≡ set.keys.items)
       → ids_where passes key all ≡ keys_where passes w → map id_of before ≡ keys_where passes v
       → (touched ≡ false → keys_where passes w ≡ keys_where passes v)
       → map id_of items ≡ keys_where passes w

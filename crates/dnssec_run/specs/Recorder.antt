@@ -12,6 +12,8 @@ use Rattle.std.specs.BTreeMap as tree
 use Rattle.std.specs.Cmp.Lexicographic.{slice_cmp}
 use Rattle.std.specs.Ordering.{nat_cmp}
 use Rattle.std.specs.declared.string.String.{String}
+use Rattle.std.specs.declared.vec.Vec.{Vec}
+use Rattle.std.specs.Global.{Global}
 use Rattle.dnssec_key.specs.declared.kind.KeyType.{KeyType}
 use Rattle.dnssec_key.specs.Key.{KeyParts}
 use Rattle.dnssec_key.specs.Setters.{Setting, Present, Signer, AtParent, Stale}
@@ -182,19 +184,27 @@ abbrev pub shown_once : (KeyType → Bool) → Option KeyType → Id → List Id
 shown_once passes None id = []
 shown_once passes (Some keytype) id = if passes keytype then id ∷ [] else []
 
--- the keys of a set that were read anew
-abbrev pub ids_read : Renewal → List Id
-ids_read set = map id_of (take set.read set.keys.items)
+-- a list while it is read anew: its keys, and how far they are read
+pub record Reading : Type 0 where
+  pub keys : Vec PublishedKey Global
+  pub at : Renewal
+
+abbrev pub reading : Renewal → Vec PublishedKey Global → Reading
+reading at keys = record { keys = keys; at = at }
+
+-- the keys of a list that were read anew
+abbrev pub ids_read : Reading → List Id
+ids_read set = map id_of (take set.at.read set.keys.items)
 
 -- what the keys of a set have kept of those of before, if these are the changes so far
-abbrev pub KeptBy : Option Frame → List PublishedKey → Renewal → Type 0
+abbrev pub KeptBy : Option Frame → List PublishedKey → Reading → Type 0
 KeptBy None before set = set.keys.items ≡ before
 KeptBy (Some frame) before set =
     KeepsFrame frame (map id_of before) (map id_of set.keys.items)
-    × (frame.front ≤ set.read) × (vec_len set.keys ≤ set.read + frame.back)
+    × (frame.front ≤ set.at.read) × (vec_len set.keys ≤ set.at.read + frame.back)
 
-abbrev pub HasKept : List PublishedKey → Renewal → Type 0
-HasKept before set = KeptBy set.around before set
+abbrev pub HasKept : List PublishedKey → Reading → Type 0
+HasKept before set = KeptBy set.at.around before set
 
 -- two sets of lists have the same keys
 pub record HasSameKeys (one other : Published) : Type 0 where

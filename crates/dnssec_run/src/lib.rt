@@ -15,6 +15,7 @@ mod plain;
 mod record;
 mod running;
 mod sets;
+mod walk_order;
 
 pub use caches::{ByKind, SetKind, retires};
 pub use call::Call;

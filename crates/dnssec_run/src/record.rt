@@ -336,8 +336,8 @@ impl Steps {
 
     /// The last accepted start of the roll or end of its first wait, which its next report counts
     /// from. `None` if the roll has made none.
-    pub fn of(self, roll: RollType) -> Option<LastStep>
-        ensures { result ≡ step_of self roll }
+    pub fn of(&self, roll: RollType) -> Option<LastStep>
+        ensures { result ≡ step_of self.now roll }
     {
         self.by_roll[roll as usize]
     }

@@ -9,16 +9,17 @@ ghost use Rattle.std.specs.Option.{option_map};
 ghost use Rattle.dnssec_run.specs.Frames.{KeepsFrame, KeepsFrames, frame_with};
 ghost use Rattle.dnssec_run.specs.Published.{IsPublished, World, id_of};
 ghost use Rattle.dnssec_run.specs.Recorder.{Agrees, AreFound, ChangesOnly, HasKept, HasSameKeys};
-ghost use Rattle.dnssec_run.specs.Recorder.{Leaves, SaysShown, ids_read, shown_once, shows};
+ghost use Rattle.dnssec_run.specs.Recorder.{Leaves, SaysShown, ids_read, reading, shown_once};
+ghost use Rattle.dnssec_run.specs.Recorder.{shows};
 ghost use Rattle.dnssec_run.specs.declared.record.PublishedKey.{PublishedKey};
 
 use crate::lists::{ByList, Shown};
 use crate::places::renew_key;
 use crate::record::{Frame, Frames, Published, PublishedKey};
+use crate::walk_order::WalkOrder;
 use dnssec_keyset::{Key, KeySet, KeyType};
 use std::alloc::{AllocError, Global};
 use std::collections::{BTreeMap, HashMap};
-use std::mem;
 
 /// Up to this many keys are put in or taken out in place. Each of them moves all keys after it.
 const MANY: usize = 16;
@@ -46,12 +47,10 @@ impl Shown {
     }
 }
 
-/// A set while it is read anew in place: most keys of before stay where they stand.
-#[derive(Drop)]
+/// How far a list is read anew in place: most keys of before stay where they stand.
+#[derive(Clone, Copy)]
 struct Renewal {
-    /// The keys that were read, and after them those of before that weren't met yet.
-    keys: Vec<PublishedKey>,
-    /// How many were read.
+    /// How many keys were read. After them stand those of before that weren't met yet.
     read: usize,
     /// How many more changes are made in place.
     changes_left: usize,
@@ -62,66 +61,59 @@ struct Renewal {
 }
 
 impl Renewal {
-    /// Begins to read a list anew. It takes the keys out of `before`, which is then empty, and none
-    /// of them is read yet. `is_touched` is whether the list may have changed.
-    fn new(alloc: Global, before: &mut Vec<PublishedKey>, is_touched: bool) -> Self
-        ensures none { ids_read result ≡ [] }
-        ensures fits { result.read ≤ vec_len result.keys }
-        ensures before { result.keys.items ≡ before.old.items }
-        ensures around { result.around ≡ None }
-        ensures touched { result.is_touched ≡ is_touched }
-    {
-        Renewal {
-            keys: mem::replace(before, Vec::new(alloc)),
-            read: 0,
-            changes_left: MANY,
-            around: None,
-            is_touched,
-        }
-    }
+    /// No key of the list is read yet, and it isn't touched.
+    const START: Renewal = Renewal {
+        read: 0,
+        changes_left: MANY,
+        around: None,
+        is_touched: false,
+    };
 
-    /// Reads the next key of the key set, in the order of the references. The list then has it as
-    /// its last read key if `shown` shows a key of this kind. `added` is the position of the call
-    /// that added the key. A list that isn't touched stays as it is. It fails only if there is no
-    /// memory, and the list is then of no more use. It is inlined, since it is called four times
-    /// for each key, and mostly nothing changes.
+    /// Reads the next key of the key set, in the order of the references. `keys`, the list, then
+    /// has it as its last read key if `shown` shows a key of this kind. `added` is the position of
+    /// the call that added the key. A list that isn't touched stays as it is. It fails only if
+    /// there is no memory, and the list is then of no more use. It is inlined, since it is called
+    /// four times for each key, and mostly nothing changes.
     #[inline(always)]
     fn show(
         &mut self,
         alloc: Global,
+        keys: &mut Vec<PublishedKey>,
         shown: Shown,
         keytype: &KeyType,
         reference: &String,
         added: usize,
     ) -> Result<(), AllocError>
-        requires { self.old.read ≤ vec_len self.old.keys }
+        requires { self.old.read ≤ vec_len keys.old }
         ensures ok { OnOk result (self.old.is_touched ≡ true →
-            ids_read self.new ≡ ids_read self.old
+            ids_read (reading self.new keys.new) ≡ ids_read (reading self.old keys.old)
             ++ shown_once (shows shown) (Some keytype.now) (string_bytes reference.now, added)) }
-        ensures left { OnOk result (self.old.is_touched ≡ false → self.new ≡ self.old) }
+        ensures left { OnOk result (self.old.is_touched ≡ false →
+            reading self.new keys.new ≡ reading self.old keys.old) }
         ensures touched { OnOk result (self.new.is_touched ≡ self.old.is_touched) }
-        ensures fits { OnOk result (self.new.read ≤ vec_len self.new.keys) }
-        ensures kept { OnOk result ((before : List PublishedKey) → HasKept before self.old →
-            HasKept before self.new) }
+        ensures fits { OnOk result (self.new.read ≤ vec_len keys.new) }
+        ensures kept { OnOk result ((before : List PublishedKey) →
+            HasKept before (reading self.old keys.old) →
+            HasKept before (reading self.new keys.new)) }
     {
         if !self.is_touched {
             return Ok(());
         }
         let is_shown = shown.shows(*keytype);
-        match self.keys.get(self.read) {
+        match keys.get(self.read) {
             Some(next) if next.added == added && next.reference == *reference => {
                 if is_shown {
                     self.read += 1;
                     return Ok(());
                 }
-                self.change(alloc, is_shown, reference, added)
+                self.change(alloc, keys, is_shown, reference, added)
             }
-            _ if is_shown => self.change(alloc, is_shown, reference, added),
+            _ if is_shown => self.change(alloc, keys, is_shown, reference, added),
             _ => Ok(()),
         }
     }
 
-    /// Changes the list at the place that is read next. If `is_shown`, it puts in the key at
+    /// Changes the list `keys` at the place that is read next. If `is_shown`, it puts in the key at
     /// `reference`, with the position `added` of the call that added the key. Otherwise it takes
     /// out the old key that stands there, if there is one. `around` then says how many keys at the
     /// front and at the back are as before. After `MANY` changes it first drops all old keys that
@@ -130,32 +122,34 @@ impl Renewal {
     fn change(
         &mut self,
         alloc: Global,
+        keys: &mut Vec<PublishedKey>,
         is_shown: bool,
         reference: &str,
         added: usize,
     ) -> Result<(), AllocError>
-        requires { self.old.read ≤ vec_len self.old.keys }
-        ensures ok { OnOk result (ids_read self.new ≡ ids_read self.old
+        requires { self.old.read ≤ vec_len keys.old }
+        ensures ok { OnOk result (ids_read (reading self.new keys.new)
+            ≡ ids_read (reading self.old keys.old)
             ++ (if is_shown then (reference.now, added) ∷ [] else [])) }
         ensures touched { OnOk result (self.new.is_touched ≡ self.old.is_touched) }
-        ensures fits { OnOk result (self.new.read ≤ vec_len self.new.keys) }
-        ensures kept { OnOk result ((before : List PublishedKey) → HasKept before self.old →
-            HasKept before self.new) }
+        ensures fits { OnOk result (self.new.read ≤ vec_len keys.new) }
+        ensures kept { OnOk result ((before : List PublishedKey) →
+            HasKept before (reading self.old keys.old) →
+            HasKept before (reading self.new keys.new)) }
     {
         match self.changes_left.checked_sub(1) {
             Some(left) => self.changes_left = left,
-            None => self.drop_rest(),
+            None => self.drop_rest(keys),
         }
         let around = self.around.unwrap_or(Frame {
             front: self.read,
             back: 0,
         });
-        let back = self.keys.len() - self.read;
+        let back = keys.len() - self.read;
         if is_shown {
             self.around = Some(Frame { back, ..around });
             let reference = String::from_str(alloc, reference)?;
-            self.keys
-                .insert(self.read, PublishedKey { added, reference })?;
+            keys.insert(self.read, PublishedKey { added, reference })?;
             self.read += 1;
             return Ok(());
         }
@@ -164,108 +158,56 @@ impl Renewal {
                 back: back - 1,
                 ..around
             });
-            self.keys.remove(self.read);
+            keys.remove(self.read);
         }
         Ok(())
     }
 
-    /// Drops the old keys that weren't read yet. The keys that were read stay, and no key at the
-    /// back of the list counts as unchanged any more. `changes_left` stays.
-    fn drop_rest(&mut self)
-        requires { self.old.read ≤ vec_len self.old.keys }
-        ensures same { ids_read self.new ≡ ids_read self.old }
-        ensures all { map id_of self.new.keys.items ≡ ids_read self.old }
+    /// Drops the old keys of the list `keys` that weren't read yet. The keys that were read stay,
+    /// and no key at the back counts as unchanged any more. `changes_left` stays.
+    fn drop_rest(&mut self, keys: &mut Vec<PublishedKey>)
+        requires { self.old.read ≤ vec_len keys.old }
+        ensures same { ids_read (reading self.new keys.new) ≡ ids_read (reading self.old keys.old) }
+        ensures all { map id_of keys.new.items ≡ ids_read (reading self.old keys.old) }
         ensures touched { self.new.is_touched ≡ self.old.is_touched }
-        ensures fits { self.new.read ≤ vec_len self.new.keys }
-        ensures kept { (before : List PublishedKey) → HasKept before self.old →
-            HasKept before self.new }
+        ensures fits { self.new.read ≤ vec_len keys.new }
+        ensures kept { (before : List PublishedKey) → HasKept before (reading self.old keys.old) →
+            HasKept before (reading self.new keys.new) }
     {
         let around = self.around.unwrap_or(Frame {
             front: self.read,
             back: 0,
         });
         self.around = Some(Frame { back: 0, ..around });
-        self.keys.truncate(self.read);
+        keys.truncate(self.read);
     }
 
-    /// Ends the reading, after all keys were read, and answers the list. Old keys that weren't read
-    /// are dropped from a list that the call touched. `frame` then says how many keys at the front
-    /// and at the back are as before.
-    fn into_keys(self, frame: &mut Frame) -> Vec<PublishedKey>
-        ensures touched { self.is_touched ≡ true → map id_of result.items ≡ ids_read self }
-        ensures left { self.is_touched ≡ false → result.items ≡ self.keys.items }
-        ensures frame { (before : List PublishedKey) → HasKept before self →
-            KeepsFrame frame.new (map id_of before) (map id_of result.items) }
+    /// Ends the reading of the list `keys`, after all keys were read. Old keys that weren't read
+    /// are dropped from a list that the call touched. Answers how many keys at the front and at the
+    /// back are as before.
+    fn end(self, keys: &mut Vec<PublishedKey>) -> Frame
+        ensures touched { self.is_touched ≡ true →
+            map id_of keys.new.items ≡ ids_read (reading self keys.old) }
+        ensures left { self.is_touched ≡ false → keys.new.items ≡ keys.old.items }
+        ensures frame { (before : List PublishedKey) → HasKept before (reading self keys.old) →
+            KeepsFrame result (map id_of before) (map id_of keys.new.items) }
     {
-        let mut set = self;
-        if set.is_touched && set.read < set.keys.len() {
-            set.drop_rest();
+        let mut renewal = self;
+        if renewal.is_touched && renewal.read < keys.len() {
+            renewal.drop_rest(keys);
         }
-        *frame = match set.around {
+        match renewal.around {
             Some(around) => around,
             None => Frame {
-                front: set.keys.len(),
+                front: keys.len(),
                 back: 0,
             },
-        };
-        set.keys
+        }
     }
 }
 
 /// Up to this many keys are brought into no order.
 const FEW: usize = 8;
-
-/// The order of the keys of a set: the places of their references in a walk over the map.
-#[derive(Drop)]
-pub(crate) struct WalkOrder {
-    places: Vec<usize>,
-    /// Whether a key came or went since.
-    pub(crate) is_stale: bool,
-}
-
-impl WalkOrder {
-    /// No order yet. It counts as stale, so that the first walk sorts the references.
-    pub(crate) fn new(alloc: Global) -> Self {
-        WalkOrder {
-            places: Vec::new(alloc),
-            is_stale: true,
-        }
-    }
-
-    /// The keys of a key set with their references, in the order in which the map gives them. If
-    /// `self` is stale, as a key came or went since the last walk, it also sorts the references by
-    /// their bytes and keeps their order in `self`, which isn't stale any more. Most places are as
-    /// before, so the sort begins with the last order.
-    ///
-    /// It fails only if there is no memory. The order is then as it was.
-    fn walk<'a>(
-        &mut self,
-        alloc: Global,
-        keys: &'a HashMap<String, Key>,
-    ) -> Result<Vec<(&'a String, &'a Key)>, AllocError>
-        ensures { IfOk result (λ entries. AreFound (hash.get_by_text keys.now)
-            entries.items) }
-    {
-        let entries = keys.iter().collect::<Vec<_>>(alloc)?;
-        if self.is_stale {
-            let mut placed = Vec::with_capacity(alloc, entries.len())?;
-            for place in &self.places {
-                if let Some((reference, _)) = entries.get(*place) {
-                    placed.push((*reference, *place))?;
-                }
-            }
-            for place in self.places.len()..entries.len() {
-                if let Some((reference, _)) = entries.get(place) {
-                    placed.push((*reference, place))?;
-                }
-            }
-            placed.sort_by(|one, other| one.0.cmp(other.0))?;
-            self.places = placed.iter().map(|(_, place)| *place).collect(alloc)?;
-            self.is_stale = false;
-        }
-        Ok(entries)
-    }
-}
 
 /// The key with this reference, or `None` if there is none. `entries` are those of a walk over the
 /// keys, and `place` is where the key should stand among them. If it doesn't, it is looked up. For
@@ -361,12 +303,22 @@ fn renew_all(
         Agrees keyset.now (tree.get_by_text added.now) w → IsPublished sets.new w) }
 {
     let keys = keyset.keys();
-    let mut ds = Renewal::new(alloc, &mut sets.ds, touched.ds);
-    let mut dnskey = Renewal::new(alloc, &mut sets.dnskey, touched.dnskey);
-    let signers = &mut sets.dnskey_signers;
-    let mut dnskey_signers = Renewal::new(alloc, signers, touched.dnskey_signers);
-    let signers = &mut sets.zone_signers;
-    let mut zone_signers = Renewal::new(alloc, signers, touched.zone_signers);
+    let mut ds = Renewal {
+        is_touched: touched.ds,
+        ..Renewal::START
+    };
+    let mut dnskey = Renewal {
+        is_touched: touched.dnskey,
+        ..Renewal::START
+    };
+    let mut signers = Renewal {
+        is_touched: touched.dnskey_signers,
+        ..Renewal::START
+    };
+    let mut zone = Renewal {
+        is_touched: touched.zone_signers,
+        ..Renewal::START
+    };
     let entries = if keys.len() > FEW {
         order.walk(alloc, keys)?
     } else {
@@ -380,14 +332,26 @@ fn renew_all(
             continue;
         };
         let keytype = key.keytype();
-        ds.show(alloc, Shown::Ds, &keytype, reference, *position)?;
-        dnskey.show(alloc, Shown::Dnskey, &keytype, reference, *position)?;
-        dnskey_signers.show(alloc, Shown::DnskeySigners, &keytype, reference, *position)?;
-        zone_signers.show(alloc, Shown::ZoneSigners, &keytype, reference, *position)?;
+        let at = *position;
+        ds.show(alloc, &mut sets.ds, Shown::Ds, &keytype, reference, at)?;
+        dnskey.show(
+            alloc,
+            &mut sets.dnskey,
+            Shown::Dnskey,
+            &keytype,
+            reference,
+            at,
+        )?;
+        let list = &mut sets.dnskey_signers;
+        signers.show(alloc, list, Shown::DnskeySigners, &keytype, reference, at)?;
+        let list = &mut sets.zone_signers;
+        zone.show(alloc, list, Shown::ZoneSigners, &keytype, reference, at)?;
     }
-    sets.ds = ds.into_keys(&mut frames.ds);
-    sets.dnskey = dnskey.into_keys(&mut frames.dnskey);
-    sets.dnskey_signers = dnskey_signers.into_keys(&mut frames.dnskey_signers);
-    sets.zone_signers = zone_signers.into_keys(&mut frames.zone_signers);
+    *frames = Frames {
+        ds: ds.end(&mut sets.ds),
+        dnskey: dnskey.end(&mut sets.dnskey),
+        dnskey_signers: signers.end(&mut sets.dnskey_signers),
+        zone_signers: zone.end(&mut sets.zone_signers),
+    };
     Ok(())
 }

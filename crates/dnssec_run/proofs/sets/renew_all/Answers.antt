@@ -1,5 +1,5 @@
 -- Each of the four lists is the keys that its set shows.
-use Rattle.std.proofs.Common.{◌≡◌, ◌∙◌, ap, Bool, rules, None, Some, string_bytes}
+use Rattle.std.proofs.Common.{◌≡◌, ◌∙◌, ap, arith, Bool, refl, rules, None, Some, string_bytes}
 use Rattle.std.specs.HashMap as hash
 use Rattle.dnssec_key.specs.declared.kind.KeyType.{KeyType}
 use Rattle.dnssec_run.specs.Published.{in_ds, in_dnskey, signs_dnskey, signs_zone}
@@ -12,18 +12,11 @@ loop-reference-init c =
     let key = hash.get_by_text c.keys-keys.result.now in
     let begun : c.into_iter-reference-iterator.result ≡ c.args.added.now.entries = search rules in
     record {
-      ds = let new = c.new-ds.ensures in
-          reads-begin in_ds key _ _ _ _ _ begun new.touched new.none new.before new.fits
-          new.around;
-      dnskey = let new = c.new-dnskey.ensures in
-          reads-begin in_dnskey key _ _ _ _ _ begun new.touched new.none new.before new.fits
-          new.around;
-      dnskey_signers = let new = c.new-dnskey_signers.ensures in
-          reads-begin signs_dnskey key _ _ _ _ _ begun new.touched new.none new.before new.fits
-          new.around;
-      zone_signers = let new = c.new-zone_signers.ensures in
-          reads-begin signs_zone key _ _ _ _ _ begun new.touched new.none new.before new.fits
-          new.around;
+      ds = reads-begin in_ds key _ _ _ _ _ begun refl refl refl (omega arith) refl;
+      dnskey = reads-begin in_dnskey key _ _ _ _ _ begun refl refl refl (omega arith) refl;
+      dnskey_signers = reads-begin signs_dnskey key _ _ _ _ _ begun refl refl refl (omega arith)
+          refl;
+      zone_signers = reads-begin signs_zone key _ _ _ _ _ begun refl refl refl (omega arith) refl;
     }
 
 pub loop-reference-preserved : goal.loop-reference-preserved
@@ -74,17 +67,17 @@ returns-clause-read c v w was leaves agrees =
     let set = c.args.keyset.now in
     let shown = λ (p : KeyType → Bool). passing-shown p key added set w ordered agrees at in
     record {
-      ds = let into = c.into_keys.ensures in
-          reads-all in_ds key _ _ _ _ _ _ v w none inv.ds into.touched into.left
+      ds = let end = c.end.ensures in
+          reads-all in_ds key _ _ _ _ _ _ v w none inv.ds end.touched end.left
           (shown in_ds) was.ds leaves.ds;
-      dnskey = let into = c.into_keys-2.ensures in
-          reads-all in_dnskey key _ _ _ _ _ _ v w none inv.dnskey into.touched into.left
+      dnskey = let end = c.end-2.ensures in
+          reads-all in_dnskey key _ _ _ _ _ _ v w none inv.dnskey end.touched end.left
           (shown in_dnskey) was.dnskey leaves.dnskey;
-      dnskey_signers = let into = c.into_keys-3.ensures in
-          reads-all signs_dnskey key _ _ _ _ _ _ v w none inv.dnskey_signers into.touched into.left
+      dnskey_signers = let end = c.end-3.ensures in
+          reads-all signs_dnskey key _ _ _ _ _ _ v w none inv.dnskey_signers end.touched end.left
           (shown signs_dnskey) was.dnskey_signers leaves.dnskey_signers;
-      zone_signers = let into = c.into_keys-4.ensures in
-          reads-all signs_zone key _ _ _ _ _ _ v w none inv.zone_signers into.touched into.left
+      zone_signers = let end = c.end-4.ensures in
+          reads-all signs_zone key _ _ _ _ _ _ v w none inv.zone_signers end.touched end.left
           (shown signs_zone) was.zone_signers leaves.zone_signers;
     }
 
@@ -92,8 +85,8 @@ pub returns-clause-frames : goal.returns-clause-frames
 returns-clause-frames c =
     let inv = c.loop-reference.invariant in
     record {
-      ds = c.into_keys.ensures.frame _ inv.ds.kept;
-      dnskey = c.into_keys-2.ensures.frame _ inv.dnskey.kept;
-      dnskey_signers = c.into_keys-3.ensures.frame _ inv.dnskey_signers.kept;
-      zone_signers = c.into_keys-4.ensures.frame _ inv.zone_signers.kept;
+      ds = c.end.ensures.frame _ inv.ds.kept;
+      dnskey = c.end-2.ensures.frame _ inv.dnskey.kept;
+      dnskey_signers = c.end-3.ensures.frame _ inv.dnskey_signers.kept;
+      zone_signers = c.end-4.ensures.frame _ inv.zone_signers.kept;
     }

@@ -4,14 +4,14 @@ use Rattle.std.proofs.Common.{string_bytes}
 use Rattle.std.proofs.lemmas.Option.{slice_get_read}
 use Rattle.std.specs.Prelude.{slice_get}
 use Rattle.dnssec_run.specs.{declared.record.PublishedKey.PublishedKey, Published.Id}
-use Rattle.dnssec_run.specs.Recorder.{ids_read, shown_once, shows}
+use Rattle.dnssec_run.specs.Recorder.{ids_read, reading, shown_once, shows}
 use Rattle.dnssec_run.{specs.Published.id_of, proofs.Positions.keeps-next}
 use Rattle.dnssec_run.proofs.sets.Renewal.show.Goals as goal
 
 pub returns-then-is_shown-clause-ok : goal.returns-then-is_shown-clause-ok
 returns-then-is_shown-clause-ok c touched =
     let key = c.in-Some.next.now in
-    let keys = c.args.self.now.keys in
+    let keys = c.args.keys.now in
     let at = c.args.self.now.read in
     let id : Id = (string_bytes c.args.reference.now, c.args.added) in
     let found = c.in-Some.ensures.lookup in
@@ -22,4 +22,4 @@ returns-then-is_shown-clause-ok c touched =
     let shown : shown_once (shows c.args.shown) (Some c.args.keytype.now) id ≡ id ∷ [] =
     search rules in
     keeps-next keys.items at key id there is
-    ∙ ap (λ (l : List Id). ids_read c.args.self.now ++ l) (sym shown)
+    ∙ ap (λ (l : List Id). ids_read (reading c.args.self.now keys) ++ l) (sym shown)

@@ -5,7 +5,7 @@ use Rattle.std.specs.{List.All, Global.Global}
 use Rattle.dnssec_key.specs.Key.{KeyParts}
 use Rattle.dnssec_run.{specs.Recorder.entry_lent, proofs.Lent.all-lent}
 use Rattle.std.specs.HashMap as hash
-use Rattle.dnssec_run.proofs.sets.WalkOrder.walk.Goals as goal
+use Rattle.dnssec_run.proofs.walk_order.WalkOrder.walk.Goals as goal
 
 -- what holds of the entries of the map holds of those that are lent
 lends : {A X : Type 0} (P : X → Type 0) (f : A → X) (xs : List A) → All P (map f xs)
