@@ -4,10 +4,11 @@ use Rattle.std.proofs.Common.{◌∷◌, take, drop, length, sym, ap, ◌==◌, 
 use Rattle.std.proofs.Common.{◌≤◌, ◌<◌, get_or, not}
 use Rattle.std.proofs.lemmas.Simd.{run_in_chunk_fails}
 use Rattle.std.proofs.lemmas.List.Splits.{slice_split_first, slice_split_none}
-use Rattle.std.proofs.lemmas.List.Sums.{fails_before_first, position_or_len_is}
-use Rattle.std.specs.{List.slice_split, List.prefix_len, Simd.Lanes.chunk}
+use Rattle.std.proofs.lemmas.List.Sums.{AllPass-from_list_all, fails_before_first}
+use Rattle.std.proofs.lemmas.List.Sums.{position_or_len_is}
+use Rattle.std.specs.{List.list_all, List.prefix_len, List.slice_split, Simd.Lanes.chunk}
 use Rattle.std.specs.Option.{option_map_or}
-use Rattle.dnssec_script.specs.Script.{first_field}
+use Rattle.dnssec_script.specs.Script.{first_field, is_reference, is_reference_byte}
 
 -- no such byte comes before this place
 abbrev pub HasNone : ℕ → List ℕ → ℕ → Type 0
@@ -49,3 +50,15 @@ pub whole : (fields rest : List (List ℕ)) (text : List ℕ) → Some (text, re
 whole [] rest text first = cc
 whole (field ∷ fields) rest text first =
     sym (ap (λ o. option_map_or (λ (x : List ℕ × List (List ℕ)). x.0 ∷ x.1) o []) first)
+
+-- a reference is one part of a list
+pub one_reference : (text : List ℕ) → is_reference text ≡ true
+    → slice_split (λ b. b == 44) text ≡ text ∷ []
+unfolding is_reference
+one_reference text is =
+    let bytes : list_all is_reference_byte text ≡ true = grind (arith, is) in
+    slice_split_none (λ b. b == 44) text (λ i d lt. no_comma (get_or text i d)
+    (AllPass-from_list_all is_reference_byte text bytes i d lt))
+  where
+    no_comma : (b : ℕ) → is_reference_byte b ≡ true → (b == 44) ≡ false
+    no_comma b is = grind (arith, is)

@@ -4,6 +4,7 @@
 -- |-------------------------|--------------------------------|-------------------|
 -- | `split_once`            | `cut_at`, `further`            | Cuts              |
 -- | `number`                | `too_great`                    | Digits            |
+-- | `Fields::last_time`     | `only_time`                    | Digits            |
 -- | `Fields::roll`          | `no_roll`, `roll_read`         | Rolls, Ascii      |
 -- | `Fields::after_word`    | `no_word`                      | Ascii             |
 -- | `algorithm`             | `no_algorithm`                 | Ascii             |

@@ -19,7 +19,6 @@ ghost use Rattle.dnssec_script.specs.Script.{word_at};
 use crate::word::Word;
 use dnssec_base::SecurityAlgorithm;
 use dnssec_keyset::{RollType, UnixTime};
-use std::alloc::{AllocError, Global};
 use std::marker::Model;
 use std::simd::prelude::*;
 use std::time::Duration;
@@ -328,9 +327,9 @@ impl<'a> Fields<'a> {
     pub(crate) fn last_time(self) -> Option<UnixTime>
         ensures { option_map (λ t. Moment t ∷ []) result ≡ values_of (as_time ∷ []) self.entry }
     {
-        let (time, fields) = self.time()?;
-        fields.end()?;
-        Some(time)
+        // Two fields have a space between them, and so they are no number.
+        let seconds = number(u64::MAX, self.rest?)?;
+        Some(UnixTime::from(Duration::from_secs(seconds)))
     }
 
     /// Reads the next field as a list: references with single commas between them, or `-` for none.
@@ -342,6 +341,10 @@ impl<'a> Fields<'a> {
         let (text, fields) = self.next()?;
         if text == b"-".as_slice() {
             return Some((ReferenceList { text: None }, fields));
+        }
+        // Most lists have a single one.
+        if is_reference(text) {
+            return Some((ReferenceList { text: Some(text) }, fields));
         }
         if !text
             .split(|byte| *byte == b',')
@@ -357,7 +360,7 @@ impl<'a> Fields<'a> {
 #[derive(Drop)]
 pub(crate) struct ReferenceList<'a> {
     /// The references with single commas between them; none for an empty list.
-    text: Option<&'a [u8]>,
+    pub(crate) text: Option<&'a [u8]>,
 }
 
 impl<'a> Model for ReferenceList<'a> {
@@ -373,22 +376,4 @@ impl<'a> Model for ReferenceList<'a> {
 
     ghost invariant = { λ list. IfSome list.text (λ text.
         list_all is_reference (slice_split (λ b. b == 44) text.now) ≡ true) };
-}
-
-impl<'a> ReferenceList<'a> {
-    /// The references of the list, in their order, as parts of the line. The list `-` has none.
-    /// Only the vector takes memory, from `alloc`, and the only error is a lack of it.
-    pub(crate) fn references(self, alloc: Global) -> Result<Vec<&'a str>, AllocError>
-        ensures { IfOk result (λ references. map now references.items ≡ self.entry) }
-    {
-        let mut references = Vec::new(alloc);
-        let Some(text) = self.text else {
-            return Ok(references);
-        };
-        for part in text.split(|byte| *byte == b',') {
-            // Each is a reference, and so it is text.
-            references.push(unsafe { str::from_utf8_unchecked(part) })?;
-        }
-        Ok(references)
-    }
 }

@@ -1,7 +1,8 @@
 //! What a line of a script says: the call of its word, made from its fields; and what the next of
 //! the lines of a script says.
 ghost use Rattle.std.specs.Prelude.{◌≡◌, if◌then◌else◌, IfOk, IfErr, IsSome, None, true, [], ◌∷◌};
-ghost use Rattle.std.specs.Prelude.{ℕ, suc, List, IfSome};
+ghost use Rattle.std.specs.Prelude.{ℕ, suc, List, IfSome, map};
+ghost use denote.Bor.{now};
 ghost use Rattle.std.specs.Option.{option_map};
 ghost use Rattle.dnssec_key.specs.Key.{is_available};
 ghost use Rattle.dnssec_run.specs.declared.call.Call.{Call};
@@ -10,7 +11,7 @@ ghost use Rattle.dnssec_script.specs.Script.{Moment, References, Roll, as_list, 
 ghost use Rattle.dnssec_script.specs.Script.{values_of};
 ghost use Rattle.dnssec_script.specs.Inner.Reading.{HasRead, IsReadFault, ReadsOn, lines_left};
 ghost use Rattle.dnssec_script.specs.Inner.Statement.{MakesEntry, start_says};
-ghost use Rattle.dnssec_script.specs.Inner.Statement.{adds, statement_says, takes_memory};
+ghost use Rattle.dnssec_script.specs.Inner.Statement.{adds, statement_says, takes_memory, texts_of};
 
 use crate::fields::{Fields, ReferenceList, split_once};
 use crate::forms::{
@@ -21,6 +22,7 @@ use crate::word::Word;
 use dnssec_keyset::{Available, Error, RollType, UnixTime};
 use dnssec_run::{Call, Entry, Recorder};
 use std::alloc::{AllocError, Global};
+use std::slice;
 
 /// What a line says: its call. Only the call of a start is made later, since it borrows its lists.
 #[derive(Drop)]
@@ -33,9 +35,50 @@ pub enum Statement<'a> {
 #[derive(Drop)]
 pub struct Start<'a> {
     rolltype: RollType,
-    old: Vec<&'a str>,
-    new: Vec<&'a str>,
+    old: ListTexts<'a>,
+    new: ListTexts<'a>,
     moment: UnixTime,
+}
+
+/// The references of a list as texts. A single one, as most lists have, takes no memory.
+#[derive(Drop)]
+pub(crate) enum ListTexts<'a> {
+    One(&'a str),
+    Any(Vec<&'a str>),
+}
+
+impl<'a> ListTexts<'a> {
+    /// The references in their order.
+    fn as_slice(&self) -> &[&'a str]
+        ensures { map now result.now ≡ texts_of self.now }
+    {
+        match self {
+            ListTexts::One(reference) => slice::from_ref(reference),
+            ListTexts::Any(references) => references,
+        }
+    }
+}
+
+impl<'a> ReferenceList<'a> {
+    /// The references of the list, in their order, as parts of the line. The list `-` has none.
+    /// Only a list of several takes memory, from `alloc`, and the only error is a lack of it.
+    fn texts(self, alloc: Global) -> Result<ListTexts<'a>, AllocError>
+        ensures { IfOk result (λ texts. texts_of texts ≡ self.entry) }
+    {
+        let mut references = Vec::new(alloc);
+        let Some(text) = self.text else {
+            return Ok(ListTexts::Any(references));
+        };
+        // Each part is a reference, and so it is text.
+        let (first, others) = split_once(text, b',');
+        if others.is_none() {
+            return Ok(ListTexts::One(unsafe { str::from_utf8_unchecked(first) }));
+        }
+        for part in text.split(|byte| *byte == b',') {
+            references.push(unsafe { str::from_utf8_unchecked(part) })?;
+        }
+        Ok(ListTexts::Any(references))
+    }
 }
 
 impl<'a> Start<'a> {
@@ -45,8 +88,8 @@ impl<'a> Start<'a> {
     {
         Call::StartRoll {
             rolltype: self.rolltype,
-            old: &self.old,
-            new: &self.new,
+            old: self.old.as_slice(),
+            new: self.new.as_slice(),
             now: self.moment,
         }
     }
@@ -127,8 +170,8 @@ pub fn read_line<'a>(alloc: Global, line: &'a [u8]) -> Result<Option<Statement<'
         Word::Start => match start_fields(fields) {
             Some((rolltype, old, new, moment)) => Ok(Some(Statement::Start(Start {
                 rolltype,
-                old: old.references(alloc)?,
-                new: new.references(alloc)?,
+                old: old.texts(alloc)?,
+                new: new.texts(alloc)?,
                 moment,
             }))),
             None => Ok(None),
@@ -294,7 +337,5 @@ fn start_fields<'a>(
     let (rolltype, fields) = fields.roll()?;
     let (old, fields) = fields.list()?;
     let (new, fields) = fields.list()?;
-    let (moment, fields) = fields.time()?;
-    fields.end()?;
-    Some((rolltype, old, new, moment))
+    Some((rolltype, old, new, fields.last_time()?))
 }

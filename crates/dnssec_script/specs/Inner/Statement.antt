@@ -9,6 +9,8 @@ use Rattle.dnssec_script.specs.Script.{Value, References, Roll, Moment, call_say
 use Rattle.dnssec_script.specs.declared.forms.KeyTraits.{KeyTraits}
 use Rattle.dnssec_script.specs.declared.word.Word.{Word}
 use Rattle.dnssec_script.specs.declared.word.Word.TheVariants as word
+use Rattle.dnssec_script.specs.declared.statement.ListTexts.{ListTexts}
+use Rattle.dnssec_script.specs.declared.statement.ListTexts.TheVariants as texts
 use Rattle.dnssec_script.specs.declared.statement.Start.{Start}
 use Rattle.dnssec_script.specs.declared.statement.Statement.{Statement}
 use Rattle.dnssec_script.specs.declared.statement.Statement.TheVariants as statement
@@ -30,11 +32,16 @@ abbrev pub takes_memory : Word → Bool
 takes_memory word.Start = true
 takes_memory w = adds w
 
+-- the references of a list as texts
+abbrev pub texts_of : ListTexts → List (List ℕ)
+texts_of (texts.One reference) = reference.now ∷ []
+texts_of (texts.Any references) = map now references.items
+
 -- what a start says
 abbrev pub start_says : Start → Word × List Value
 start_says s = (
   word.Start,
-  Roll s.rolltype ∷ References (map now s.old.items) ∷ References (map now s.new.items)
+  Roll s.rolltype ∷ References (texts_of s.old) ∷ References (texts_of s.new)
       ∷ Moment s.moment ∷ [],
 )
 

@@ -1,16 +1,24 @@
 -- The parts are those that `split` gives, and each is a reference.
-use Rattle.std.proofs.Common.{◌==◌, ◌∙◌, length, ap, rules, tests}
+use Rattle.std.proofs.Common.{◌≡◌, ◌∷◌, ◌==◌, ◌∙◌, length, ap, arith, rules, tests, true}
 use Rattle.std.proofs.lemmas.Iterator.Consumers.{YieldsList-end, YieldsList-turn}
 use Rattle.std.proofs.lemmas.Iterator.Splits.{YieldsList-from_slice_split}
 use Rattle.std.proofs.lemmas.List.Sums.{AllPass-from_list_all}
-use Rattle.std.specs.List.{slice_split}
+use Rattle.std.specs.List.{list_all, slice_split}
 use Rattle.std.specs.Slice.Iter as slice
-use Rattle.dnssec_script.specs.Script.{is_reference}
+use Rattle.dnssec_script.specs.{Inner.Reading.parts_left, Script.is_reference}
 use Rattle.dnssec_script.proofs.Ascii.{reference_utf8}
-use Rattle.dnssec_script.proofs.fields.ReferenceList.references.Goals as goal
+use Rattle.dnssec_script.proofs.fields.ReferenceList.texts.Goals as goal
 
 pub from_utf8_unchecked-requires : goal.from_utf8_unchecked-requires
 from_utf8_unchecked-requires c =
+    let first = c.split_once.result.0.now in
+    let parts = first ∷ parts_left 44 c.split_once.result.1 in
+    let all : list_all is_reference parts ≡ true =
+    rw c.split_once.ensures at (rw c.in-Some.is at c.self.invariant) in
+    reference_utf8 first (AllPass-from_list_all is_reference parts all 0 first (omega arith))
+
+pub from_utf8_unchecked-requires-in-loop-part : goal.from_utf8_unchecked-requires-in-loop-part
+from_utf8_unchecked-requires-in-loop-part c =
     let text = c.in-Some.text.now in let split = c.split-part-items.ensures in
     let same = c.into_iter-part-iterator.ensures.into_iter_gives in
     let part = c.in-Some-part.part in
