@@ -131,7 +131,9 @@ fn answer_to(alloc: Global, script: &[u8]) -> Result<String, ScriptFault>
     let mut zone = ZoneState::new(alloc, name)?;
     let mut text = String::new(alloc);
     while let Some(statement) = lines.next(alloc)? {
-        let made = zone.run(alloc, statement)?;
+        let Ok(made) = zone.run(alloc, statement) else {
+            return Err(ScriptFault::OutOfMemory);
+        };
         push_answer(&mut text, &made.reply)?;
     }
     zone.push_closing(&mut text)?;

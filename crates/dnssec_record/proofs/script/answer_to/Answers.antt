@@ -8,14 +8,10 @@ pub loop-text-init : goal.loop-text-init
 loop-text-init c =
     none_made _ _ c.in_ok-name.ensures.ok (c.in_ok-zone.ensures.follows, c.new-text.ensures.bytes)
 
-pub returns-in_err-made-clause-err : goal.returns-in_err-made-clause-err
-returns-in_err-made-clause-err c =
-    memory_made c.loop-text.invariant _ c.from_residual-in_err-made.ensures.1
-
 pub loop-text-preserved : goal.loop-text-preserved
 loop-text-preserved c =
     one_more _ _ _ _ _ c.loop-text.invariant c.in_ok-statement.ensures.ok c.in-Some.is
-    c.in_ok-made.ensures c.in_ok-push_answer.ensures
+    c.in-Ok.ensures c.in_ok-push_answer.ensures
 
 pub returns-in_err-push_answer-clause-err : goal.returns-in_err-push_answer-clause-err
 returns-in_err-push_answer-clause-err c =
@@ -24,7 +20,7 @@ returns-in_err-push_answer-clause-err c =
 pub loop-text-preserved-in_ok-push_answer : goal.loop-text-preserved-in_ok-push_answer
 loop-text-preserved-in_ok-push_answer c =
     one_more _ _ _ _ _ c.loop-text.invariant c.in_ok-statement.ensures.ok c.in-Some.is
-    c.in_ok-made.ensures c.in_ok-push_answer.ensures
+    c.in-Ok.ensures c.in_ok-push_answer.ensures
 
 pub returns-in_err-push_closing-clause-err : goal.returns-in_err-push_closing-clause-err
 returns-in_err-push_closing-clause-err c =
