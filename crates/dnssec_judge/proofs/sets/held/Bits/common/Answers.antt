@@ -7,28 +7,11 @@ use Rattle.dnssec_judge.proofs.sets.held.Bits.common.Goals as goal
 
 pub returns : goal.returns
 returns c n =
-    let rest = c.loop-index.invariant.1 (n / 64 - 1) in
-    grind (
-      arith,
-      nat_tests,
-      word-of,
-      rest,
-      bit_at-lt,
-      bit_at_and,
-      get_or_past,
-      c.in_ok-from_vec.ensures,
-      c.loop-index-test.false,
-    )
+    let rest = c.loop-index.invariant.1 (n / 64 - 1) in let past = c.loop-index-test.false in
+    let made = c.in_ok-from_vec.ensures in
+    grind (arith, nat_tests, word-of, rest, bit_at-lt, bit_at_and, get_or_past, made, past)
 
 pub returns-then-is_none : goal.returns-then-is_none
 returns-then-is_none c n =
-    grind (
-      arith,
-      nat_tests,
-      word-of,
-      bit_at-lt,
-      bit_at_and,
-      get_or_past,
-      c.is_none.ensures,
-      c.if-is_none.true,
-    )
+    let none = c.is_none.ensures in let is = c.if-is_none.true in
+    grind (arith, nat_tests, word-of, bit_at-lt, bit_at_and, get_or_past, none, is)

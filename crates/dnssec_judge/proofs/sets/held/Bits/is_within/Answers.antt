@@ -6,18 +6,7 @@ use Rattle.dnssec_judge.proofs.Words.{word-of}
 use Rattle.dnssec_judge.proofs.sets.held.Bits.is_within.Goals as goal
 
 pub returns-then-is_none : goal.returns-then-is_none
-returns-then-is_none c kept n is_in =
+returns-then-is_none c kept n b =
     let both = bit_at_and c.args.self.now.first c.args.other.now.first (n % 64) in
-    grind (
-      arith,
-      nat_tests,
-      word-of,
-      bit_at-lt,
-      bit_at-zero,
-      get_or_past,
-      c.is_none.ensures,
-      c.if-is_none.true,
-      both,
-      kept,
-      is_in,
-    )
+    let none = c.is_none.ensures in let is = c.if-is_none.true in
+    grind (arith, nat_tests, word-of, bit_at-lt, bit_at-zero, get_or_past, none, is, both, kept, b)

@@ -23,30 +23,15 @@ loop-number-preserved c n =
     let more = list_any_more (λ k. nat_eq k n) numbers i 0 (search rules) in
     let old = c.loop-number.rest.items in let word = c.index_mut.result.now in
     let bit = bit-set word (m % 64) n (omega arith) in
-    let resized = c.in_ok-resize.ensures in
+    let resized = c.in_ok-resize.ensures in let len = c.max-len.ensures in
     let same : (k : ℕ) → get_or c.resize.new.self.items k 0 ≡ get_or old k 0 =
-    (λ k. grind (arith, elements, get_or_past, resized.items, c.max-len.ensures, c.len.ensures)) in
+    (λ k. grind (arith, elements, get_or_past, resized.items, len, c.len.ensures)) in
     let there : word ≡ get_or old index 0 =
-    grind (arith, elements, same index, resized.len, c.max-len.ensures, c.index_mut.ensures) in
+    grind (arith, elements, same index, resized.len, len, c.index_mut.ensures) in
     let after = bit_or word (1 * 2 ^ (m % 64) % 2 ^ 64) in
     let at : (k : ℕ) → get_or (slice_set c.resize.new.self.items index after) k 0
-    ≡ (if nat_eq index k then after else get_or old k 0) = (λ k. grind (
-      arith,
-      nat_tests,
-      elements,
-      same k,
-      resized.len,
-      c.max-len.ensures,
-    )) in
-    grind (
-      arith,
-      nat_tests,
-      word-of,
-      more,
-      bit,
-      at (n / 64 - 1),
-      there,
-      c.loop-number.invariant n,
-      c.checked_sub.ensures,
-      c.in-Some.is,
-    )
+    ≡ (if nat_eq index k then after else get_or old k 0) =
+    (λ k. grind (arith, nat_tests, elements, same k, resized.len, len)) in
+    let was = c.loop-number.invariant n in let sub = c.checked_sub.ensures in
+    let here = at (n / 64 - 1) in
+    grind (arith, nat_tests, word-of, more, bit, here, there, was, sub, c.in-Some.is)

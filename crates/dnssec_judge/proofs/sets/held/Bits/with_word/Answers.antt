@@ -28,14 +28,7 @@ returns c n =
     let there : word ≡ get_or old index 0 =
     grind (arith, elements, get_or_past, same, resized.len, len, c.index-old.ensures) in
     let at : (i : ℕ) → get_or (arc_slice_items c.in_ok-from_vec.field-0) i 0
-    ≡ (if nat_eq index i then c.if-is_in.word else get_or old i 0) = (λ i. grind (
-      arith,
-      nat_tests,
-      elements,
-      same i,
-      resized.len,
-      len,
-      c.index_mut.ensures,
-      c.in_ok-from_vec.ensures,
-    )) in
+    ≡ (if nat_eq index i then c.if-is_in.word else get_or old i 0) =
+    (λ i. (let put = c.index_mut.ensures in let made = c.in_ok-from_vec.ensures in
+    grind (arith, nat_tests, elements, same i, resized.len, len, put, made))) in
     grind (arith, nat_tests, word-of, bit, at (n / 64 - 1), there, c.requires)

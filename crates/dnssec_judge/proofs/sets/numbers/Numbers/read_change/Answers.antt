@@ -84,14 +84,10 @@ returns c = record {
             elim c.else-old_len-len-2.branch [
               | goal.else-old_len-len-2-via-then-old_len-len-2+else-are w ↦
                   w.are.ensures.no w.if-are.false (rw w.deref.ensures.value stand)
-              | goal.else-old_len-len-2-via-else-old_len-len-2 w ↦ absurd (omega (
-                arith,
-                w.if-old_len-len-2.false,
-                c.len-old_len.ensures,
-                known.ok.0,
-                stand_len c.args.self.now known.items ids stand,
-                length-map list id_of,
-              ))
+              | goal.else-old_len-len-2-via-else-old_len-len-2 w ↦
+                  (let long = stand_len c.args.self.now known.items ids stand in
+                  let len = c.len-old_len.ensures in let isnt = w.if-old_len-len-2.false in
+                  absurd (omega (arith, isnt, len, known.ok.0, long, length-map list id_of)))
             ])),
       ));
 }

@@ -10,49 +10,24 @@ use Rattle.dnssec_judge.proofs.sets.numbers.Numbers.renew.Goals as goal
 
 pub loop-number-preserved : goal.loop-number-preserved
 loop-number-preserved c n k lt e =
-    let so = c.loop-number.invariant n k in
+    let so = c.loop-number.invariant n k in let at = c.key-item.is in let is = c.in-Some.is in
+    let lt2 = c.loop-number-test.true in
     let there : FEW ≤ n → IsSome (get nat_eq c.if-number-ge-FEW.by_added k.1) =
     λ few. (elim c.if-number-ge-FEW.branch [
-      | goal.then-number-ge-FEW+in_ok-insert w ↦ grind (
-        arith,
-        nat_tests,
-        gets,
-        get_or_default,
-        lt,
-        few,
-        c.loop-number-test.true,
-        c.key-item.is,
-        c.in-Some.is,
-        e,
-        so,
-        w.by_added-is,
-        w.in_ok-insert.ensures.updates.0 k.1,
-        w.in_ok-insert.ensures.updates.1,
-      )
-      | goal.else-number-ge-FEW w ↦ grind (
-        arith,
-        lt,
-        few,
-        e,
-        so,
-        w.by_added-is,
-        w.if-number-ge-FEW.false,
-      )
+      | goal.then-number-ge-FEW+in_ok-insert w ↦
+          (let put = w.in_ok-insert.ensures.updates.0 k.1 in
+          let new = w.in_ok-insert.ensures.updates.1 in let by = w.by_added-is in
+          grind (arith, nat_tests, gets, get_or_default, lt, few, lt2, at, is, e, so, by, put, new))
+      | goal.else-number-ge-FEW w ↦
+          (let by = w.by_added-is in let less = w.if-number-ge-FEW.false in
+          grind (arith, lt, few, e, so, by, less))
     ]) in (omega (arith, lt), there)
 
 pub loop-number-preserved-in_default : goal.loop-number-preserved-in_default
 loop-number-preserved-in_default c n k lt e =
-    grind (
-      c.loop-number.invariant n k,
-      arith,
-      gets,
-      c.loop-number-test.true,
-      get_or_default,
-      lt,
-      c.key-item.is,
-      c.in_default.is,
-      e,
-    )
+    let so = c.loop-number.invariant n k in let at = c.key-item.is in let is = c.in_default.is in
+    let lt2 = c.loop-number-test.true in
+    grind (arith, gets, get_or_default, so, lt2, lt, at, is, e)
 
 pub returns : goal.returns
 returns c =
@@ -65,16 +40,8 @@ returns c =
     c.loop-number.invariant n k (grind (arith, gets, there, c.loop-number-test.false)) there)) in
     let same : (n : ℕ) → key_in (slice_get c.shrink_to.new.self.items n) ≡ key_at old n =
     (λ n. (let so : (k : Id) → key_at old n ≡ Some k → n < end = (λ k e. (all n k e).0) in
-    grind (
-      arith,
-      gets,
-      get_or-take,
-      length-take,
-      get_or_default,
-      c.shrink_to.ensures.items,
-      c.truncate.ensures.items,
-      so,
-    ))) in record {
+    let fit = c.shrink_to.ensures.items in let cut = c.truncate.ensures.items in
+    grind (arith, gets, get_or-take, length-take, get_or_default, fit, cut, so))) in record {
       same = same;
       table = table-from old _ same (λ n k few e. (all n k e).1 few) refl;
     }
