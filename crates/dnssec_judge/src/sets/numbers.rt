@@ -241,7 +241,7 @@ impl Numbers {
     }
 
     /// Gives `number`, which no key has, to `key`. Free numbers are then sought after it (`least`),
-    /// and `left` is one less. If there is no memory, it fails and changes nothing.
+    /// and `left` is one less. All else stays. If there is no memory, it fails and changes nothing.
     fn write(&mut self, number: usize, key: PublishedKey) -> Result<(), AllocError>
         requires { number ≤ vec_len self.old.keys }
         ensures ok { OnOk result (key_at self.new number ≡ Some (id_of key)) }
