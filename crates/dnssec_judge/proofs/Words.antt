@@ -5,13 +5,14 @@ use Rattle.std.proofs.lemmas.Bool.Decides.{Decides-and, Decides-below_or, Decide
 use Rattle.std.proofs.lemmas.Bool.Decides.{nat_tests, same_from_decides}
 use Rattle.std.proofs.lemmas.List.{get_or_past}
 use Rattle.std.{proofs.lemmas.Bool.true_from_ne_false, specs.Bool.Decides}
-use Rattle.std.proofs.lemmas.Nat.Bits.{bit_at-lt, bit_at-zero, bit_at_and, bit_at-trailing_zeros}
+use Rattle.std.proofs.lemmas.Nat.Bits.{bit_at-lt, bit_at-zero, bit_at_and, bit_at_or}
+use Rattle.std.proofs.lemmas.Nat.Bits.{bit_at-trailing_zeros}
 use Rattle.std.proofs.lemmas.Nat.Bits.{bit_at_clear_other, bit_at_clear_same, bit_at_set_other}
 use Rattle.std.{proofs.lemmas.Nat.Bits.bit_at_set_same, specs.Prelude.◌^◌, specs.Int.bit_at}
-use Rattle.std.specs.Prelude.{Bool, ◌*◌, if◌then◌else◌, get_or, nat_eq}
+use Rattle.std.specs.Prelude.{Bool, ◌*◌, ◌||◌, if◌then◌else◌, get_or, nat_eq}
 use Rattle.std.specs.Int.{w64, trailing_zeros, bit_not, Bits.bit_and, Bits.bit_or}
 use Rattle.dnssec_judge.specs.Bits.{HasSome, Share, ShareAll, all_at, any_below, common_at}
-use Rattle.dnssec_judge.specs.Bits.{end_of, has_bit, has_none, meet, meet_three, word_at}
+use Rattle.dnssec_judge.specs.Bits.{end_of, has_bit, has_none, in_word, meet, meet_three, word_at}
 
 -- a word is the first, or one of the others
 pub word-of : (first : ℕ) (rest : List ℕ) (i : ℕ)
@@ -89,22 +90,16 @@ module _ (word bit n : ℕ) (lt : bit < 64) where
   -- a bit is set, and the others stay
   pub bit-set : nat_eq (bit_at (bit_or word (1 * 2 ^ bit % 2 ^ 64)) (n % 64)) 1
       ≡ (if nat_eq bit (n % 64) then true else nat_eq (bit_at word (n % 64)) 1)
-  bit-set = grind (
-    arith,
-    nat_tests,
-    bit_at_set_same w64 word bit lt,
-    bit_at_set_other w64 word bit lt (n % 64),
-  )
+  bit-set =
+      let other = bit_at_set_other w64 word bit lt (n % 64) in
+      grind (arith, nat_tests, bit_at_set_same w64 word bit lt, other)
 
   -- or it is cleared
   pub bit-cleared : nat_eq (bit_at (bit_and word (bit_not w64 (1 * 2 ^ bit % 2 ^ 64))) (n % 64)) 1
       ≡ (if nat_eq bit (n % 64) then false else nat_eq (bit_at word (n % 64)) 1)
-  bit-cleared = grind (
-    arith,
-    nat_tests,
-    bit_at_clear_same w64 word bit lt,
-    bit_at_clear_other w64 word bit lt (n % 64) (omega arith),
-  )
+  bit-cleared =
+      let other = bit_at_clear_other w64 word bit lt (n % 64) (omega arith) in
+      grind (arith, nat_tests, bit_at_clear_same w64 word bit lt, other)
 
 -- one word has no numbers if it is 0
 pub one-none : (word : ℕ) → word < 2 ^ 64 → nat_eq word 0 ≡ has_none (word ∷ [])
@@ -113,3 +108,8 @@ one-none word lt = same_from_decides (nat_eq word 0) (has_none (word ∷ [])) (
   λ f. (let low = bit_at-trailing_zeros w64 word in
       grind (bits, word-of, f (trailing_zeros w64 word), lt, low)),
 ) (none-decides (word ∷ []))
+
+-- a number is in both words together if it is in one
+pub in_either : (word other n : ℕ)
+    → in_word (bit_or word other) n ≡ (in_word word n || in_word other n)
+in_either word other n = grind (bits, bit_at_or)

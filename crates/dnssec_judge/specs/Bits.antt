@@ -20,9 +20,13 @@ words_of b = b.first ∷ rest_of b.rest
 abbrev pub word_at : List ℕ → ℕ → ℕ
 word_at words i = get_or words i 0
 
--- the bit of a number is set
+-- the bit of a number is set in its word
+abbrev pub in_word : ℕ → ℕ → Bool
+in_word word n = nat_eq (bit_at word (n % 64)) 1
+
+-- and in the words of a set
 abbrev pub has_bit : List ℕ → ℕ → Bool
-has_bit words n = nat_eq (bit_at (word_at words (n / 64)) (n % 64)) 1
+has_bit words n = in_word (word_at words (n / 64)) n
 
 -- the number is in the set
 abbrev pub has : Bits → ℕ → Bool

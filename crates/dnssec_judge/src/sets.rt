@@ -4,5 +4,5 @@
 mod held;
 mod numbers;
 
-pub(crate) use held::OpenSet;
+pub(crate) use held::{OpenSet, WORD, is_in_word};
 pub(crate) use numbers::{NumberList, Numbers};

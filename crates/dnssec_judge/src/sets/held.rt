@@ -1,9 +1,9 @@
 //! A set that caches may hold, by bits of the numbers of its keys.
 ghost use Rattle.std.specs.Prelude.{◌≡◌, ◌&&◌, ◌||◌, ◌∷◌, ℕ, List, [], false, true, nat_eq};
-ghost use Rattle.std.specs.Prelude.{◌≤◌, if◌then◌else◌};
+ghost use Rattle.std.specs.Prelude.{◌≤◌, ◌/◌, if◌then◌else◌};
 ghost use Rattle.std.specs.{List.list_any, Prelude.IfOk, Prelude.OnOk};
 ghost use Rattle.dnssec_judge.specs.Bits.{HasSome, all_at, has, has_bit, has_none, meet_three};
-ghost use Rattle.dnssec_judge.specs.Bits.{rest_of, words_of};
+ghost use Rattle.dnssec_judge.specs.Bits.{in_word, rest_of, word_at, words_of};
 ghost use Rattle.dnssec_judge.specs.Inner.Spans.{IsWithin};
 ghost use Rattle.dnssec_judge.specs.Sets.{keys_hold, sets_have_chain, zone_holds};
 
@@ -12,7 +12,15 @@ use std::marker::Model;
 use std::sync::ArcSlice;
 
 /// How many numbers have their bits in one word.
-const WORD: usize = 64;
+pub(crate) const WORD: usize = 64;
+
+/// Whether `number` is in this `word`, which has a bit for it.
+#[inline(always)]
+pub(crate) fn is_in_word(word: u64, number: usize) -> bool
+    ensures { result ≡ in_word word number }
+{
+    (word >> (number % WORD)) & 1 == 1
+}
 
 /// A set of small numbers, as a bit for each. Numbers below 64 take no memory of the allocator, and
 /// a copy shares the words of the others.
@@ -82,6 +90,7 @@ impl Bits {
     /// are. If `number` is 64 or more and the set is `before` again, it shares the words of that,
     /// so that a key which leaves a set and comes back takes no more memory. It fails only if there
     /// is no memory.
+    #[inline(always)]
     pub(crate) fn with(
         &self,
         alloc: Global,
@@ -169,15 +178,15 @@ impl Bits {
         }
     }
 
-    /// Whether `number` is in the set.
-    pub(crate) fn has(&self, number: usize) -> bool
-        ensures { result ≡ has self.now number }
+    /// The word of this index: a bit for each number from 64 times the index on. It is 0 past the
+    /// end.
+    pub(crate) fn word(&self, index: usize) -> u64
+        ensures { result ≡ word_at (words_of self.now) index }
     {
-        let word = match (number / WORD).checked_sub(1) {
+        match index.checked_sub(1) {
             None => self.first,
             Some(index) => self.rest().get(index).copied().unwrap_or(0),
-        };
-        (word >> (number % WORD)) & 1 == 1
+        }
     }
 
     /// Whether some number is in this set, in `one` and in `other`.
@@ -255,11 +264,13 @@ impl OpenSet {
         self.keys.is_within(&other.keys) && self.signers.is_within(&other.signers)
     }
 
-    /// Whether the key with this `number` is in the set, or signs it.
-    pub(crate) fn has(&self, number: usize) -> bool
-        ensures { result ≡ (has_bit self.now.0 number || has_bit self.now.1 number) }
+    /// The word of this index, with a bit for each key that is in the set, or signs it.
+    #[tactic(auto, using(crate::proofs::Words::in_either))]
+    pub(crate) fn word(&self, index: usize) -> u64
+        ensures { (n : ℕ) → n / 64 ≡ index →
+            in_word result n ≡ (has_bit self.now.0 n || has_bit self.now.1 n) }
     {
-        self.keys.has(number) || self.signers.has(number)
+        self.keys.word(index) | self.signers.word(index)
     }
 
     /// Whether the set has no key.

@@ -22,7 +22,7 @@ const FEW: usize = 8;
 /// gives their numbers back with their references. The room is then for 8 keys, for twice as many
 /// as are in sets, or up to the last of those, whichever is most. So it follows what is in sets,
 /// not how many keys there were, and only an entry that itself brings many keys exceeds it.
-/// A look costs as much as the room is great, and at least half of that is free after it.
+/// A look reads a word of each set for 64 numbers. At least half of the room is free after it.
 #[derive(Debug, Drop)]
 pub(crate) struct Numbers {
     keys: Vec<Option<PublishedKey>>,
@@ -355,10 +355,8 @@ impl NumberList {
             ≡ insert self.old.numbers.items place number) }
     {
         let bits = self.bits.with(alloc, number, true, &self.before)?;
-        let before = self.bits.clone()?;
         self.numbers.insert(place, number)?;
-        self.bits = bits;
-        self.before = before;
+        self.before = mem::replace(&mut self.bits, bits);
         Ok(())
     }
 
@@ -371,10 +369,8 @@ impl NumberList {
         let number = self.numbers[place];
         let is_in = stands_beside(number, &self.numbers, place);
         let bits = self.bits.with(alloc, number, is_in, &self.before)?;
-        let before = self.bits.clone()?;
         self.numbers.remove(place);
-        self.bits = bits;
-        self.before = before;
+        self.before = mem::replace(&mut self.bits, bits);
         Ok(())
     }
 }

@@ -1,9 +1,9 @@
 //! The sets that caches may hold, by the positions that publish them, and what all of them have.
 ghost use Rattle.std.specs.Prelude.{◌≡◌, ◌<◌, ◌∷◌, [], IfOk, OnOk, length, drop};
-ghost use Rattle.std.specs.Prelude.{◌≤◌, false, true};
+ghost use Rattle.std.specs.Prelude.{◌≤◌, ◌/◌, ℕ, false, true};
 ghost use Rattle.std.specs.{List.All, Option.ForSome};
 ghost use Rattle.dnssec_judge.specs.declared.window.spans.TheConstants.{FEW};
-ghost use Rattle.dnssec_judge.specs.{Sets.holds};
+ghost use Rattle.dnssec_judge.specs.{Bits.in_word, Sets.holds};
 ghost use Rattle.dnssec_judge.specs.Inner.Spans.{IsWithin, all_in, first_span, in_spans, trimmed};
 
 use super::Link;
@@ -72,11 +72,16 @@ impl Spans {
         Ok(Spans { list, common })
     }
 
-    /// Whether the key with this `number` is in a set, or signs one.
-    pub(crate) fn has(&self, number: usize) -> bool
-        ensures { result ≡ in_spans self.now.list.items number }
+    /// A bit for each number from 64 times `index` on whose key is in a set, or signs one.
+    #[tactic(auto, using(crate::proofs::Words::in_either))]
+    pub(crate) fn word(&self, index: usize) -> u64
+        ensures { (n : ℕ) → n / 64 ≡ index → in_word result n ≡ in_spans self.now.list.items n }
     {
-        self.list.iter().any(|span| span.set.has(number))
+        let mut word = 0;
+        for place in 0..self.list.len() {
+            word |= self.list[place].set.word(index);
+        }
+        word
     }
 
     /// Drops the spans whose positions all lie below `floor`: caches hold their sets no more. The
