@@ -2,7 +2,7 @@
 --
 -- | Function                | Lemma                          | Files             |
 -- |-------------------------|--------------------------------|-------------------|
--- | `split_once`            | `cut_at`, `further`            | Cuts              |
+-- | `split_once`            | `cut_where_seen`, `cut_at`     | Cuts              |
 -- | `number`                | `too_great`                    | Digits            |
 -- | `Fields::last_time`     | `only_time`                    | Digits            |
 -- | `Fields::roll`          | `no_roll`, `roll_read`         | Rolls, Ascii      |

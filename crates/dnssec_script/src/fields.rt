@@ -1,8 +1,8 @@
 //! A text that is cut at a byte: a script at its line feeds, and a line at its spaces. Then the
 //! fields of a line, and what each says.
-ghost use Rattle.std.specs.Prelude.{◌≡◌, ◌≤◌, ◌==◌, ◌∷◌, if◌then◌else◌, List, [], map};
-ghost use Rattle.std.specs.Prelude.{IfOk};
+ghost use Rattle.std.specs.Prelude.{◌≡◌, ◌≤◌, ◌==◌, ◌∷◌, if◌then◌else◌, [], map};
 ghost use Rattle.std.specs.List.{slice_split};
+ghost use Rattle.dnssec_script.specs.Inner.Reading.{parts_left};
 ghost use Rattle.std.specs.Prelude.{Option, Some, None, is_some, IfSome, IfNone};
 ghost use Rattle.std.specs.Str.{IsAscii};
 ghost use denote.Bor.{now};
@@ -12,7 +12,6 @@ ghost use Rattle.dnssec_script.specs.Script.{Number, Moment, is_reference, as_re
 ghost use Rattle.dnssec_script.specs.Script.{as_private, as_list, as_yes_no, as_roll, as_number};
 ghost use Rattle.dnssec_script.specs.Script.{as_algorithm, as_tag, as_ttl, as_time};
 ghost use Rattle.dnssec_script.specs.Script.{is_list, is_number, number_of, references_of};
-ghost use Rattle.dnssec_script.specs.Inner.Reading.{parts_left};
 ghost use Rattle.dnssec_script.specs.Script.{value_at, values_of, first_field, fields_of};
 ghost use Rattle.dnssec_script.specs.Script.{word_at};
 
@@ -23,8 +22,10 @@ use std::marker::Model;
 use std::simd::prelude::*;
 use std::time::Duration;
 
-/// How many bytes are looked at together.
+/// How many bytes are looked at together, and how many if fewer are left.
 const LANES: usize = 16;
+
+const FEW: usize = 8;
 
 /// The text before the first `byte`, and the text after it. Without such a byte it is the whole
 /// text, and `None`. Each byte of a script is read here first, so it looks at many at a time.
@@ -38,9 +39,19 @@ pub(crate) fn split_once(text: &[u8], byte: u8) -> (&[u8], Option<&[u8]>)
             .to_bitmask();
         if hits != 0 {
             end += hits.trailing_zeros() as usize;
-            break;
+            return (&text[..end], Some(&text[end + 1..]));
         }
         end += LANES;
+    }
+    if text.len() - end >= FEW {
+        let hits = u8x8::from_slice(&text[end..])
+            .simd_eq(u8x8::splat(byte))
+            .to_bitmask();
+        if hits != 0 {
+            end += hits.trailing_zeros() as usize;
+            return (&text[..end], Some(&text[end + 1..]));
+        }
+        end += FEW;
     }
     while end < text.len() {
         if text[end] == byte {
@@ -92,6 +103,7 @@ fn ascii(text: &[u8]) -> Option<&str>
 
 /// The number that 1 to 20 decimal digits write, or `None` for any other text, and for a number
 /// above `most`.
+#[inline(always)]
 #[tactic(auto, unfolding(crate::specs::Script::is_number))]
 fn number(most: u64, text: &[u8]) -> Option<u64>
     ensures bound { IfSome result (λ n. n ≤ most) }
@@ -113,6 +125,7 @@ fn number(most: u64, text: &[u8]) -> Option<u64>
 }
 
 /// The text as a key's reference, or `None` if it doesn't have the form of one.
+#[inline(always)]
 #[tactic(auto, using(crate::proofs::Ascii::steps), unfolding(crate::specs::Script::as_reference))]
 fn reference(text: &[u8]) -> Option<&str>
     ensures read { option_map (λ q. Reference q.now) result ≡ as_reference text.now }
@@ -141,6 +154,7 @@ fn private(text: &[u8]) -> Option<Option<&str>>
 
 /// The algorithm that the text names, by its number up to 255 or by its name, or `None` for any
 /// other text.
+#[inline(always)]
 #[tactic(auto, using(crate::proofs::Ascii::steps), unfolding(crate::specs::Script::as_algorithm))]
 fn algorithm(text: &[u8]) -> Option<SecurityAlgorithm>
     ensures { option_map Number result ≡ as_algorithm text.now }
@@ -232,6 +246,8 @@ impl<'a> Fields<'a> {
 
     /// Reads the next field as a key's reference. Answers it and the fields after it, or `None` if
     /// it is missing or has another form.
+    // Inline, as others that read a field: a call would pass what is left of them through memory.
+    #[inline(always)]
     pub(crate) fn reference(self) -> Option<(&'a str, Fields<'a>)>
         ensures { option_map (λ x. (Reference x.0.now, x.1)) result
             ≡ value_at as_reference self.entry }
@@ -242,6 +258,7 @@ impl<'a> Fields<'a> {
 
     /// Reads the next field as the reference of a key's private part, or `-` for none. Answers it
     /// and the fields after it, or `None` if it is missing or has another form.
+    #[inline(always)]
     pub(crate) fn private(self) -> Option<(Option<&'a str>, Fields<'a>)>
         ensures { option_map (λ x. (Private (option_map now x.0), x.1)) result
             ≡ value_at as_private self.entry }
@@ -272,6 +289,7 @@ impl<'a> Fields<'a> {
 
     /// Reads the next field as an algorithm, by its number up to 255 or by its name. Answers it and
     /// the fields after it, or `None` if it is missing or has another form.
+    #[inline(always)]
     pub(crate) fn algorithm(self) -> Option<(SecurityAlgorithm, Fields<'a>)>
         ensures { option_map (λ x. (Number x.0, x.1)) result ≡ value_at as_algorithm self.entry }
     {
@@ -281,6 +299,7 @@ impl<'a> Fields<'a> {
 
     /// Reads the next field as a key tag, a number up to 65535. Answers it and the fields after it,
     /// or `None` if it is missing or has another form.
+    #[inline(always)]
     pub(crate) fn tag(self) -> Option<(u16, Fields<'a>)>
         ensures { option_map (λ x. (Number x.0, x.1)) result ≡ value_at as_tag self.entry }
     {
