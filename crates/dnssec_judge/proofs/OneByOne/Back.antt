@@ -5,8 +5,7 @@ use Rattle.std.proofs.lemmas.Bool.{or_left, or_right, cases_lt}
 use Rattle.std.proofs.lemmas.List.Elements.{Contains-append_left, Contains-append_right}
 use Rattle.std.proofs.lemmas.List.{Elements.Contains-push, Folds.list_any-from_Any}
 use Rattle.std.specs.{Prelude.◌||◌, List.Contains}
-use Rattle.dnssec_run.specs.Safe.{time_at}
-use Rattle.dnssec_run.proofs.Chain.History.{never-gone-now}
+use Rattle.dnssec_run.{specs.Safe.time_at, proofs.Chain.History.never-gone-now}
 use Rattle.dnssec_run.specs.{declared.record.Entry.Entry, Safe.SetKind, Published.Id}
 use Rattle.dnssec_judge.proofs.Verdicts.Floors.{retired-below}
 use Rattle.dnssec_judge.specs.Inner.{Floor.floor_up_to, Spans.Begins, Spans.Tiles, Window.Watches}
@@ -14,8 +13,7 @@ use Rattle.dnssec_judge.specs.Numbers.{Grows, IsTable, Means, StandFor, key_at}
 use Rattle.dnssec_judge.specs.{Inner.Window.in_window, Inner.Window.spans_of, Bits.has_bit}
 use Rattle.dnssec_judge.specs.declared.window.{spans.Span.Span, Window.Window}
 use Rattle.dnssec_judge.specs.declared.sets.numbers.Numbers.{Numbers}
-use Rattle.dnssec_judge.proofs.{Means.means-on, Table.stand-by}
-use Rattle.dnssec_judge.specs.{Sets.Numbered}
+use Rattle.dnssec_judge.{proofs.Means.means-on, proofs.Table.stand-by, specs.Sets.Numbered}
 
 -- a floor is a position so far
 floor-within : (entries : List Entry) (kind : SetKind) (n : ℕ)

@@ -72,6 +72,9 @@ impl Window {
             result ≡ new_hold tested (holds link is_above) (spans_of other.now)
             (spans_of self.now) }
     {
+        if other.spans.newest < tested {
+            return true;
+        }
         let mut place = other.spans.list.len();
         while let Some(before) = place.checked_sub(1) {
             let span = &other.spans.list[before];

@@ -4,7 +4,8 @@ ghost use Rattle.std.specs.Prelude.{◌≤◌, ◌/◌, ℕ, false, true};
 ghost use Rattle.std.specs.{List.All, Option.ForSome};
 ghost use Rattle.dnssec_judge.specs.declared.window.spans.TheConstants.{FEW};
 ghost use Rattle.dnssec_judge.specs.{Bits.in_word, Sets.holds};
-ghost use Rattle.dnssec_judge.specs.Inner.Spans.{IsWithin, all_in, first_span, in_spans, trimmed};
+ghost use Rattle.dnssec_judge.specs.Inner.Spans.{IsWithin, all_in, came, first_span, in_spans};
+ghost use Rattle.dnssec_judge.specs.Inner.Spans.{trimmed};
 
 use super::Link;
 use crate::sets::OpenSet;
@@ -40,9 +41,13 @@ impl Clone for Span {
 #[derive(Debug, Drop)]
 pub(crate) struct Spans {
     pub(super) list: VecDeque<Span>,
+    /// The position at which the last span begins: since then the set that is published last is
+    /// published without a break.
+    pub(crate) newest: usize,
     /// Keys and signers that are in each set, as a set, once there are more than a few. What fits
     /// it by a key fits all sets. So most sets are tested once, and not with each of many others.
     pub(super) common: Option<OpenSet>,
+    ghost newest_is: { newest ≡ came list.items },
     ghost many: { ForSome common (λ set. FEW ≤ length list.items) },
     ghost in_each: { ForSome common (λ set. All (λ span. IsWithin set span.set) list.items) },
 }
@@ -57,7 +62,11 @@ impl Spans {
             from: 0,
             set: OpenSet::none(),
         })?;
-        Ok(Spans { list, common: None })
+        Ok(Spans {
+            list,
+            newest: 0,
+            common: None,
+        })
     }
 
     /// A copy of the spans. It fails only if there is no memory.
@@ -65,11 +74,15 @@ impl Spans {
         ensures { IfOk result (λ spans. spans.list.items ≡ self.now.list.items) }
     {
         let list = self.list.clone()?;
-        let Some(common) = &self.common else {
-            return Ok(Spans { list, common: None });
+        let common = match &self.common {
+            Some(common) => Some(common.clone()?),
+            None => None,
         };
-        let common = Some(common.clone()?);
-        Ok(Spans { list, common })
+        Ok(Spans {
+            list,
+            newest: self.newest,
+            common,
+        })
     }
 
     /// A bit for each number from 64 times `index` on whose key is in a set, or signs one.
@@ -86,6 +99,7 @@ impl Spans {
 
     /// Drops the spans whose positions all lie below `floor`: caches hold their sets no more. The
     /// last span stays, since it has no end yet. After an error the spans are of no more use.
+    #[tactic(auto, using(crate::proofs::OneByOne::Windows::came_rest))]
     #[inline(never)]
     pub(super) fn trim(&mut self, alloc: Global, floor: usize) -> Result<(), AllocError>
         ensures { OnOk result (self.new.list.items ≡ trimmed floor self.old.list.items) }
