@@ -210,30 +210,32 @@ impl Renewal {
 const FEW: usize = 8;
 
 /// The key with this reference, or `None` if there is none. `entries` are those of a walk over the
-/// keys, and `place` is where the key should stand among them. If it doesn't, it is looked up. For
-/// few keys `entries` is empty: they are walked over, which costs less.
+/// keys, and `places` has the places at which the references stand there in their order, by their
+/// rank in it. If the key doesn't stand there, it is looked up. For few keys `entries` is empty:
+/// they are walked over, which costs less.
 fn key_at<'a>(
     keys: &'a HashMap<String, Key>,
     entries: &[(&'a String, &'a Key)],
-    place: usize,
+    places: &[usize],
+    rank: usize,
     reference: &String,
 ) -> Option<&'a Key>
     requires { AreFound (hash.get_by_text keys.now) entries.now }
     ensures { option_map (λ k. k.now) result
         ≡ hash.get_by_text keys.now (string_bytes reference.now) }
 {
-    match entries.get(place) {
-        Some((found, key)) if **found == *reference => return Some(*key),
-        None if entries.is_empty() => {
-            for (found, key) in keys.iter() {
-                if *found == *reference {
-                    return Some(key);
-                }
+    if entries.is_empty() {
+        for (found, key) in keys.iter() {
+            if *found == *reference {
+                return Some(key);
             }
         }
-        _ => {}
     }
-    keys.get(reference.as_str())
+    let place = places.get(rank).copied().unwrap_or(rank);
+    match entries.get(place) {
+        Some((found, key)) if **found == *reference => Some(*key),
+        _ => keys.get(reference.as_str()),
+    }
 }
 
 /// Brings the published lists `sets` up to date after an accepted call. Only the lists in `touched`
@@ -326,9 +328,9 @@ fn renew_all(
     };
     let mut rank = 0usize;
     for (reference, position) in added.iter() {
-        let place = order.places.get(rank).copied().unwrap_or(rank);
+        let place = rank;
         rank = rank.saturating_add(1);
-        let Some(key) = key_at(keys, &entries, place, reference) else {
+        let Some(key) = key_at(keys, &entries, &order.places, place, reference) else {
             continue;
         };
         let keytype = key.keytype();

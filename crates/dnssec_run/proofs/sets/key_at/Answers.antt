@@ -6,20 +6,17 @@ use Rattle.std.specs.HashMap as hash
 use Rattle.dnssec_key.specs.Key.{KeyParts}
 use Rattle.dnssec_run.proofs.sets.key_at.Goals as goal
 
-pub returns-in-Some : goal.returns-in-Some
-returns-in-Some c = search rules
-
-pub returns-then-eq-2 : goal.returns-then-eq-2
-returns-then-eq-2 c =
+pub returns-then-eq : goal.returns-then-eq
+returns-then-eq c =
     let P : String Global × KeyParts → Type 0 =
     λ e. hash.get_by_text c.args.keys.now (string_bytes e.0) ≡ Some e.1 in
-    let same : string_bytes c.in-Some-2.found.now ≡ string_bytes c.args.reference.now =
+    let same : string_bytes c.in-Some.found.now ≡ string_bytes c.args.reference.now =
     search rules in
-    sym (All-head P _ _ (subst (All P) c.in-Some-2.ensures.steps c.loop-found.invariant))
+    sym (All-head P _ _ (subst (All P) c.in-Some.ensures.steps c.loop-found.invariant))
     ∙ ap (hash.get_by_text c.args.keys.now) same
 
 pub loop-found-preserved : goal.loop-found-preserved
 loop-found-preserved c =
     let P : String Global × KeyParts → Type 0 =
     λ e. hash.get_by_text c.args.keys.now (string_bytes e.0) ≡ Some e.1 in
-    All-tail P _ _ (subst (All P) c.in-Some-2.ensures.steps c.loop-found.invariant)
+    All-tail P _ _ (subst (All P) c.in-Some.ensures.steps c.loop-found.invariant)
