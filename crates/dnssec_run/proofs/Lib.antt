@@ -8,6 +8,7 @@
 -- | `run`, `sides`            | `leaves-others`               | the key set's Sides          |
 -- | `run`, `exchange`         | `exchange`                    | the key set's Exchange       |
 -- | `Recorder::new`           | `agrees-new`, `published-new` | Next                         |
+-- | `Adds::put`, `make_tree`  | `puts`, `one-over`            | OneKey, Trees                |
 -- | `Recorder::advance`, `ok` | `records-more`                | Next; the key set's After    |
 -- | `renew`, `read`           | `reads-all`                   | Positions                    |
 -- | `Recorder::advance`, `ok` | `leaves`                      | Asked                        |
@@ -22,6 +23,7 @@
 -- | `keys_in_order`           | `put_in_order`                | InOrder                      |
 pub mod Since
 pub mod Positions
+pub mod Trees
 pub mod Around
 pub mod OneKey
 pub mod Next

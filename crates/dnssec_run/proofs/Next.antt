@@ -1,16 +1,16 @@
 -- The positions that the recorder keeps go along with each call.
-use Rattle.std.proofs.Common.{◌≡◌, ℕ, true, false, cond, List, Some, refl, sym, ap, ◌∙◌, ◌∷◌, subst}
-use Rattle.std.proofs.Common.{map, [], ◌++◌, string_bytes, Global, arith, suc, length}
+use Rattle.std.proofs.Common.{◌≡◌, ℕ, true, false, List, refl, sym, ap, ◌∙◌, ◌∷◌, subst}
+use Rattle.std.proofs.Common.{map, [], ◌++◌, arith, suc, length}
 use Rattle.std.proofs.Common.{length-append}
 use Rattle.std.specs.Prelude.{Option, None, if◌then◌else◌, is_some}
 use Rattle.std.specs.{Option.option_map, Str.bytes_eq}
-use Rattle.std.specs.{FinMap.get, FinMap.get-empty, BTreeMap.BTreeMap, Map.lookup, List.AllZip}
-use Rattle.std.specs.{Ordering.nat_cmp, Ordering.is_eq, Cmp.Lexicographic.slice_cmp}
-use Rattle.std.specs.declared.string.String.{String}
+use Rattle.std.specs.{FinMap.get, FinMap.get-empty}
+use Rattle.std.specs.{Ordering.nat_cmp, Cmp.Lexicographic.slice_cmp}
 use Rattle.dnssec_key.specs.{Key.KeyParts, Setters.set_by}
 use Rattle.dnssec_keyset.specs.KeySet.{KeySetParts, new_set}
 use Rattle.dnssec_keyset.specs.Step.{Set, after, after_reply}
 use Rattle.dnssec_keyset.proofs.After.{after-changes}
+use Rattle.dnssec_run.specs.{Adds.added_in}
 use Rattle.dnssec_run.specs.declared.{call.Call.Call, record.Entry.Entry, record.Outcome.Outcome}
 use Rattle.dnssec_run.specs.declared.record.{Published.Published, Reply.Reply}
 use Rattle.dnssec_run.specs.declared.record.{Reply.TheVariants.Refused, Mark.TheVariants.Other}
@@ -23,7 +23,6 @@ use Rattle.dnssec_run.specs.Recorder.{positions_after, reference_deleted, refere
 use Rattle.dnssec_run.specs.declared.running.Recorder.{Recorder}
 use Rattle.dnssec_run.proofs.{Effects.looked-up, Grow.run_more, Grow.world_more}
 use Rattle.dnssec_run.proofs.Positions.{shown-none}
-use Rattle.std.specs.BTreeMap as tree
 use Rattle.dnssec_keyset.specs.Step as keyset
 
 module _ (n : ℕ) (w : World) (at : List ℕ → Option ℕ)
@@ -100,25 +99,12 @@ changes-only n w call reply = by (call_of call) reply
     }
     by _ _ = tt
 
--- clones of the positions are the same positions
-pub positions-cloned : {Y : Type 0} (es fs : List (String Y × ℕ))
-    → AllZip (λ p q. (string_bytes q.0 ≡ string_bytes p.0) × (q.1 ≡ p.1)) es fs → (q : List ℕ)
-    → lookup (tree.is_at (λ k. slice_cmp nat_cmp q (string_bytes k))) fs
-    ≡ lookup (tree.is_at (λ k. slice_cmp nat_cmp q (string_bytes k))) es
-positions-cloned [] [] h q = refl
-positions-cloned [] (f ∷ fs) h q = absurd h
-positions-cloned (e ∷ es) [] h q = absurd h
-positions-cloned (e ∷ es) (f ∷ fs) h q =
-    λ i. cond (is_eq (slice_cmp nat_cmp q (h.0.0 i))) (Some (h.0.1 i))
-    (positions-cloned es fs h.1 q i)
-
 -- a new key set, without positions
-pub agrees-new : (name : List ℕ) (set : KeySetParts) (m : BTreeMap (String Global) ℕ) → set
-    ≡ new_set name → m.entries ≡ [] → Agrees set (tree.get_by_text m) (new_world name)
-agrees-new name set m is none = record {
+pub agrees-new : (name : List ℕ) (set : KeySetParts) (at : List ℕ → Option ℕ) → set ≡ new_set name
+    → ((q : List ℕ) → at q ≡ None) → Agrees set at (new_world name)
+agrees-new name set at is none = record {
   same = is;
-  positions = λ q. ap (λ (es : List (String Global × ℕ)). lookup
-      (tree.is_at (λ k. slice_cmp nat_cmp q (string_bytes k))) es) none
+  positions = λ q. none q
       ∙ sym (ap (option_map (λ (k : KeyParts). 0)) (get-empty (slice_cmp nat_cmp) q));
 }
 
@@ -137,7 +123,7 @@ pub records-more : (name : List ℕ) (calls : List Call) (entries : List Entry) 
     (x : Call) (o : Outcome) (e : Entry) → Records name calls entries r → SaysOutcome e o
     → HasSameKeys e.published s.published → s.at ≡ suc r.at
     → keyset.Step r.keyset (call_of x) (reply_of o.reply) s.keyset → o.mark ≡ mark_after x o.reply
-    → o.moment ≡ call_moment x → Agrees s.keyset (tree.get_by_text s.added)
+    → o.moment ≡ call_moment x → Agrees s.keyset (added_in s.added.kept)
     (world_after s.at (world_at name calls entries (length calls)) x o.reply)
     → IsPublished s.published
     (world_after s.at (world_at name calls entries (length calls)) x o.reply)

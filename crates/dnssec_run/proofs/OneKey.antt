@@ -2,7 +2,7 @@
 -- key is put in. Then the set is the one that is published, if the other keys are as they were.
 use Rattle.std.proofs.Common.{◌≡◌, ◌≤◌, ◌<◌, ◌∙◌, ℕ, zero, suc, Bool, true, false, cond, List, []}
 use Rattle.std.proofs.Common.{◌∷◌, map, length, get_or, Some, None, refl, sym, ap, subst, arith}
-use Rattle.std.proofs.Common.{string_bytes, inl, inr}
+use Rattle.std.proofs.Common.{string_bytes, inl, inr, slice_set}
 use Rattle.std.specs.Prelude.{Option, T, not, is_some, IsSortedBy, ◌≢◌, ◌||◌}
 use Rattle.std.specs.declared.cmp.Ordering.TheVariants.{Less, Equal, Greater}
 use Rattle.std.specs.FinMap.Entries.{below_all, find-put, find-where_key, is_sorted-put}
@@ -19,9 +19,10 @@ use Rattle.dnssec_keyset.specs.KeySet.{KeySetParts}
 use Rattle.dnssec_zone.proofs.Quantified.{first, second}
 use Rattle.dnssec_run.specs.declared.record.{Published.Published, PublishedKey.PublishedKey}
 use Rattle.dnssec_run.specs.Published.{Id, World, id_of, keys_where}
-use Rattle.dnssec_run.specs.Recorder.{Agrees, ChangesAt, HasSameKeys, IsAscending, PlacesKey}
-use Rattle.dnssec_run.specs.Recorder.{SaysShownAt, SetsPlace, at_list, passing, position_after}
-use Rattle.dnssec_run.specs.Recorder.{position_in, position_shown, shows}
+use Rattle.dnssec_run.specs.Adds.{IsAscending, position_in}
+use Rattle.dnssec_run.specs.Recorder.{Agrees, ChangesAt, HasSameKeys, PlacesKey, SaysShownAt}
+use Rattle.dnssec_run.specs.Recorder.{SetsPlace, at_list, passing, position_after, position_shown}
+use Rattle.dnssec_run.specs.Recorder.{shows}
 use Rattle.dnssec_run.specs.declared.lists.{ByList.ByList, Shown.Shown}
 use Rattle.dnssec_run.proofs.Positions.{equal-keys, order, shown-ascending, shown-by, shown-found}
 
@@ -60,7 +61,7 @@ module _ (r : List ℕ) where
   turned : (x : List ℕ) (o : Ordering) → order x r ≡ o → order r x ≡ ordering_reverse o
   turned x o e = nat_list_cmp_total.antisymm r x ∙ ap ordering_reverse e
 
-  same-test : (x : List ℕ) → is_eq (order r x) ≡ is_eq (order x r)
+  pub same-test : (x : List ℕ) → is_eq (order r x) ≡ is_eq (order x r)
   same-test x = ap is_eq (nat_list_cmp_total.antisymm r x) ∙ turned_eq (order x r)
 
   abbrev other : List ℕ → Bool
@@ -184,19 +185,46 @@ module _ (r : List ℕ) where
   IsMissed keys i = (i ≤ length keys)
       × (IsNonDecreasingBy (λ y. ordering_index (stands y)) keys → IsGap keys i)
 
+  -- a key is put in where it was missed, or in place of the one that was found
+  pub puts : (old new : List PublishedKey) (i n : ℕ) (k : PublishedKey) → IsMissed old i
+      → new ≡ insert old i k → id_of k ≡ (r, n) → IsAscending (ids old)
+      → ids new ≡ put order r n (ids old)
+  puts old new i n k missed is key up =
+      ap ids is ∙ inserted old i n k missed.0 (missed.1 (rising old up)) key
+
+  pub replaces : (keys : List PublishedKey) (i n : ℕ) (k : PublishedKey) → i < length keys
+      → IsHere keys i → id_of k ≡ (r, n) → IsAscending (ids keys)
+      → ids (slice_set keys i k) ≡ put order r n (ids keys)
+  replaces [] i n k fits here key up = absurd (omega arith)
+  replaces (x ∷ xs) zero n k fits here key up =
+      rw (turned (reference x) Equal (here x))
+      (ap (λ (id : Id). id ∷ ids xs) (key
+      ∙ ap (λ (q : List ℕ). (q, n)) (sym (equal-keys (reference x) r (here x)))))
+  replaces (x ∷ xs) (suc i) n k fits here key up =
+      rw (turned (reference x) Less (lower (order (reference x) r)
+      (below_here (reference x) xs i (omega arith) (first _ _ up) here)))
+      (ap (λ (l : List Id). id_of x ∷ l) (replaces xs i n k (omega arith) here key (second _ _ up)))
+
+  pub put-ascending : (old new : List Id) (n : ℕ) → new ≡ put order r n old → IsAscending old
+      → IsAscending new
+  put-ascending old new n is up = rw is (is_sorted-put order nat_list_cmp_total r n old up)
+
+  pub put-found : (old new : List Id) (n : ℕ) → new ≡ put order r n old → (q : List ℕ)
+      → position_in new q ≡ cond (bytes_eq r q) (Some n) (position_in old q)
+  put-found old new n is q = rw (is, find-put order nat_list_cmp_total q r n old, ← same-test q)
+      (rw (is_eq-slice_cmp r q) refl)
+
   pub puts-key : (old new : List PublishedKey) (i n : ℕ) (k : PublishedKey) → IsMissed old i
       → new ≡ insert old i k → id_of k ≡ (r, n) → IsAscending (ids old)
       → SetsPlace r (Some n) (ids old) (ids new)
   puts-key old new i n k missed is key up =
-      let gap = missed.1 (rising old up) in
-      let put_in : ids new ≡ put order r n (ids old) =
-      ap ids is ∙ inserted old i n k missed.0 gap key in
+      let put_in = puts old new i n k missed is key up in
       record {
-        ascending = rw put_in (is_sorted-put order nat_list_cmp_total r n (ids old) up);
+        ascending = put-ascending (ids old) (ids new) n put_in up;
         found = λ q. at_reference (Some n) (position_in (ids old)) q (position_in (ids new) q)
-            (rw (put_in, find-put order nat_list_cmp_total q r n (ids old), ← same-test q)
-            (rw (is_eq-slice_cmp r q) refl))
-            (ap (position_after (Some n)) (absent old (gap-apart old i gap)));
+            (put-found (ids old) (ids new) n put_in q)
+            (ap (position_after (Some n))
+            (absent old (gap-apart old i (missed.1 (rising old up)))));
       }
 
   pub takes-key : (old new : List PublishedKey) (i : ℕ) (at : Option ℕ) → is_some at ≡ false

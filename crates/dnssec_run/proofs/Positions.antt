@@ -3,7 +3,6 @@
 use Rattle.std.proofs.Common.{◌≡◌, ℕ, Bool, true, false, cond, List, [], ◌∷◌, map, None, Some, refl}
 use Rattle.std.proofs.Common.{sym, ap, subst, ◌∙◌, string_bytes, ◌++◌, append_assoc, append-nil}
 use Rattle.std.proofs.Common.{arith, ◌≤◌, ◌+◌, length, drop, take}
-use Rattle.std.proofs.lemmas.Bool.{true≢false}
 use Rattle.std.proofs.lemmas.List.{length-take-le, map_more, take_at}
 use Rattle.std.proofs.lemmas.List.Edits.{get_or-insert_at, length-insert}
 use Rattle.std.proofs.lemmas.Option.{get_or_from_slice_get, slice_get_within}
@@ -12,23 +11,27 @@ use Rattle.std.specs.Ordering.{nat_cmp, is_eq, is_lt}
 use Rattle.std.specs.FinMap.{find, get, entries, get-empty, get-entries, entries_sorted}
 use Rattle.std.specs.FinMap.{slice_cmp-IsAntisymmetric, nat_cmp-IsAntisymmetric}
 use Rattle.std.specs.FinMap.Entries.{below_all, is_sorted, same_entries, find-where_key}
-use Rattle.std.specs.FinMap.Entries.{is_sorted-where_key, where_key}
+use Rattle.std.specs.FinMap.Entries.{is_sorted-where_key}
 use Rattle.std.specs.declared.cmp.Ordering.{Ordering, TheVariants.Equal, TheVariants.Less}
+use Rattle.std.specs.declared.cmp.Ordering.TheVariants.{Greater}
 use Rattle.std.specs.{declared.string.String.String, Cmp.Lexicographic.slice_cmp}
 use Rattle.std.specs.{Cmp.Lexicographic.nat_list_cmp_total, List.AllByRecursion, List.insert}
 use Rattle.std.specs.{List.Sorted.IsStrictlySortedBy, Option.option_map}
-use Rattle.std.specs.{String.string_cmp, Map.lookup, Map.keys_of, BTreeMap.BTreeMap}
-use Rattle.std.specs.BTreeMap.{IsOrdered}
+use Rattle.std.specs.{String.string_cmp, Map.lookup, Map.keys_of}
 use Rattle.dnssec_key.specs.{declared.kind.KeyType.KeyType, Key.KeyParts}
 use Rattle.dnssec_keyset.specs.KeySet.{KeySetParts}
-use Rattle.dnssec_zone.proofs.Quantified.{apart, below_found, first, same_key, second}
+use Rattle.dnssec_zone.proofs.Quantified.{first, same_key, second}
 use Rattle.dnssec_run.specs.Published.{Id, World, keys_where, id_of}
 use Rattle.dnssec_run.specs.Record.{new_world}
-use Rattle.dnssec_run.specs.Recorder.{Agrees, IsAscending, ids_where, position_in, position_shown}
-use Rattle.dnssec_run.specs.Recorder.{HasKept, KeptBy, Reading, shown_once, ids_read}
+use Rattle.dnssec_run.specs.Adds.{IsAscending, position_in}
+use Rattle.dnssec_run.specs.Recorder.{Agrees, AreAtStart, HasKept, IsAtStart, KeptBy, Reading}
+use Rattle.dnssec_run.specs.Recorder.{ShowsKey, ShowsNext, ids_read, ids_where, position_shown}
+use Rattle.dnssec_run.specs.Recorder.{reading, shown_once}
+use Rattle.dnssec_run.specs.Published.{in_dnskey, in_ds, signs_dnskey, signs_zone}
+use Rattle.dnssec_run.specs.declared.{lists.ByList.ByList, record.Published.Published}
+use Rattle.dnssec_run.specs.declared.sets.Renewals.{Renewals}
 pub use Rattle.dnssec_run.specs.Recorder.{passing}
 use Rattle.dnssec_run.specs.declared.record.PublishedKey.{PublishedKey}
-use Rattle.std.specs.BTreeMap as tree
 
 abbrev pub order : List ℕ → List ℕ → Ordering
 order = slice_cmp nat_cmp
@@ -48,14 +51,18 @@ shown-alike : (p : KeyType → Bool) (o u : Option KeyParts) (m n : ℕ) → pas
     → position_shown p o (Some m) ≡ position_shown p u (Some n)
 shown-alike p o u m n same added = grind arith
 
+less-apart : (o : Ordering) → T (is_lt o) → is_eq o ≡ false
+less-apart Less h = refl
+less-apart Equal h = absurd h
+less-apart Greater h = absurd h
+
 -- a key below all of a list is none of it
-none-below : (x q : List ℕ) (es : List (List ℕ × KeyParts)) → T (below_all order x es)
+pub none-below : {X : Type 0} (x q : List ℕ) (es : List (List ℕ × X)) → T (below_all order x es)
     → is_eq (order q x) ≡ true → find order q es ≡ None
-none-below x q es b e = by (find order q es) refl
-  where
-    by : (o : Option KeyParts) → find order q es ≡ o → o ≡ None
-    by None f = refl
-    by (Some v) f = absurd (true≢false (sym e ∙ apart x q (below_found x q v es b f)))
+none-below x q [] b e = refl
+none-below x q (f ∷ es) b e =
+    ap (λ t. cond t (Some f.1) (find order q es)) (ap (λ k. is_eq (order k f.0)) (same_key q x e)
+    ∙ less-apart (order x f.0) (first _ _ b)) ∙ none-below x q es (second _ _ b) e
 
 module _ (passes : KeyType → Bool) (added : List ℕ → ℕ) where
   abbrev id : List ℕ × KeyParts → Id
@@ -149,26 +156,26 @@ module _ (xs : List PublishedKey) (i : ℕ) (k : PublishedKey) (id : Id) where
 -- ---- the entries of a tree, by bytes
 
 module _ {Y : Type 0} where
-  abbrev by_bytes : List (String Y × ℕ) → List Id
-  by_bytes es = map (λ (e : String Y × ℕ). (string_bytes e.0, e.1)) es
+  abbrev pub by_text : List (String Y × ℕ) → List Id
+  by_text es = map (λ (e : String Y × ℕ). (string_bytes e.0, e.1)) es
 
-  find-by_bytes : (es : List (String Y × ℕ)) (q : List ℕ)
-      → find order q (by_bytes es) ≡ lookup (λ k. is_eq (order q (string_bytes k))) es
-  find-by_bytes [] q = refl
-  find-by_bytes (e ∷ es) q =
-      ap (cond (is_eq (order q (string_bytes e.0))) (Some e.1)) (find-by_bytes es q)
+  pub find-by_text : (es : List (String Y × ℕ)) (q : List ℕ)
+      → find order q (by_text es) ≡ lookup (λ k. is_eq (order q (string_bytes k))) es
+  find-by_text [] q = refl
+  find-by_text (e ∷ es) q =
+      ap (cond (is_eq (order q (string_bytes e.0))) (Some e.1)) (find-by_text es q)
 
   less_below : (x : String Y) (es : List (String Y × ℕ))
       → AllByRecursion (λ y. string_cmp x y ≡ Less) (keys_of es)
-      → T (below_all order (string_bytes x) (by_bytes es))
+      → T (below_all order (string_bytes x) (by_text es))
   less_below x [] h = tt
   less_below x (e ∷ es) h = both _ _ (subst (λ o. T (is_lt o)) (sym h.0) tt) (less_below x es h.1)
 
-  sorted-by_bytes : (es : List (String Y × ℕ)) → IsStrictlySortedBy string_cmp (keys_of es)
-      → T (is_sorted order (by_bytes es))
+  pub ascending-by_text : (es : List (String Y × ℕ)) → IsStrictlySortedBy string_cmp (keys_of es)
+      → IsAscending (by_text es)
   unfolding IsStrictlySortedBy
-  sorted-by_bytes [] h = tt
-  sorted-by_bytes (e ∷ es) h = both _ _ (less_below e.0 es h.0) (sorted-by_bytes es h.1)
+  ascending-by_text [] h = tt
+  ascending-by_text (e ∷ es) h = both _ _ (less_below e.0 es h.0) (ascending-by_text es h.1)
 
 -- ---- the walk
 
@@ -187,106 +194,130 @@ kind_of_key = option_map (λ (k : KeyParts). k.keytype)
 abbrev pub kind_at : (List ℕ → Option KeyParts) → List ℕ → Option KeyType
 kind_at key q = kind_of_key (key q)
 
-module _ {Y : Type 0} (p : KeyType → Bool) (key : List ℕ → Option KeyParts) where
-  passing-by_bytes : (es : List (String Y × ℕ))
-      → ids_where p key es ≡ where_key order (test p key) (by_bytes es)
-  passing-by_bytes [] = refl
-  passing-by_bytes (e ∷ es) =
-      let rest = passing-by_bytes es in
-      let left = filter (λ (e : String Y × ℕ). test p key (string_bytes e.0)) es in
-      elim (test p key (string_bytes e.0)) as (λ b. by_bytes (cond b (e ∷ left) left)
-      ≡ cond b ((string_bytes e.0, e.1) ∷ where_key order (test p key) (by_bytes es))
-      (where_key order (test p key) (by_bytes es)))
-      [ true ↦ ap (λ l. (string_bytes e.0, e.1) ∷ l) rest | false ↦ rest ]
-
+module _ (p : KeyType → Bool) (key : List ℕ → Option KeyParts) where
   -- the whole walk shows the set
-  pub passing-shown : (m : BTreeMap (String Y) ℕ) (set : KeySetParts) (w : World)
-      → IsOrdered string_cmp m → Agrees set (tree.get_by_text m) w
-      → ((q : List ℕ) → key q ≡ get set.keys q) → ids_where p key m.entries ≡ keys_where p w
-  passing-shown m set w ordered agrees keys =
-      let is = passing-by_bytes m.entries in
-      shown-by p w (ids_where p key m.entries)
-      (rw is (is_sorted-where_key order (test p key) (by_bytes m.entries)
-      (sorted-by_bytes m.entries ordered)))
-      (λ q. ap (λ l. position_in l q) is
-      ∙ find-where_key order (test p key) q (λ x e. ap (test p key) (sym (equal-keys q x e)))
-      (by_bytes m.entries)
-      ∙ rw (find-by_bytes m.entries q, agrees.positions q, keys q, agrees.same)
+  pub passing-shown : (all : List Id) (set : KeySetParts) (w : World) → IsAscending all
+      → Agrees set (position_in all) w → ((q : List ℕ) → key q ≡ get set.keys q)
+      → ids_where p key all ≡ keys_where p w
+  passing-shown all set w up agrees keys =
+      shown-by p w (ids_where p key all) (is_sorted-where_key order (test p key) all up)
+      (λ q. find-where_key order (test p key) q
+      (λ x e. ap (test p key) (sym (equal-keys q x e))) all
+      ∙ rw (agrees.positions q, keys q, agrees.same)
       (shown-where p (get w.set.keys q) (w.added q)))
 
-  -- the first entry's key is shown, and then those of the others
-  passing-first : (e : String Y × ℕ) (es : List (String Y × ℕ)) → ids_where p key (e ∷ es)
-      ≡ shown_once p (kind_at key (string_bytes e.0)) (string_bytes e.0, e.1) ++ ids_where p key es
-  passing-first e es = by (key (string_bytes e.0))
-      (filter (λ (e : String Y × ℕ). test p key (string_bytes e.0)) es)
+  -- the first key is shown, and then the others
+  passing-first : (e : Id) (es : List Id) → ids_where p key (e ∷ es)
+      ≡ shown_once p (kind_at key e.0) e ++ ids_where p key es
+  passing-first e es = by (key e.0) (ids_where p key es)
     where
-      by : (o : Option KeyParts) (rest : List (String Y × ℕ))
-          → by_bytes (cond (passing p o) (e ∷ rest) rest)
-          ≡ shown_once p (kind_of_key o) (string_bytes e.0, e.1) ++ by_bytes rest
+      by : (o : Option KeyParts) (rest : List Id) → cond (passing p o) (e ∷ rest) rest
+          ≡ shown_once p (kind_of_key o) e ++ rest
       by o rest = grind arith
 
 -- ---- a walk over all keys
 
-module _ {Y : Type 0} (passes : KeyType → Bool) (key : List ℕ → Option KeyParts) (touched : Bool)
-    (before : List PublishedKey) (all : List (String Y × ℕ)) where
-  abbrev ids : List (String Y × ℕ) → List Id
-  ids es = ids_where passes key es
-
+module _ (passes : KeyType → Bool) (key : List ℕ → Option KeyParts) (touched : Bool)
+    (before : List PublishedKey) (all : List Id) where
   -- a set that is touched has what it shows of the keys that were met; another is as before
-  pub record Reads (left : List (String Y × ℕ)) (set : Reading) : Type 0 where
+  pub record Reads (left : List Id) (set : Reading) : Type 0 where
     pub mark : set.at.is_touched ≡ touched
     pub read : touched ≡ true → ids_read set ++ ids_where passes key left ≡ ids_where passes key all
     pub stays : touched ≡ false → set.keys.items ≡ before
     pub fits : set.at.read ≤ vec_len set.keys
     pub kept : HasKept before set
 
-  pub reads-begin : (set : Reading) (left : List (String Y × ℕ)) → left ≡ all
-      → set.at.is_touched ≡ touched → ids_read set ≡ [] → set.keys.items ≡ before
-      → set.at.read ≤ vec_len set.keys → set.at.around ≡ None → Reads left set
-  reads-begin set left begun mark none same fits alone = record {
-    mark = mark;
-    read = λ t i. none i ++ ids (begun i);
+  reads-begin : (set : Reading) → IsAtStart touched set.at → set.keys.items ≡ before
+      → Reads all set
+  reads-begin set start same = record {
+    mark = start.mark;
+    read = λ t. ap (λ n. map id_of (take n set.keys.items) ++ ids_where passes key all) start.read;
     stays = λ t. same;
-    fits = fits;
-    kept = subst (λ o. KeptBy o before set) (sym alone) same;
+    fits = omega (arith, start.read);
+    kept = subst (λ o. KeptBy o before set) (sym start.around) same;
   }
 
-  pub reads-next : (old new : Reading) (left : List (String Y × ℕ)) (e : String Y × ℕ)
-      (es : List (String Y × ℕ)) (o : Option KeyType) → left ≡ e ∷ es
-      → o ≡ kind_at key (string_bytes e.0)
-      → (old.at.is_touched ≡ true
-      → ids_read new ≡ ids_read old ++ shown_once passes o (string_bytes e.0, e.1))
+  reads-on : (old new : Reading) (e : Id) (es : List Id) (o : Option KeyType)
+      → o ≡ kind_at key e.0
+      → (old.at.is_touched ≡ true → ids_read new ≡ ids_read old ++ shown_once passes o e)
       → (old.at.is_touched ≡ false → new ≡ old) → new.at.is_touched ≡ old.at.is_touched
       → new.at.read ≤ vec_len new.keys → (HasKept before old → HasKept before new)
-      → Reads left old → Reads es new
-  reads-next old new left e es o steps found read stays mark fits kept so = record {
+      → Reads (e ∷ es) old → Reads es new
+  reads-on old new e es o found read stays mark fits kept so = record {
     mark = mark ∙ so.mark;
     read = λ t. rw (read (so.mark ∙ t), found, append_assoc)
-        (ap (λ l. ids_read old ++ l) (sym (passing-first passes key e es))
-        ∙ ap (λ l. ids_read old ++ ids l) (sym steps) ∙ so.read t);
+        (ap (λ l. ids_read old ++ l) (sym (passing-first passes key e es)) ∙ so.read t);
     stays = λ t. ap (λ (set : Reading). set.keys.items) (stays (so.mark ∙ t)) ∙ so.stays t;
     fits = fits;
     kept = kept so.kept;
   }
 
-  -- a key that isn't there is in no set
-  pub reads-past : (set : Reading) (left : List (String Y × ℕ)) (e : String Y × ℕ)
-      (es : List (String Y × ℕ)) → left ≡ e ∷ es → None ≡ kind_at key (string_bytes e.0)
-      → Reads left set → Reads es set
-  reads-past set left e es steps none so =
-      reads-next set set left e es None steps none (λ t. sym (append-nil (ids_read set)))
-      (λ t. refl) refl so.fits (λ k. k) so
+  reads-next : (old new : Reading) (e : Id) (es : List Id) (k : KeyType)
+      → Some k ≡ kind_at key e.0 → ShowsNext passes k e old new → Reads (e ∷ es) old
+      → Reads es new
+  reads-next old new e es k found next so =
+      reads-on old new e es (Some k) found next.ok next.left next.touched next.fits
+      (next.kept before) so
 
-  pub reads-all : (set : Reading) (left : List (String Y × ℕ)) (items : List PublishedKey)
-      (v w : World) → left ≡ [] → Reads left set
+  -- a key that isn't there is in no set
+  reads-past : (set : Reading) (e : Id) (es : List Id) → None ≡ kind_at key e.0
+      → Reads (e ∷ es) set → Reads es set
+  reads-past set e es none so =
+      reads-on set set e es None none (λ t. sym (append-nil (ids_read set))) (λ t. refl) refl
+      so.fits (λ k. k) so
+
+  pub reads-all : (set : Reading) (items : List PublishedKey) (v w : World) → Reads [] set
       → (set.at.is_touched ≡ true → map id_of items ≡ ids_read set)
       → (set.at.is_touched ≡ false → items ≡ set.keys.items)
       → ids_where passes key all ≡ keys_where passes w → map id_of before ≡ keys_where passes v
       → (touched ≡ false → keys_where passes w ≡ keys_where passes v)
       → map id_of items ≡ keys_where passes w
-  reads-all set left items v w none so read stays shown was leaves = by touched refl
+  reads-all set items v w so read stays shown was leaves = by touched refl
     where
       by : (t : Bool) → touched ≡ t → map id_of items ≡ keys_where passes w
-      by true t = read (so.mark ∙ t) ∙ sym (append-nil (ids_read set))
-          ∙ ap (λ l. ids_read set ++ ids l) (sym none) ∙ so.read t ∙ shown
+      by true t = read (so.mark ∙ t) ∙ sym (append-nil (ids_read set)) ∙ so.read t ∙ shown
       by false t = ap (map id_of) (stays (so.mark ∙ t) ∙ so.stays t) ∙ was ∙ sym (leaves t)
+
+-- the same of the four lists
+module _ (key : List ℕ → Option KeyParts) (touched : ByList) (before : Published)
+    (all : List Id) where
+  pub record AllRead (left : List Id) (at : Renewals) (sets : Published) : Type 0 where
+    pub ds : Reads in_ds key touched.ds before.ds.items all left (reading at.ds sets.ds)
+    pub dnskey : Reads in_dnskey key touched.dnskey before.dnskey.items all left
+        (reading at.dnskey sets.dnskey)
+    pub dnskey_signers : Reads signs_dnskey key touched.dnskey_signers
+        before.dnskey_signers.items all left (reading at.dnskey_signers sets.dnskey_signers)
+    pub zone_signers : Reads signs_zone key touched.zone_signers before.zone_signers.items all
+        left (reading at.zone_signers sets.zone_signers)
+
+  pub all-begin : (at : Renewals) → AreAtStart touched at → AllRead all at before
+  all-begin at start = record {
+    ds = reads-begin _ _ _ _ _ _ start.ds refl;
+    dnskey = reads-begin _ _ _ _ _ _ start.dnskey refl;
+    dnskey_signers = reads-begin _ _ _ _ _ _ start.dnskey_signers refl;
+    zone_signers = reads-begin _ _ _ _ _ _ start.zone_signers refl;
+  }
+
+  pub all-next : (old new : Renewals) (sets after : Published) (left : List Id) (e : Id)
+      (es : List Id) (k : KeyType) → left ≡ e ∷ es → Some k ≡ kind_at key e.0
+      → ShowsKey k e old sets new after → AllRead left old sets → AllRead es new after
+  all-next old new sets after left e es k steps found next was =
+      let so = subst (λ ids. AllRead ids old sets) steps was in
+      record {
+        ds = reads-next _ _ _ _ _ _ _ e es k found next.ds so.ds;
+        dnskey = reads-next _ _ _ _ _ _ _ e es k found next.dnskey so.dnskey;
+        dnskey_signers =
+            reads-next _ _ _ _ _ _ _ e es k found next.dnskey_signers so.dnskey_signers;
+        zone_signers = reads-next _ _ _ _ _ _ _ e es k found next.zone_signers so.zone_signers;
+      }
+
+  pub all-past : (at : Renewals) (sets : Published) (left : List Id) (e : Id) (es : List Id)
+      → left ≡ e ∷ es → None ≡ kind_at key e.0 → AllRead left at sets → AllRead es at sets
+  all-past at sets left e es steps none was =
+      let so = subst (λ ids. AllRead ids at sets) steps was in
+      record {
+        ds = reads-past _ _ _ _ _ _ e es none so.ds;
+        dnskey = reads-past _ _ _ _ _ _ e es none so.dnskey;
+        dnskey_signers = reads-past _ _ _ _ _ _ e es none so.dnskey_signers;
+        zone_signers = reads-past _ _ _ _ _ _ e es none so.zone_signers;
+      }

@@ -1,3 +1,4 @@
+pub mod Adds
 pub mod Asked
 pub mod ByAlgorithm
 pub mod ByKind

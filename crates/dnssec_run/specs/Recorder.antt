@@ -1,16 +1,12 @@
 -- What the recorder of a run keeps besides the key set.
 use denote.Ref.{Bor}
-use Rattle.std.specs.Prelude.{◌≡◌, ℕ, Bool, false, T, List, [], ◌∷◌, length, map, filter, take}
+use Rattle.std.specs.Prelude.{◌≡◌, ℕ, Bool, false, List, [], ◌∷◌, length, map, filter, take}
 use Rattle.std.specs.Prelude.{Option, None, Some, true, IsSome, if◌then◌else◌, string_bytes}
-use Rattle.std.specs.Prelude.{◌≤◌, ◌+◌, vec_len}
+use Rattle.std.specs.Prelude.{◌≤◌, ◌+◌, ◌++◌, vec_len}
 use Rattle.std.specs.Option.{option_map, option_map_or}
 use Rattle.std.specs.List.{All}
 use Rattle.std.specs.Str.{bytes_eq}
-use Rattle.std.specs.FinMap.{get, find}
-use Rattle.std.specs.FinMap.Entries.{is_sorted}
-use Rattle.std.specs.BTreeMap as tree
-use Rattle.std.specs.Cmp.Lexicographic.{slice_cmp}
-use Rattle.std.specs.Ordering.{nat_cmp}
+use Rattle.std.specs.FinMap.{get}
 use Rattle.std.specs.declared.string.String.{String}
 use Rattle.std.specs.declared.vec.Vec.{Vec}
 use Rattle.std.specs.Global.{Global}
@@ -19,6 +15,7 @@ use Rattle.dnssec_key.specs.Key.{KeyParts}
 use Rattle.dnssec_key.specs.Setters.{Setting, Present, Signer, AtParent, Stale}
 use Rattle.dnssec_keyset.specs.KeySet.{KeySetParts}
 use Rattle.dnssec_keyset.specs.Step as keyset
+use Rattle.dnssec_run.specs.Adds.{IsAscending, added_in, position_in}
 use Rattle.dnssec_run.specs.declared.call.Call.{Call}
 use Rattle.dnssec_run.specs.declared.call.KeyChange.{KeyChange}
 use Rattle.dnssec_run.specs.declared.call.KeyChange.TheVariants.{Adds, Deletes}
@@ -27,7 +24,7 @@ use Rattle.dnssec_run.specs.declared.record.Outcome.{Outcome}
 use Rattle.dnssec_run.specs.declared.record.{Frame.Frame, Published.Published}
 use Rattle.dnssec_run.specs.declared.record.PublishedKey.{PublishedKey}
 use Rattle.dnssec_run.specs.Frames.{KeepsFrame}
-use Rattle.dnssec_run.specs.declared.sets.Renewal.{Renewal}
+use Rattle.dnssec_run.specs.declared.sets.{Renewal.Renewal, Renewals.Renewals}
 use Rattle.dnssec_run.specs.declared.running.Recorder.{Recorder}
 use Rattle.dnssec_run.specs.declared.lists.{ByList.ByList, Shown.Shown}
 use Rattle.dnssec_run.specs.declared.lists.Shown.TheVariants.{Ds, Dnskey, DnskeySigners}
@@ -114,14 +111,6 @@ pub record Leaves (touched : ByList) (v w : World) : Type 0 where
 
 -- ---- the place of one key in a set
 
--- a set is in the order of its references' bytes, and has no reference twice
-abbrev pub IsAscending : List Id → Type 0
-IsAscending ids = T (is_sorted (slice_cmp nat_cmp) ids)
-
--- the position of the key with this reference in a set, if it is there
-abbrev pub position_in : List Id → List ℕ → Option ℕ
-position_in ids q = find (slice_cmp nat_cmp) q ids
-
 -- the position of a key, if a set shows it
 abbrev pub position_shown : (KeyType → Bool) → Option KeyParts → Option ℕ → Option ℕ
 position_shown passes None at = None
@@ -162,13 +151,9 @@ PlacesKey added reference is_shown old new =
 
 -- ---- a walk over the keys
 
--- the entries whose key passes, as keys of a record
-abbrev pub ids_where : {Y : Type 0} → (KeyType → Bool) → (List ℕ → Option KeyParts)
-    → List (String Y × ℕ) → List Id
-ids_where {Y} p key es =
-    map (λ (e : String Y × ℕ). (string_bytes e.0, e.1))
-    (filter (λ (e : String Y × ℕ). option_map_or (λ (k : KeyParts). p k.keytype)
-    (key (string_bytes e.0)) false) es)
+-- the keys that are there and pass
+abbrev pub ids_where : (KeyType → Bool) → (List ℕ → Option KeyParts) → List Id → List Id
+ids_where p key ids = filter (λ (id : Id). passing p (key id.0)) ids
 
 -- each key that is lent is the one at its reference
 abbrev pub AreFound : {Y : Type 0} → (List ℕ → Option KeyParts)
@@ -206,6 +191,48 @@ KeptBy (Some frame) before set =
 abbrev pub HasKept : List PublishedKey → Reading → Type 0
 HasKept before set = KeptBy set.at.around before set
 
+-- no key of the list is read yet
+pub record IsAtStart (touched : Bool) (at : Renewal) : Type 0 where
+  pub read : at.read ≡ 0
+  pub around : at.around ≡ None
+  pub mark : at.is_touched ≡ touched
+
+-- the same of the four lists
+pub record AreAtStart (touched : ByList) (at : Renewals) : Type 0 where
+  pub ds : IsAtStart touched.ds at.ds
+  pub dnskey : IsAtStart touched.dnskey at.dnskey
+  pub dnskey_signers : IsAtStart touched.dnskey_signers at.dnskey_signers
+  pub zone_signers : IsAtStart touched.zone_signers at.zone_signers
+
+-- the next key is read: a list that is touched has it too, if it shows it; another stays
+pub record ShowsNext (passes : KeyType → Bool) (keytype : KeyType) (id : Id) (old new : Reading)
+    : Type 0 where
+  pub ok : old.at.is_touched ≡ true →
+      ids_read new ≡ ids_read old ++ shown_once passes (Some keytype) id
+  pub left : old.at.is_touched ≡ false → new ≡ old
+  pub touched : new.at.is_touched ≡ old.at.is_touched
+  pub fits : new.at.read ≤ vec_len new.keys
+  pub kept : (before : List PublishedKey) → HasKept before old → HasKept before new
+
+-- the same of the four lists
+pub record ShowsKey (keytype : KeyType) (id : Id) (old : Renewals) (before : Published)
+    (new : Renewals) (after : Published) : Type 0 where
+  pub ds : ShowsNext in_ds keytype id (reading old.ds before.ds) (reading new.ds after.ds)
+  pub dnskey : ShowsNext in_dnskey keytype id (reading old.dnskey before.dnskey)
+      (reading new.dnskey after.dnskey)
+  pub dnskey_signers : ShowsNext signs_dnskey keytype id
+      (reading old.dnskey_signers before.dnskey_signers)
+      (reading new.dnskey_signers after.dnskey_signers)
+  pub zone_signers : ShowsNext signs_zone keytype id
+      (reading old.zone_signers before.zone_signers) (reading new.zone_signers after.zone_signers)
+
+-- no more keys are read than there are
+pub record AreWithin (at : Renewals) (sets : Published) : Type 0 where
+  pub ds : at.ds.read ≤ vec_len sets.ds
+  pub dnskey : at.dnskey.read ≤ vec_len sets.dnskey
+  pub dnskey_signers : at.dnskey_signers.read ≤ vec_len sets.dnskey_signers
+  pub zone_signers : at.zone_signers.read ≤ vec_len sets.zone_signers
+
 -- two sets of lists have the same keys
 pub record HasSameKeys (one other : Published) : Type 0 where
   pub ds : map id_of one.ds.items ≡ map id_of other.ds.items
@@ -225,13 +252,13 @@ pub record Records (name : List ℕ) (calls : List Call) (entries : List Entry) 
     : Type 0 where
   pub run : IsRun name calls entries
   pub at : r.at ≡ length entries
-  pub agrees : Agrees r.keyset (tree.get_by_text r.added)
+  pub agrees : Agrees r.keyset (added_in r.added.kept)
       (world_at name calls entries (length calls))
   pub published : IsPublished r.published (world_at name calls entries (length calls))
 
 -- two recorders stand at one position, over equal key sets, positions and sets
 pub record IsCopyOf (copy r : Recorder) : Type 0 where
   pub keyset : copy.keyset ≡ r.keyset
-  pub added : (q : List ℕ) → tree.get_by_text copy.added q ≡ tree.get_by_text r.added q
+  pub added : (q : List ℕ) → added_in copy.added.kept q ≡ added_in r.added.kept q
   pub published : HasSameKeys copy.published r.published
   pub at : copy.at ≡ r.at

@@ -4,6 +4,7 @@
 //! `dnssec_record` re-exports what its callers name, and `dnssec_judge` uses the rest.
 #![tactic(auto)]
 
+mod adds;
 mod caches;
 mod call;
 mod copies;

@@ -1,19 +1,19 @@
 //! The places of one key in the sets.
 ghost use Rattle.std.specs.Prelude.{◌≡◌, ◌≢◌, Bool, None, Some, map, IfOk, OnOk, true};
 ghost use Rattle.std.specs.Prelude.{false, length};
-ghost use Rattle.std.specs.BTreeMap as tree;
 ghost use Rattle.std.specs.FinMap.{get};
-ghost use Rattle.dnssec_run.specs.Frames.{KeepsFrame, KeepsFrames};
+ghost use Rattle.dnssec_run.specs.{Adds.added_in, Frames.KeepsFrame, Frames.KeepsFrames};
 ghost use Rattle.dnssec_run.specs.Published.{IsPublished, World, id_of};
 ghost use Rattle.dnssec_run.specs.declared.lists.Shown.{Shown};
 ghost use Rattle.dnssec_run.specs.Recorder.{Agrees, ChangesAt, HasSameKeys, Leaves};
 ghost use Rattle.dnssec_run.specs.Recorder.{PlacesKey, SaysShownAt, at_list, passing, shows};
 
+use crate::adds::Adds;
+use crate::copies::put_at;
 use crate::lists::{ByList, Shown};
 use crate::record::{Frame, Frames, Published, PublishedKey};
 use dnssec_keyset::{KeySet, KeyType};
 use std::alloc::{AllocError, Global};
-use std::collections::BTreeMap;
 
 /// Brings the published lists `sets` up to date after a call that set the key `reference` by hand,
 /// and answers whether they have changed. Only the lists in `touched` may change, and only this key
@@ -27,7 +27,7 @@ use std::collections::BTreeMap;
 pub(crate) fn renew_key(
     alloc: Global,
     keyset: &KeySet,
-    added: &BTreeMap<String, usize>,
+    added: &Adds,
     sets: &mut Published,
     touched: ByList,
     reference: &str,
@@ -39,7 +39,7 @@ pub(crate) fn renew_key(
     ensures frames { OnOk result (KeepsFrames frames.new sets.old sets.new) }
     ensures read { OnOk result ((v w : World) → IsPublished sets.old v → Leaves touched v w →
         ChangesAt reference.now v w → SaysShownAt says touched reference.now keyset.now →
-        Agrees keyset.now (tree.get_by_text added.now) w → IsPublished sets.new w) }
+        Agrees keyset.now (added_in added.now.kept) w → IsPublished sets.new w) }
 {
     let shown = lists_with(keyset, reference, says);
     let keys = &mut sets.ds;
@@ -119,7 +119,7 @@ fn renew_place(
     alloc: Global,
     is_touched: bool,
     is_shown: bool,
-    added: &BTreeMap<String, usize>,
+    added: &Adds,
     keys: &mut Vec<PublishedKey>,
     reference: &str,
     frame: &mut Frame,
@@ -129,7 +129,7 @@ fn renew_place(
         length keys.old.items ≢ length keys.new.items) }
     ensures frame { OnOk result (KeepsFrame frame.new (map id_of keys.old.items)
         (map id_of keys.new.items)) }
-    ensures ok { OnOk result (is_touched ≡ true → PlacesKey (tree.get_by_text added.now)
+    ensures ok { OnOk result (is_touched ≡ true → PlacesKey (added_in added.now.kept)
         reference.now is_shown (map id_of keys.old.items) (map id_of keys.new.items)) }
     ensures left { OnOk result (is_touched ≡ false →
         map id_of keys.new.items ≡ map id_of keys.old.items) }
@@ -155,7 +155,7 @@ fn renew_place(
 fn place_key(
     alloc: Global,
     is_shown: bool,
-    added: &BTreeMap<String, usize>,
+    added: &Adds,
     keys: &mut Vec<PublishedKey>,
     reference: &str,
     frame: &mut Frame,
@@ -165,7 +165,7 @@ fn place_key(
         length keys.old.items ≢ length keys.new.items) }
     ensures frame { OnOk result (KeepsFrame frame.new (map id_of keys.old.items)
         (map id_of keys.new.items)) }
-    ensures ok { OnOk result (PlacesKey (tree.get_by_text added.now) reference.now is_shown
+    ensures ok { OnOk result (PlacesKey (added_in added.now.kept) reference.now is_shown
         (map id_of keys.old.items) (map id_of keys.new.items)) }
 {
     match keys.binary_search_by(|key| key.reference.as_str().cmp(reference)) {
@@ -191,9 +191,8 @@ fn place_key(
             let Some(added) = added.get(reference) else {
                 return Ok(false);
             };
-            let added = *added;
             let reference = String::from_str(alloc, reference)?;
-            keys.insert(place, PublishedKey { added, reference })?;
+            put_at(keys, place, PublishedKey { added, reference })?;
             Ok(true)
         }
     }

@@ -1,9 +1,9 @@
 //! Runs of lists of calls, with their records.
 ghost use Rattle.std.specs.Prelude.{◌≡◌, ◌++◌, ◌∷◌, ℕ, List, [], vec_len, IfOk, IfErr, OnOk};
-ghost use Rattle.std.specs.BTreeMap as tree;
 ghost use Rattle.std.specs.Option.{option_map};
 ghost use Rattle.std.specs.Prelude.{true, false, IsSome, Some, None, if◌then◌else◌};
 ghost use Rattle.dnssec_base.specs.declared.error.Error.TheVariants.{OutOfMemory};
+ghost use Rattle.dnssec_run.specs.Adds.{added_in};
 ghost use Rattle.dnssec_run.specs.Asked.{ChangesAsAsked, RetiresAsAsked, asks_to_publish};
 ghost use Rattle.dnssec_run.specs.EarlyEnds.{UndoesStarts};
 ghost use Rattle.dnssec_run.specs.Frames.{KeepsFrames};
@@ -18,6 +18,7 @@ ghost use Rattle.dnssec_run.specs.Recorder.{positions_after, put_by, reference_s
 ghost use Rattle.dnssec_run.specs.declared.call.Call.{Call};
 ghost use Rattle.dnssec_run.specs.declared.record.Entry.{Entry};
 
+use crate::adds::Adds;
 use crate::call::{Call, KeyChange};
 use crate::copies::copy_sets;
 use crate::record::{Entry, Frames, Mark, Outcome, Published, Reply, Run};
@@ -26,28 +27,27 @@ use crate::walk_order::WalkOrder;
 use dnssec_base::Name;
 use dnssec_keyset::{Error, KeySet};
 use std::alloc::{AllocError, Global};
-use std::collections::BTreeMap;
 
 /// Keeps `added`, the position of each key's add by its reference, up to date after the accepted
 /// call at position `at`. `change` is which key the call added or deleted. Answers whether it added
 /// or deleted one. It fails only if there is no memory, and `added` is then of no more use.
-#[tactic(auto, using(std::proofs::lemmas::Map::Text::text_keys))]
 fn note(
-    added: &mut BTreeMap<String, usize>,
+    alloc: Global,
+    added: &mut Adds,
     change: KeyChange<'_>,
     at: usize,
 ) -> Result<bool, AllocError>
-    ensures { OnOk result ((q : List ℕ) → tree.get_by_text added.new q
+    ensures { OnOk result ((q : List ℕ) → added_in added.new.kept q
         ≡ positions_after at (put_by change.entry) (taken_by change.entry)
-        (tree.get_by_text added.old) q) }
+        (added_in added.old.kept) q) }
 {
     match change {
         KeyChange::Adds(reference) => {
-            added.insert(reference, at)?;
+            added.put(alloc, reference, at)?;
             Ok(true)
         }
         KeyChange::Deletes(reference) => {
-            added.remove(reference);
+            added.take(reference);
             Ok(true)
         }
         KeyChange::Nothing => Ok(false),
@@ -71,8 +71,7 @@ fn note(
 #[derive(Drop)]
 pub struct Recorder {
     keyset: KeySet,
-    /// The position of its add, for each key that is there.
-    added: BTreeMap<String, usize>,
+    added: Adds,
     order: WalkOrder,
     /// What is published.
     published: Published,
@@ -90,7 +89,7 @@ impl Recorder {
     {
         Recorder {
             keyset: KeySet::new(alloc, name),
-            added: BTreeMap::new(alloc),
+            added: Adds::new(alloc),
             order: WalkOrder::new(alloc),
             published: Published::none(alloc),
             frames: Frames::NONE,
@@ -141,7 +140,7 @@ impl Recorder {
                 may_publish: false,
             });
         }
-        self.order.is_stale |= note(&mut self.added, meaning.change, at)?;
+        self.order.is_stale |= note(alloc, &mut self.added, meaning.change, at)?;
         let touched = reply.touched(meaning.sets_shown);
         let may_publish = renew(
             alloc,
@@ -226,7 +225,7 @@ impl Recorder {
             Records name calls entries self.now → Records name calls entries copy) }
         ensures err { IfErr result (λ e. e ≡ OutOfMemory) }
     {
-        let added = self.added.clone()?;
+        let added = self.added.try_clone(alloc)?;
         Ok(Recorder {
             keyset: self.keyset.try_clone()?,
             added,

@@ -3,23 +3,25 @@
 ghost use Rattle.std.specs.Prelude.{◌≡◌, ◌≤◌, ◌++◌, ◌∷◌, [], List, IfOk, OnOk, map, true};
 ghost use Rattle.std.specs.Prelude.{◌||◌, false, IsSome, None, Some, if◌then◌else◌};
 ghost use Rattle.std.specs.Prelude.{string_bytes, vec_len};
-ghost use Rattle.std.specs.BTreeMap as tree;
 ghost use Rattle.std.specs.HashMap as hash;
 ghost use Rattle.std.specs.Option.{option_map};
+ghost use Rattle.dnssec_run.specs.Adds.{added_in};
 ghost use Rattle.dnssec_run.specs.Frames.{KeepsFrame, KeepsFrames, frame_with};
 ghost use Rattle.dnssec_run.specs.Published.{IsPublished, World, id_of};
-ghost use Rattle.dnssec_run.specs.Recorder.{Agrees, AreFound, ChangesOnly, HasKept, HasSameKeys};
-ghost use Rattle.dnssec_run.specs.Recorder.{Leaves, SaysShown, ids_read, reading, shown_once};
-ghost use Rattle.dnssec_run.specs.Recorder.{shows};
+ghost use Rattle.dnssec_run.specs.Recorder.{Agrees, AreAtStart, AreWithin, ChangesOnly, HasKept};
+ghost use Rattle.dnssec_run.specs.Recorder.{HasSameKeys, IsAtStart, Leaves, SaysShown, ShowsKey};
+ghost use Rattle.dnssec_run.specs.Recorder.{ids_read, reading, shown_once, shows};
 ghost use Rattle.dnssec_run.specs.declared.record.PublishedKey.{PublishedKey};
 
+use crate::adds::{Adds, Kept};
+use crate::copies::put_at;
 use crate::lists::{ByList, Shown};
 use crate::places::renew_key;
 use crate::record::{Frame, Frames, Published, PublishedKey};
-use crate::walk_order::WalkOrder;
+use crate::walk_order::{WalkOrder, key_at};
 use dnssec_keyset::{Key, KeySet, KeyType};
 use std::alloc::{AllocError, Global};
-use std::collections::{BTreeMap, HashMap};
+use std::collections::HashMap;
 
 /// Up to this many keys are put in or taken out in place. Each of them moves all keys after it.
 const MANY: usize = 16;
@@ -61,13 +63,18 @@ struct Renewal {
 }
 
 impl Renewal {
-    /// No key of the list is read yet, and it isn't touched.
-    const START: Renewal = Renewal {
-        read: 0,
-        changes_left: MANY,
-        around: None,
-        is_touched: false,
-    };
+    /// No key of the list is read yet.
+    #[inline(always)]
+    fn of(is_touched: bool) -> Self
+        ensures { IsAtStart is_touched result }
+    {
+        Renewal {
+            read: 0,
+            changes_left: MANY,
+            around: None,
+            is_touched,
+        }
+    }
 
     /// Reads the next key of the key set, in the order of the references. `keys`, the list, then
     /// has it as its last read key if `shown` shows a key of this kind. `added` is the position of
@@ -149,7 +156,7 @@ impl Renewal {
         if is_shown {
             self.around = Some(Frame { back, ..around });
             let reference = String::from_str(alloc, reference)?;
-            keys.insert(self.read, PublishedKey { added, reference })?;
+            put_at(keys, self.read, PublishedKey { added, reference })?;
             self.read += 1;
             return Ok(());
         }
@@ -206,36 +213,78 @@ impl Renewal {
     }
 }
 
-/// Up to this many keys are brought into no order.
-const FEW: usize = 8;
+/// The four lists while they are read anew.
+#[derive(Drop)]
+struct Renewals {
+    ds: Renewal,
+    dnskey: Renewal,
+    dnskey_signers: Renewal,
+    zone_signers: Renewal,
+}
 
-/// The key with this reference, or `None` if there is none. `entries` are those of a walk over the
-/// keys, and `places` has the places at which the references stand there in their order, by their
-/// rank in it. If the key doesn't stand there, it is looked up. For few keys `entries` is empty:
-/// they are walked over, which costs less.
-fn key_at<'a>(
-    keys: &'a HashMap<String, Key>,
-    entries: &[(&'a String, &'a Key)],
-    places: &[usize],
-    rank: usize,
-    reference: &String,
-) -> Option<&'a Key>
-    requires { AreFound (hash.get_by_text keys.now) entries.now }
+impl Renewals {
+    /// No key is read yet. Only the lists in `touched` will be read anew.
+    #[inline(always)]
+    fn of(touched: ByList) -> Self
+        ensures { AreAtStart touched result }
+    {
+        Renewals {
+            ds: Renewal::of(touched.ds),
+            dnskey: Renewal::of(touched.dnskey),
+            dnskey_signers: Renewal::of(touched.dnskey_signers),
+            zone_signers: Renewal::of(touched.zone_signers),
+        }
+    }
+
+    /// Reads the next key of the key set for each list of `sets`, in the order of the references.
+    /// `added` is the position of the call that added the key. It fails only if there is no memory,
+    /// and the lists are then of no more use.
+    #[inline(always)]
+    fn show(
+        &mut self,
+        alloc: Global,
+        sets: &mut Published,
+        key: &Key,
+        reference: &String,
+        added: usize,
+    ) -> Result<(), AllocError>
+        requires { AreWithin self.old sets.old }
+        ensures { OnOk result (ShowsKey key.now.keytype (string_bytes reference.now, added)
+            self.old sets.old self.new sets.new) }
+    {
+        let keytype = key.keytype();
+        let list = &mut sets.ds;
+        self.ds
+            .show(alloc, list, Shown::Ds, &keytype, reference, added)?;
+        let list = &mut sets.dnskey;
+        self.dnskey
+            .show(alloc, list, Shown::Dnskey, &keytype, reference, added)?;
+        let list = &mut sets.dnskey_signers;
+        self.dnskey_signers.show(
+            alloc,
+            list,
+            Shown::DnskeySigners,
+            &keytype,
+            reference,
+            added,
+        )?;
+        let list = &mut sets.zone_signers;
+        self.zone_signers.show(alloc, list, Shown::ZoneSigners, &keytype, reference, added)
+    }
+}
+
+/// The key with this reference, or `None` if there is none. It walks over all keys first: if these
+/// are few, that costs less than a look-up.
+fn seek<'a>(keys: &'a HashMap<String, Key>, reference: &String) -> Option<&'a Key>
     ensures { option_map (λ k. k.now) result
         ≡ hash.get_by_text keys.now (string_bytes reference.now) }
 {
-    if entries.is_empty() {
-        for (found, key) in keys.iter() {
-            if *found == *reference {
-                return Some(key);
-            }
+    for (found, key) in keys.iter() {
+        if *found == *reference {
+            return Some(key);
         }
     }
-    let place = places.get(rank).copied().unwrap_or(rank);
-    match entries.get(place) {
-        Some((found, key)) if **found == *reference => Some(*key),
-        _ => keys.get(reference.as_str()),
-    }
+    keys.get(reference.as_str())
 }
 
 /// Brings the published lists `sets` up to date after an accepted call. Only the lists in `touched`
@@ -252,7 +301,7 @@ fn key_at<'a>(
 pub(crate) fn renew(
     alloc: Global,
     keyset: &KeySet,
-    added: &BTreeMap<String, usize>,
+    added: &Adds,
     order: &mut WalkOrder,
     sets: &mut Published,
     touched: ByList,
@@ -271,7 +320,7 @@ pub(crate) fn renew(
     ensures read { OnOk result ((v w : World) → IsPublished sets.old v → Leaves touched v w →
         ChangesOnly (option_map (λ r. r.now) only.entry) v w →
         SaysShown says touched (option_map (λ r. r.now) only.entry) keyset.now →
-        Agrees keyset.now (tree.get_by_text added.now) w → IsPublished sets.new w) }
+        Agrees keyset.now (added_in added.now.kept) w → IsPublished sets.new w) }
 {
     if !(touched.ds | touched.dnskey | touched.dnskey_signers | touched.zone_signers) {
         return Ok(false);
@@ -294,7 +343,7 @@ pub(crate) fn renew(
 fn renew_all(
     alloc: Global,
     keyset: &KeySet,
-    added: &BTreeMap<String, usize>,
+    added: &Adds,
     order: &mut WalkOrder,
     sets: &mut Published,
     touched: ByList,
@@ -302,58 +351,37 @@ fn renew_all(
 ) -> Result<(), AllocError>
     ensures frames { OnOk result (KeepsFrames frames.new sets.old sets.new) }
     ensures read { OnOk result ((v w : World) → IsPublished sets.old v → Leaves touched v w →
-        Agrees keyset.now (tree.get_by_text added.now) w → IsPublished sets.new w) }
+        Agrees keyset.now (added_in added.now.kept) w → IsPublished sets.new w) }
 {
     let keys = keyset.keys();
-    let mut ds = Renewal {
-        is_touched: touched.ds,
-        ..Renewal::START
-    };
-    let mut dnskey = Renewal {
-        is_touched: touched.dnskey,
-        ..Renewal::START
-    };
-    let mut signers = Renewal {
-        is_touched: touched.dnskey_signers,
-        ..Renewal::START
-    };
-    let mut zone = Renewal {
-        is_touched: touched.zone_signers,
-        ..Renewal::START
-    };
-    let entries = if keys.len() > FEW {
-        order.walk(alloc, keys)?
-    } else {
-        Vec::new(alloc)
-    };
-    let mut rank = 0usize;
-    for (reference, position) in added.iter() {
-        let place = rank;
-        rank = rank.saturating_add(1);
-        let Some(key) = key_at(keys, &entries, &order.places, place, reference) else {
-            continue;
-        };
-        let keytype = key.keytype();
-        let at = *position;
-        ds.show(alloc, &mut sets.ds, Shown::Ds, &keytype, reference, at)?;
-        dnskey.show(
-            alloc,
-            &mut sets.dnskey,
-            Shown::Dnskey,
-            &keytype,
-            reference,
-            at,
-        )?;
-        let list = &mut sets.dnskey_signers;
-        signers.show(alloc, list, Shown::DnskeySigners, &keytype, reference, at)?;
-        let list = &mut sets.zone_signers;
-        zone.show(alloc, list, Shown::ZoneSigners, &keytype, reference, at)?;
+    let mut lists = Renewals::of(touched);
+    match &added.kept {
+        Kept::Few(list) => {
+            for entry in list {
+                let Some(key) = seek(keys, &entry.reference) else {
+                    continue;
+                };
+                lists.show(alloc, sets, key, &entry.reference, entry.added)?;
+            }
+        }
+        Kept::Many(tree) => {
+            let entries = order.walk(alloc, keys)?;
+            let mut rank = 0usize;
+            for (reference, added) in tree.iter() {
+                let found = key_at(keys, &entries, &order.places, rank, reference);
+                rank = rank.saturating_add(1);
+                let Some(key) = found else {
+                    continue;
+                };
+                lists.show(alloc, sets, key, reference, *added)?;
+            }
+        }
     }
     *frames = Frames {
-        ds: ds.end(&mut sets.ds),
-        dnskey: dnskey.end(&mut sets.dnskey),
-        dnskey_signers: signers.end(&mut sets.dnskey_signers),
-        zone_signers: zone.end(&mut sets.zone_signers),
+        ds: lists.ds.end(&mut sets.ds),
+        dnskey: lists.dnskey.end(&mut sets.dnskey),
+        dnskey_signers: lists.dnskey_signers.end(&mut sets.dnskey_signers),
+        zone_signers: lists.zone_signers.end(&mut sets.zone_signers),
     };
     Ok(())
 }

@@ -8,7 +8,7 @@ use Rattle.std.specs.{List.Contains, Ordering.nat_cmp, Ordering.is_eq, Cmp.Lexic
 use Rattle.std.specs.FinMap.{get, Entries.below_all}
 use Rattle.dnssec_key.specs.{declared.kind.KeyType.KeyType, Key.KeyParts}
 use Rattle.dnssec_run.specs.Published.{Id, World as RealWorld, keys_where}
-use Rattle.dnssec_run.specs.Recorder.{IsAscending, position_in, position_shown}
+use Rattle.dnssec_run.specs.{Adds.IsAscending, Adds.position_in, Recorder.position_shown}
 use Rattle.dnssec_run.proofs.Positions.{shown-ascending, shown-found as position_found}
 use Rattle.dnssec_run.proofs.Chain.Tale.{seen, found, if_some}
 use Rattle.dnssec_zone.proofs.Quantified.{first, second, not_both, same_key, itself}

@@ -1,12 +1,12 @@
 -- A search ends at the key, or in the gap for it.
 use Rattle.std.proofs.Common.{◌≡◌, ◌≤◌, ◌<◌, None, Some, arith, false, length, refl, rules, subst}
 use Rattle.std.proofs.Common.{true}
-use Rattle.std.specs.BTreeMap as tree
 use Rattle.std.proofs.lemmas.Fn.{always_returns_same}
 use Rattle.dnssec_run.proofs.Around.{keeps-gap, keeps-there, keeps-with, keeps-without}
 use Rattle.dnssec_run.proofs.OneKey.{IsFound, IsMissed, leaves-gap, leaves-key, longer, puts-key}
 use Rattle.dnssec_run.proofs.OneKey.{shorter, stands, takes-key}
-use Rattle.dnssec_run.specs.{declared.record.PublishedKey.PublishedKey, Published.id_of}
+use Rattle.dnssec_run.specs.{Adds.added_in, Published.id_of}
+use Rattle.dnssec_run.specs.declared.record.PublishedKey.{PublishedKey}
 use Rattle.dnssec_run.proofs.places.place_key.Goals as goal
 
 pub returns-then-is_shown-clause-ok : goal.returns-then-is_shown-clause-ok
@@ -50,7 +50,7 @@ pub returns-in_default-clause-ok : goal.returns-in_default-clause-ok
 returns-in_default-clause-ok c up there =
     let q = c.args.reference.now in
     let yes : c.args.is_shown ≡ true = search rules in
-    let none : tree.get_by_text c.args.added.now q ≡ None = search rules in
+    let none : added_in c.args.added.now.kept q ≡ None = search rules in
     rw (yes, none) (leaves-gap q _ c.in-Err.place
     (subst (λ keys. IsMissed q keys c.in-Err.place) c.deref.ensures.value (
       c.in-Err.ensures.bound,
@@ -58,27 +58,27 @@ returns-in_default-clause-ok c up there =
           (always_returns_same _ _ _ (λ a r f k. (search rules, search rules))),
     )) up)
 
-pub returns-in_ok-insert-in-Err-clause-ok : goal.returns-in_ok-insert-in-Err-clause-ok
-returns-in_ok-insert-in-Err-clause-ok c up there =
+pub returns-in_ok-put_at-in-Err-clause-ok : goal.returns-in_ok-put_at-in-Err-clause-ok
+returns-in_ok-put_at-in-Err-clause-ok c up there =
     let q = c.args.reference.now in
     let yes : c.args.is_shown ≡ true = search rules in
-    let some : tree.get_by_text c.args.added.now q ≡ Some c.in-Some.added.now = search rules in
+    let some : added_in c.args.added.now.kept q ≡ Some c.in-Some.added = search rules in
     let key : PublishedKey =
-    record { added = c.in-Some.added.now; reference = c.in_ok-reference-in-Err.reference } in
-    let is : id_of key ≡ (q, c.in-Some.added.now) = search rules in
-    rw (yes, some) (puts-key q _ _ c.in-Err.place c.in-Some.added.now key
+    record { added = c.in-Some.added; reference = c.in_ok-reference-in-Err.reference } in
+    let is : id_of key ≡ (q, c.in-Some.added) = search rules in
+    rw (yes, some) (puts-key q _ _ c.in-Err.place c.in-Some.added key
     (subst (λ keys. IsMissed q keys c.in-Err.place) c.deref.ensures.value (
       c.in-Err.ensures.bound,
       c.in-Err.ensures.position (stands q)
           (always_returns_same _ _ _ (λ a r f k. (search rules, search rules))),
     ))
-    c.in_ok-insert-in-Err.ensures.items is up)
+    c.in_ok-put_at-in-Err.ensures.items is up)
 
-pub returns-in_ok-insert-in-Err-clause-changed : goal.returns-in_ok-insert-in-Err-clause-changed
-returns-in_ok-insert-in-Err-clause-changed c = λ changed.
+pub returns-in_ok-put_at-in-Err-clause-changed : goal.returns-in_ok-put_at-in-Err-clause-changed
+returns-in_ok-put_at-in-Err-clause-changed c = λ changed.
     longer _ _ c.in-Err.place _
     (subst (λ keys. c.in-Err.place ≤ length keys) c.deref.ensures.value c.in-Err.ensures.bound)
-    c.in_ok-insert-in-Err.ensures.items
+    c.in_ok-put_at-in-Err.ensures.items
 
 pub returns-then-is_shown-clause-frame : goal.returns-then-is_shown-clause-frame
 returns-then-is_shown-clause-frame c =
@@ -112,10 +112,10 @@ returns-in_default-clause-frame c =
     (subst (λ keys. c.in-Err.place ≤ length keys) c.deref.ensures.value c.in-Err.ensures.bound)
     (omega (arith, long))
 
-pub returns-in_ok-insert-in-Err-clause-frame : goal.returns-in_ok-insert-in-Err-clause-frame
-returns-in_ok-insert-in-Err-clause-frame c =
+pub returns-in_ok-put_at-in-Err-clause-frame : goal.returns-in_ok-put_at-in-Err-clause-frame
+returns-in_ok-put_at-in-Err-clause-frame c =
     let keys = c.args.keys.now.items in
     let long : c.len-in-Err.result ≡ length keys = search rules in
-    keeps-with keys c.insert.new.self.items c.in-Err.place _ _
+    keeps-with keys c.put_at.new.keys.items c.in-Err.place _ _
     (subst (λ keys. c.in-Err.place ≤ length keys) c.deref.ensures.value c.in-Err.ensures.bound)
-    (omega (arith, long)) c.in_ok-insert-in-Err.ensures.items
+    (omega (arith, long)) c.in_ok-put_at-in-Err.ensures.items

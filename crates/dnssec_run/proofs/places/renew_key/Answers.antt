@@ -1,5 +1,5 @@
 -- Each set has the key at its place, and the others as before.
-use Rattle.std.specs.BTreeMap as tree
+use Rattle.dnssec_run.specs.Adds.{added_in}
 use Rattle.dnssec_run.specs.Published.{in_dnskey, in_ds, signs_dnskey, signs_zone}
 use Rattle.dnssec_run.proofs.OneKey.{other-keys, renewed, shown-there}
 use Rattle.dnssec_run.specs.declared.lists.Shown.TheVariants as lists
@@ -9,7 +9,7 @@ pub returns-clause-read : goal.returns-clause-read
 returns-clause-read c v w was leaves only says agrees =
     let q = c.args.reference.now in
     let set = c.args.keyset.now in
-    let at = tree.get_by_text c.args.added.now in
+    let at = added_in c.args.added.now.kept in
     let there = c.lists_with-shown in
     let is = shown-there c.args.says c.args.touched there.result q set says there.ensures.said
     there.ensures.looked_up in

@@ -4,6 +4,7 @@ use Rattle.std.proofs.Common.{arith, false, ℕ, Bool}
 use Rattle.std.specs.{Prelude.Option, Prelude.◌||◌, List.list_any}
 use Rattle.std.{proofs.lemmas.Bool.or_parts, specs.Prelude.is_some}
 use Rattle.dnssec_keyset.{proofs.After.step-after, specs.KeySet.KeySetParts}
+use Rattle.dnssec_run.specs.Adds.{added_in}
 use Rattle.dnssec_run.specs.{Published.World, Record.call_of, Record.is_accepted, Record.reply_of}
 use Rattle.dnssec_run.specs.Record.{world_after, world_at}
 use Rattle.dnssec_run.specs.Recorder.{ChangesOnly, SaysShown, positions_after}
@@ -12,7 +13,6 @@ use Rattle.dnssec_run.proofs.Asked.Changes.{leaves, says-shown, touches-asked}
 use Rattle.dnssec_run.proofs.Next.{agrees-accepted, agrees-refused, changes-only, map-none}
 use Rattle.dnssec_run.proofs.Next.{map-some, mark-accepted, mark-refused, published-refused}
 use Rattle.dnssec_run.proofs.Next.{records-more}
-use Rattle.std.specs.BTreeMap as tree
 use Rattle.dnssec_keyset.specs.Step as keyset
 use Rattle.dnssec_run.proofs.running.Recorder.advance.Goals as goal
 
@@ -38,9 +38,9 @@ returns c = record {
       let before = world_at name calls entries (length calls) in
       let after : World = world_after n before x r in
       let ok : is_accepted r ≡ true = search rules in
-      let at = tree.get_by_text c.args.self.now.added in
+      let at = added_in c.args.self.now.added.kept in
       let agrees = agrees-accepted n before _ c.make-reply.new.set at
-      (tree.get_by_text c.note.new.added) x r ok so.agrees
+      (added_in c.note.new.added.kept) x r ok so.agrees
       (step-after _ _ (call_of x) (reply_of r) c.make-reply.ensures)
       (λ q. c.in_ok-self.ensures q ∙ (λ i. positions_after n (c.in_ok-meaning.ensures.put i)
       (c.in_ok-meaning.ensures.taken i) at q)) in

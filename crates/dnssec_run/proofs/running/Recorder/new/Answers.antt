@@ -8,7 +8,7 @@ returns c = record {
   run = run_none c.args.name;
   at = refl;
   agrees = rw (world_none c.args.name [])
-      (agrees-new c.args.name c.new.result c.new-2.result c.new.ensures c.new-2.ensures.empty);
+      (agrees-new c.args.name c.new.result _ c.new.ensures c.new-2.ensures);
   published = rw (world_none c.args.name []) (published-new c.args.name c.none.result
       c.none.ensures.ds c.none.ensures.dnskey c.none.ensures.dnskey_signers
       c.none.ensures.zone_signers);

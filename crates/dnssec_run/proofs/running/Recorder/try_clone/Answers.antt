@@ -1,12 +1,12 @@
 -- A copy has equal parts, so it stands where the recorder does.
 use Rattle.std.proofs.Common.{refl, ◌∙◌}
-use Rattle.dnssec_run.proofs.Next.{positions-cloned, published-same}
+use Rattle.dnssec_run.proofs.Next.{published-same}
 use Rattle.dnssec_run.proofs.running.Recorder.try_clone.Goals as goal
 
 pub returns-clause-same : goal.returns-clause-same
 returns-clause-same c = record {
   keyset = c.in_ok-try_clone.ensures.same;
-  added = positions-cloned _ _ c.in_ok-added.ensures.cases;
+  added = c.in_ok-added.ensures;
   published = c.in_ok-copy_sets.ensures;
   at = refl;
 }

@@ -26,7 +26,7 @@ returns-then-is_shown-clause-ok c =
     let is : id_of key ≡ id = search rules in
     rw c.if-is_shown.true
     (ap (λ (l : List PublishedKey). map id_of (take (set.at.read + 1) l))
-    c.in_ok-insert.ensures.items
+    c.in_ok-put_at.ensures.items
     ∙ puts-next set.keys.items set.at.read key id (omega (arith, long, fits)) is
     ∙ ap (λ (ids : List Id). ids ++ id ∷ []) same)
 
@@ -43,12 +43,12 @@ returns-then-is_shown-clause-kept c before kept =
       | in-Some w ↦ rw (w.self-is, w.keys-is) (kept-counted before _ _ kept)
       | in-None w ↦ rw (w.self-is, w.keys-is) (w.drop_rest.ensures.kept before kept)
     ] in
-    kept-more before set c.insert.new.self (set.at.read + 1) n _ has
-    (keeps-with set.keys.items c.insert.new.self.items set.at.read n key
-    (omega (arith, long, fits)) (omega (arith, long, len)) c.in_ok-insert.ensures.items)
+    kept-more before set c.put_at.new.keys (set.at.read + 1) n _ has
+    (keeps-with set.keys.items c.put_at.new.keys.items set.at.read n key
+    (omega (arith, long, fits)) (omega (arith, long, len)) c.in_ok-put_at.ensures.items)
     (omega (arith, len, fits))
     (around-with set.at.around set.at.read n _ c.unwrap_or-around.ensures) (omega arith)
-    (omega (arith, len, fits, c.in_ok-insert.ensures.len))
+    (omega (arith, len, fits, c.in_ok-put_at.ensures.len))
 
 pub returns-then-back-gt0-clause-kept : goal.returns-then-back-gt0-clause-kept
 returns-then-back-gt0-clause-kept c before kept =

@@ -1,10 +1,10 @@
--- An entry that was found has its key.
+-- An entry that is found has its key.
 use Rattle.std.proofs.Common.{◌≡◌, ◌∙◌, Some, String, ap, rules, string_bytes, subst, sym}
 use Rattle.std.proofs.lemmas.List.Elements.{All-head, All-tail}
 use Rattle.std.specs.{List.All, Global.Global}
 use Rattle.std.specs.HashMap as hash
 use Rattle.dnssec_key.specs.Key.{KeyParts}
-use Rattle.dnssec_run.proofs.sets.key_at.Goals as goal
+use Rattle.dnssec_run.proofs.sets.seek.Goals as goal
 
 pub returns-then-eq : goal.returns-then-eq
 returns-then-eq c =

@@ -3,7 +3,7 @@ use Rattle.std.proofs.Common.{◌≡◌, Some, String, string_bytes}
 use Rattle.std.specs.{List.All, Global.Global}
 use Rattle.std.specs.HashMap as hash
 use Rattle.dnssec_key.specs.Key.{KeyParts}
-use Rattle.dnssec_run.proofs.sets.key_at.Given as goal
+use Rattle.dnssec_run.proofs.sets.seek.Given as goal
 
 abbrev pub invariant-loop-found : goal.invariant-loop-found
 invariant-loop-found l = All (λ (e : String Global × KeyParts).
