@@ -6,7 +6,7 @@ use Rattle.std.specs.Prelude.{◌&&◌, slice_get, unwrap_or, IsSome, if◌then�
 use Rattle.std.specs.Prelude.{nat_le}
 use Rattle.std.proofs.lemmas.{List.length-map, List.map-append}
 use Rattle.std.{proofs.lemmas.Bool.Decides.nat_tests, specs.Option.option_map}
-use Rattle.std.specs.{List.Contains, HashMap.get}
+use Rattle.std.specs.{List.Contains, BTreeMap.get, Ordering.nat_cmp}
 use Rattle.dnssec_run.specs.declared.record.PublishedKey.{PublishedKey}
 use Rattle.dnssec_run.specs.Published.{Id, id_of}
 use Rattle.dnssec_judge.specs.Numbers.{Extends, Grows, IsTable, StandFor, key_at, key_in}
@@ -30,7 +30,7 @@ same-keys (k ∷ keys) (l ∷ others) e (suc n) =
 
 -- a table with the same keys, which are known too
 pub table-from : (old new : Numbers) → ((n : ℕ) → key_at new n ≡ key_at old n)
-    → ((n : ℕ) (k : Id) → FEW ≤ n → key_at old n ≡ Some k → IsSome (get nat_eq new.by_added k.1))
+    → ((n : ℕ) (k : Id) → FEW ≤ n → key_at old n ≡ Some k → IsSome (get nat_cmp new.by_added k.1))
     → new.newest ≡ old.newest → IsTable old → IsTable new
 table-from old new same known newest t = record {
   apart = λ m n k a b. t.apart m n k (sym (same m) ∙ a) (sym (same n) ∙ b);
@@ -42,8 +42,8 @@ table-from old new same known newest t = record {
 pub grown : (old new : Numbers) (number : ℕ) (key : Id) → key_at old number ≡ None
     → key_at new number ≡ Some key
     → ((n : ℕ) → (n ≡ number → ⊥) → key_at new n ≡ key_at old n)
-    → ((at : ℕ) → get nat_eq new.by_added at
-    ≡ (if nat_le FEW number && nat_eq key.1 at then Some number else get nat_eq old.by_added at))
+    → ((at : ℕ) → get nat_cmp new.by_added at
+    ≡ (if nat_le FEW number && nat_eq key.1 at then Some number else get nat_cmp old.by_added at))
     → new.newest ≡ max old.newest key.1
     → (IsTable old → (n : ℕ) → key_at old n ≡ Some key → ⊥) → Extends old new
 grown old new number key none here others at newest lacks t = (

@@ -1,7 +1,7 @@
 -- The keys of a record as small numbers: what numbers, and sets of them, stand for.
-use Rattle.std.specs.Prelude.{◌≡◌, ◌≤◌, ℕ, Bool, true, not, List, map, nat_eq, slice_get, Option}
+use Rattle.std.specs.Prelude.{◌≡◌, ◌≤◌, ℕ, Bool, true, not, List, map, slice_get, Option}
 use Rattle.std.specs.Prelude.{None, Some, IsSome}
-use Rattle.std.specs.{Option.option_map, List.Contains, HashMap.get}
+use Rattle.std.specs.{Option.option_map, List.Contains, BTreeMap.get, Ordering.nat_cmp}
 use Rattle.dnssec_run.specs.declared.{record.PublishedKey.PublishedKey, record.Frame.Frame}
 use Rattle.dnssec_run.specs.{Origins.CachedSet, Origins.same_ids, Published.Id, Published.id_of}
 use Rattle.dnssec_run.specs.Frames.{KeepsFrame}
@@ -21,7 +21,7 @@ key_at t n = key_in (slice_get t.keys.items n)
 -- one of a few, and none was added later than the newest
 pub record IsTable (t : Numbers) : Type 0 where
   pub apart : (m n : ℕ) (k : Id) → key_at t m ≡ Some k → key_at t n ≡ Some k → m ≡ n
-  pub known : (n : ℕ) (k : Id) → FEW ≤ n → key_at t n ≡ Some k → IsSome (get nat_eq t.by_added k.1)
+  pub known : (n : ℕ) (k : Id) → FEW ≤ n → key_at t n ≡ Some k → IsSome (get nat_cmp t.by_added k.1)
   pub within : (n : ℕ) (k : Id) → key_at t n ≡ Some k → k.1 ≤ t.newest
 
 -- each key that has a number keeps it

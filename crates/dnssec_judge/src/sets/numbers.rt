@@ -9,7 +9,7 @@ ghost use Rattle.dnssec_judge.specs.Numbers.{Extends, IsRead, IsTable, StandFor,
 use super::held::Bits;
 use dnssec_run::{Frame, PublishedKey};
 use std::alloc::{AllocError, Global};
-use std::collections::HashMap;
+use std::collections::BTreeMap;
 use std::mem;
 
 /// A table has room for this many keys before numbers are given back. So few are looked at in turn.
@@ -27,7 +27,7 @@ const FEW: usize = 8;
 pub(crate) struct Numbers {
     keys: Vec<Option<PublishedKey>>,
     /// By the position of its add, the number of a key from `FEW` on. Lesser ones are looked at.
-    by_added: HashMap<usize, usize>,
+    by_added: BTreeMap<usize, usize>,
     /// No key was added later than this.
     newest: usize,
     /// Each number below this one is some key's.
@@ -44,7 +44,7 @@ impl Numbers {
     {
         Numbers {
             keys: Vec::new(alloc),
-            by_added: HashMap::new(alloc),
+            by_added: BTreeMap::new(alloc),
             newest: 0,
             least: 0,
             left: FEW,
@@ -285,7 +285,7 @@ impl Numbers {
         ensures same { OnOk result ((n : ℕ) → key_at self.new n ≡ key_at self.old n) }
         ensures table { OnOk result (IsTable self.old → IsTable self.new) }
     {
-        let mut by_added = HashMap::new(alloc);
+        let mut by_added = BTreeMap::new(alloc);
         let mut in_use = 0usize;
         let mut end = 0;
         for (number, key) in self.keys.iter().enumerate() {

@@ -3,7 +3,7 @@ use Rattle.std.proofs.Common.{◌≡◌, ◌∙◌, ℕ, ap, arith, inl, inr, re
 use Rattle.std.proofs.lemmas.Bool.{cases_lt}
 use Rattle.std.proofs.lemmas.Bool.Decides.{nat_tests}
 use Rattle.std.specs.Prelude.{◌&&◌, if◌then◌else◌, max, nat_eq, nat_le}
-use Rattle.std.specs.{HashMap.get}
+use Rattle.std.specs.{BTreeMap.get, Ordering.nat_cmp}
 use Rattle.dnssec_run.specs.Published.{id_of}
 use Rattle.dnssec_judge.specs.declared.sets.numbers.TheConstants.{FEW}
 use Rattle.dnssec_judge.specs.Numbers.{IsTable, key_at}
@@ -20,8 +20,8 @@ returns c =
       | goal.then-number-ge-FEW+in_ok-insert w ↦ λ n. rw w.self-is refl
       | goal.else-number-ge-FEW w ↦ λ n. rw w.self-is refl
     ] in
-    let known : (at : ℕ) → get nat_eq mid.by_added at ≡ (if nat_le FEW number && nat_eq key.1 at
-    then Some number else get nat_eq old.by_added at) = elim c.if-number-ge-FEW.branch [
+    let known : (at : ℕ) → get nat_cmp mid.by_added at ≡ (if nat_le FEW number && nat_eq key.1 at
+    then Some number else get nat_cmp old.by_added at) = elim c.if-number-ge-FEW.branch [
       | goal.then-number-ge-FEW+in_ok-insert w ↦ λ at. (let new = w.in_ok-insert.ensures.updates in
           grind (arith, nat_tests, w.self-is, w.if-number-ge-FEW.true, new.0 at))
       | goal.else-number-ge-FEW w ↦ λ at.
@@ -45,6 +45,6 @@ returns c =
       ok = here;
       extends = grown old new number key c.spare_number-number.ensures.none here
           (λ n isnt. c.in_ok-write.ensures.others n isnt ∙ places n)
-          (λ p. ap (λ m. get nat_eq m p) c.in_ok-write.ensures.kept ∙ known p) newest
+          (λ p. ap (λ m. get nat_cmp m p) c.in_ok-write.ensures.kept ∙ known p) newest
           none;
     }

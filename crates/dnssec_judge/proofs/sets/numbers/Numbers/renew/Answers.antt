@@ -2,7 +2,7 @@
 use Rattle.std.proofs.Common.{◌≡◌, ◌<◌, ◌≤◌, arith, refl, ℕ, Some}
 use Rattle.std.proofs.lemmas.{Bool.Decides.nat_tests, Option.gets, List.get_or_default}
 use Rattle.std.proofs.lemmas.List.{get_or-take, length-take}
-use Rattle.std.specs.{Prelude.IsSome, Prelude.nat_eq, Prelude.slice_get, HashMap.get}
+use Rattle.std.specs.{Prelude.IsSome, Prelude.slice_get, BTreeMap.get, Ordering.nat_cmp}
 use Rattle.dnssec_run.specs.Published.{Id}
 use Rattle.dnssec_judge.specs.declared.sets.numbers.TheConstants.{FEW}
 use Rattle.dnssec_judge.{proofs.Table.table-from, specs.Numbers.key_at, specs.Numbers.key_in}
@@ -12,7 +12,7 @@ pub loop-number-preserved : goal.loop-number-preserved
 loop-number-preserved c n k lt e =
     let so = c.loop-number.invariant n k in let at = c.key-item.is in let is = c.in-Some.is in
     let lt2 = c.loop-number-test.true in
-    let there : FEW ≤ n → IsSome (get nat_eq c.if-number-ge-FEW.by_added k.1) =
+    let there : FEW ≤ n → IsSome (get nat_cmp c.if-number-ge-FEW.by_added k.1) =
     λ few. (elim c.if-number-ge-FEW.branch [
       | goal.then-number-ge-FEW+in_ok-insert w ↦
           (let put = w.in_ok-insert.ensures.updates.0 k.1 in
@@ -34,7 +34,7 @@ returns c =
     let old = c.args.self.now in let end = c.loop-number.end in
     let items = c.deref-key-items.result.now in
     let all : (n : ℕ) (k : Id) → key_at old n ≡ Some k
-    → (n < end) × (FEW ≤ n → IsSome (get nat_eq c.loop-number.by_added k.1)) =
+    → (n < end) × (FEW ≤ n → IsSome (get nat_cmp c.loop-number.by_added k.1)) =
     (λ n k e.
     (let there : key_in (slice_get items n) ≡ Some k = rw c.deref-key-items.ensures.value e in
     c.loop-number.invariant n k (grind (arith, gets, there, c.loop-number-test.false)) there)) in
