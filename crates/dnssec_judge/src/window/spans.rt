@@ -46,10 +46,11 @@ pub(crate) struct Spans {
     pub(crate) newest: usize,
     /// Keys and signers that are in each set, as a set, once there are more than a few. What fits
     /// it by a key fits all sets. So most sets are tested once, and not with each of many others.
-    pub(super) common: Option<OpenSet>,
+    /// It has memory of its own, since most windows never have so many sets.
+    pub(super) common: Option<Box<OpenSet>>,
     ghost newest_is: { newest ≡ came list.items },
-    ghost many: { ForSome common (λ set. FEW ≤ length list.items) },
-    ghost in_each: { ForSome common (λ set. All (λ span. IsWithin set span.set) list.items) },
+    ghost many: { ForSome common (λ b. FEW ≤ length list.items) },
+    ghost in_each: { ForSome common (λ b. All (λ span. IsWithin b.value span.set) list.items) },
 }
 
 impl Spans {
@@ -112,7 +113,8 @@ impl Spans {
             self.list.pop_front();
         }
         if self.list.len() > FEW {
-            self.common = Some(self.common_with(alloc, &self.list[0].set)?);
+            let common = self.common_with(alloc, &self.list[0].set)?;
+            self.common = Some(Box::new(alloc, common)?);
         }
         Ok(())
     }
@@ -159,7 +161,7 @@ impl Spans {
         ensures { result ≡ all_in self.now.list.items (holds link is_above set.now) }
     {
         if let Some(common) = &self.common {
-            if link.meet(is_above, set, common) {
+            if link.meet(is_above, set, &**common) {
                 return true;
             }
         }

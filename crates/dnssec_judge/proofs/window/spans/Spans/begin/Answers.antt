@@ -12,12 +12,12 @@ invariant_of-self-then-is_enough c =
     let set : Numbered = (words_of c.in_ok-keys.keys, words_of c.in_ok-signers.signers) in
     let s : Span = record { from = c.args.from; set = set } in
     rw c.in_ok-push_back.ensures.items (elim c.match-self.branch [
-      | in-Some w ↦ (let within : IsWithin w.in-Some.common s.set =
+      | in-Some w ↦ (let within : IsWithin w.deref.result.now s.set =
           w.is_within-is_enough.ensures (sym w.is_enough-is ∙ c.if-is_enough.true) in record {
             newest_is = sym (came-pushed items s);
             many = λ x e. omega (arith, was.many x e, length-append items (s ∷ []));
-            in_each = λ x e. (let same : w.in-Some.common ≡ x = cc in
-                All-push (λ s. IsWithin x s.set) items s (was.in_each x e)
+            in_each = λ x e. (let same : w.deref.result.now ≡ x.value = cc w.deref.ensures in
+                All-push (λ s. IsWithin x.value s.set) items s (was.in_each x e)
                 (subst (λ (x : Numbered). IsWithin x s.set) same within));
           })
       | in-None w ↦ record {
@@ -29,14 +29,14 @@ invariant_of-self-then-is_enough c =
 
 pub invariant_of-self-2 : goal.invariant_of-self-2
 invariant_of-self-2 c =
-    let common = c.in_ok-common.common in let so = c.in_ok-common.ensures in
+    let common = c.in_ok-common_with.field-0 in let so = c.in_ok-common_with.ensures in
     let was = c.args.self.now.list.items in
     let set : Numbered = (words_of c.in_ok-keys.keys, words_of c.in_ok-signers.signers) in
     let s : Span = record { from = c.args.from; set = set } in
     rw c.in_ok-push_back-2.ensures.items record {
       newest_is = sym (came-pushed was s);
       many = λ x e. search rules;
-      in_each = λ x e. (let same : common ≡ x = cc in
+      in_each = λ x e. (let same : common ≡ x.value = cc c.in_ok-common.ensures.ok in
           subst (λ (x : Numbered). All (λ s. IsWithin x s.set) (was ++ s ∷ [])) same
           (All-push (λ s. IsWithin common s.set) was s so.each so.set));
     }

@@ -8,8 +8,8 @@ use Rattle.dnssec_judge.proofs.window.spans.Spans.common_with.Goals as goal
 pub returns-in-Some-clause-each : goal.returns-in-Some-clause-each
 returns-in-Some-clause-each c =
     let so = c.in_ok-common.ensures in let was = c.args.self.now in
-    (common_more c.in_ok-common.common c.in-Some.common c.args.set.now was.list.items so.keys
-    so.signers (was.in_each c.in-Some.common c.in-Some.is)).1
+    (common_more c.in_ok-common.common c.deref.result.now c.args.set.now was.list.items so.keys
+    so.signers (rw c.deref.ensures (was.in_each c.in-Some.common c.in-Some.is))).1
 
 pub loop-place-preserved : goal.loop-place-preserved
 loop-place-preserved c =
