@@ -24,12 +24,23 @@ pub(crate) fn is_in_word(word: u64, number: usize) -> bool
 
 /// A set of small numbers, as a bit for each. Numbers below 64 take no memory of the allocator, and
 /// a copy shares the words of the others.
-#[derive(Debug, Drop, PartialEq)]
+#[derive(Debug, Drop)]
 pub(crate) struct Bits {
     /// The numbers below 64.
     first: u64,
     /// The others, in words of 64 numbers. None if no such number was ever in the set.
-    rest: Option<ArcSlice<u64>>,
+    pub(super) rest: Option<ArcSlice<u64>>,
+}
+
+/// The words of a set from 64 on, shared. It fails only if they are shared too often.
+#[inline(always)]
+pub(super) fn share(rest: &Option<ArcSlice<u64>>) -> Result<Option<ArcSlice<u64>>, AllocError>
+    ensures { IfOk result (λ shared. rest_of shared ≡ rest_of rest.now) }
+{
+    match rest {
+        Some(rest) => Ok(Some(rest.clone()?)),
+        None => Ok(None),
+    }
 }
 
 impl Clone for Bits {
@@ -38,13 +49,9 @@ impl Clone for Bits {
     /// A copy of the set, which shares its words. It fails only if they are shared too often.
     #[inline(always)]
     fn clone(&self) -> Result<Self, AllocError> {
-        let rest = match &self.rest {
-            Some(rest) => Some(rest.clone()?),
-            None => None,
-        };
         Ok(Bits {
             first: self.first,
-            rest,
+            rest: share(&self.rest)?,
         })
     }
 }
@@ -87,7 +94,7 @@ impl Bits {
     }
 
     /// This set with `number` in it if `is_in`, or else without it. Copies of this set stay as they
-    /// are. If `number` is 64 or more and the set is `before` again, it shares the words of that,
+    /// are. If `number` is 64 or more and the words from 64 on are `older` again, it shares these,
     /// so that a key which leaves a set and comes back takes no more memory. It fails only if there
     /// is no memory.
     #[inline(always)]
@@ -96,20 +103,23 @@ impl Bits {
         alloc: Global,
         number: usize,
         is_in: bool,
-        before: &Bits,
+        older: &Option<ArcSlice<u64>>,
     ) -> Result<Self, AllocError>
         ensures { IfOk result (λ bits. (n : ℕ) → has bits n
             ≡ (if nat_eq number n then is_in else has self.now n)) }
     {
         if number >= WORD {
             let bits = self.with_word(alloc, number, is_in)?;
-            return if bits == *before {
-                Ok(before.clone()?)
-            } else {
-                Ok(bits)
-            };
+            if bits.rest == *older {
+                let rest = share(older)?;
+                return Ok(Bits {
+                    first: bits.first,
+                    rest,
+                });
+            }
+            return Ok(bits);
         }
-        let rest = self.clone()?.rest;
+        let rest = share(&self.rest)?;
         let bit = 1u64 << number;
         let first = if is_in {
             self.first | bit

@@ -6,11 +6,12 @@ ghost use Rattle.dnssec_run.specs.Published.{id_of};
 ghost use Rattle.dnssec_judge.specs.Bits.{has};
 ghost use Rattle.dnssec_judge.specs.Numbers.{Extends, IsRead, IsTable, StandFor, key_at};
 
-use super::held::Bits;
+use super::held::{Bits, share};
 use dnssec_run::{Frame, PublishedKey};
 use std::alloc::{AllocError, Global};
 use std::collections::BTreeMap;
 use std::mem;
+use std::sync::ArcSlice;
 
 /// A table has room for this many keys before numbers are given back. So few are looked at in turn.
 const FEW: usize = 8;
@@ -136,7 +137,7 @@ impl Numbers {
         *known = NumberList {
             bits: Bits::of(alloc, &numbers)?,
             numbers,
-            before: old.bits,
+            before: old.bits.rest,
         };
         Ok(true)
     }
@@ -314,8 +315,8 @@ impl Numbers {
 pub(crate) struct NumberList {
     pub(crate) numbers: Vec<usize>,
     pub(crate) bits: Bits,
-    /// The set before the last change. If it comes back, its words do.
-    before: Bits,
+    /// The words of the set before the last change, without the first. If they come back, these do.
+    before: Option<ArcSlice<u64>>,
     ghost same: { (n : ℕ) → has bits n ≡ list_any (λ number. nat_eq number n) numbers.items },
 }
 
@@ -327,7 +328,7 @@ impl NumberList {
         NumberList {
             numbers: Vec::new(alloc),
             bits: Bits::none(),
-            before: Bits::none(),
+            before: None,
         }
     }
 
@@ -338,7 +339,7 @@ impl NumberList {
         Ok(NumberList {
             numbers: self.numbers.clone()?,
             bits: self.bits.clone()?,
-            before: self.before.clone()?,
+            before: share(&self.before)?,
         })
     }
 
@@ -356,7 +357,7 @@ impl NumberList {
     {
         let bits = self.bits.with(alloc, number, true, &self.before)?;
         self.numbers.insert(place, number)?;
-        self.before = mem::replace(&mut self.bits, bits);
+        self.before = mem::replace(&mut self.bits, bits).rest;
         Ok(())
     }
 
@@ -370,7 +371,7 @@ impl NumberList {
         let is_in = stands_beside(number, &self.numbers, place);
         let bits = self.bits.with(alloc, number, is_in, &self.before)?;
         self.numbers.remove(place);
-        self.before = mem::replace(&mut self.bits, bits);
+        self.before = mem::replace(&mut self.bits, bits).rest;
         Ok(())
     }
 }

@@ -1,7 +1,7 @@
 -- The bit is written in the first word, or in another.
-use Rattle.std.proofs.Common.{◌≡◌, ◌∙◌, ◌<◌, ◌%◌, ap, arith, if◌then◌else◌, nat_eq, rules}
+use Rattle.std.proofs.Common.{◌≡◌, ◌∙◌, ◌∷◌, ◌<◌, ◌%◌, ap, arith, if◌then◌else◌, nat_eq, rules}
 use Rattle.std.{proofs.lemmas.Bool.Decides.nat_tests, specs.Int.bit_at}
-use Rattle.dnssec_judge.specs.Bits.{has_bit, words_of}
+use Rattle.dnssec_judge.specs.Bits.{has_bit, rest_of}
 use Rattle.dnssec_judge.proofs.Words.{bit-cleared, bit-set, word-of}
 use Rattle.dnssec_judge.proofs.sets.held.Bits.with.Goals as goal
 
@@ -15,9 +15,9 @@ returns c n =
       | goal.then-is_in w ↦ grind (arith, w.first-is, w.if-is_in.true, bit-set word m n lt)
       | goal.else-is_in w ↦ grind (arith, w.first-is, w.if-is_in.false, bit-cleared word m n lt)
     ] in
-    grind (arith, nat_tests, word-of, bit, c.in_ok-rest.ensures.cases, lt)
+    grind (arith, nat_tests, word-of, bit, c.in_ok-rest-2.ensures, lt)
 
-pub returns-in_ok-clone : goal.returns-in_ok-clone
-returns-in_ok-clone c n =
-    let same : words_of c.in_ok-clone.field-0 ≡ words_of c.in_ok-bits.bits = search rules in
-    ap (λ words. has_bit words n) same ∙ c.in_ok-bits.ensures n
+pub returns-then-eq : goal.returns-then-eq
+returns-then-eq c n =
+    let same : rest_of c.in_ok-rest.rest ≡ rest_of c.in_ok-bits.bits.rest = search rules in
+    ap (λ rest. has_bit (c.in_ok-bits.bits.first ∷ rest) n) same ∙ c.in_ok-bits.ensures n
