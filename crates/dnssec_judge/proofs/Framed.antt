@@ -4,15 +4,13 @@ use Rattle.std.proofs.Common.{Bool, false, true, List, Some, append-nil, get_or,
 use Rattle.std.specs.Prelude.{◌&&◌, ◌||◌, not}
 use Rattle.std.proofs.lemmas.List.{get_or-map, length-append, length-map}
 use Rattle.std.{proofs.lemmas.Bool.false_from_ne_true, specs.List.insert, specs.List.remove}
-use Rattle.dnssec_run.specs.declared.record.Frame.{Frame}
-use Rattle.dnssec_run.specs.{Origins.CachedSet, Published.id_of}
+use Rattle.dnssec_run.specs.{declared.record.Frame.Frame, Origins.CachedSet, Published.id_of}
 use Rattle.dnssec_run.specs.declared.record.PublishedKey.{PublishedKey}
 use Rattle.dnssec_run.specs.{Published.Id, Frames.KeepsFrame, Origins.same_ids}
 use Rattle.dnssec_run.proofs.Since.{same-ids}
 use Rattle.dnssec_judge.proofs.Table.{stand_len, stand-on}
-use Rattle.dnssec_judge.specs.declared.sets.numbers.Numbers.{Numbers}
-use Rattle.dnssec_judge.specs.declared.window.Last.{Last}
-use Rattle.dnssec_judge.specs.{Inner.Window.IsNext, Numbers.IsRead}
+use Rattle.dnssec_judge.specs.declared.{sets.numbers.Numbers.Numbers, window.Last.Last}
+use Rattle.dnssec_judge.specs.{Inner.Window.IsNext, Numbers.IsRead, Signers.numbers_in}
 use Rattle.dnssec_judge.specs.Numbers.{Grows, StandFor, key_at}
 
 -- a list whose front is as long as the list is its front
@@ -130,7 +128,7 @@ both false b = refl
 pub set-read : {t u v : Numbers} {old new : Last} {f g : Frame} {keys signers : List Id}
     {a b is_other : Bool} → (a || b) ≡ is_other
     → IsRead t u old.keys.numbers.items new.keys.numbers.items f keys a
-    → IsRead u v old.signers.numbers.items new.signers.numbers.items g signers b
+    → IsRead u v (numbers_in old.signers) (numbers_in new.signers) g signers b
     → (set : CachedSet) → (keys, signers) ≡ set → IsNext t v old new (f, g) (Some set) is_other
 set-read {t} {u} {v} {old} {new} {f} {g} {keys} {signers} {a} {b} {is_other} e k s set is =
     subst (λ (x : CachedSet). IsNext t v old new (f, g) (Some x) is_other) is (record {
@@ -141,7 +139,7 @@ set-read {t} {u} {v} {old} {new} {f} {g} {keys} {signers} {a} {b} {is_other} e k
           (let one = k.extends table in let two = s.extends one.0 in
           let ks = k.read before.0 table stand.0 keep.0 in
           let ss = s.read before.1 one.0
-          (stand-on t u old.signers.numbers.items before.1 one.1 stand.1) keep.1 in (
+          (stand-on t u (numbers_in old.signers) before.1 one.1 stand.1) keep.1 in (
             (stand-on u v new.keys.numbers.items keys two.1 ks.0, ss.0),
             (λ i. ks.1 i && ss.1 i) ∙ both a b ∙ ap not e,
           ));

@@ -3,16 +3,19 @@ use Rattle.std.proofs.Common.{◌≡◌, ◌∙◌, ◌∷◌, [], ℕ, zero, su
 use Rattle.std.proofs.Common.{refl, subst, sym}
 use Rattle.std.proofs.lemmas.Bool.Decides.{Decides-and, Decides-like, same_from_decides}
 use Rattle.std.proofs.lemmas.{List.Folds.list_any_at, Map.Views.Contains-from_any}
-use Rattle.std.specs.Prelude.{◌&&◌, ◌||◌, nat_eq}
+use Rattle.std.specs.Prelude.{◌&&◌, ◌||◌, Box, None, Option, nat_eq, unwrap_or}
+use Rattle.std.specs.{Global.Global, Option.option_map}
 use Rattle.std.proofs.lemmas.Bool.{eq-eqb, eqb-true, false_from_ne_true}
 use Rattle.std.{proofs.lemmas.Option.same_Some, specs.List.Contains, specs.List.list_any}
 use Rattle.dnssec_run.{specs.Origins.CachedSet, specs.Published.Id}
-use Rattle.dnssec_judge.specs.Bits.{has_bit, has_none, meet, meet_three}
+use Rattle.dnssec_judge.specs.Bits.{has_bit, has_none, meet, meet_three, words_of}
 use Rattle.dnssec_judge.specs.Chained.{is_in, is_none, trusts_keys, trusts_zone}
 use Rattle.dnssec_judge.specs.Numbers.{IsTable, Means, MeansSet, StandFor, key_at}
 use Rattle.dnssec_judge.{specs.Sets.Numbered, specs.Sets.sets_have_chain, proofs.Lists.any-key}
 use Rattle.dnssec_judge.{specs.declared.sets.numbers.Numbers.Numbers, proofs.Lists.in-list}
-use Rattle.dnssec_judge.proofs.Words.{meet-decides, meet-three-decides, none-decides}
+use Rattle.dnssec_judge.specs.declared.sets.{numbers.NumberList.NumberList, signers.Signers.Signers}
+use Rattle.dnssec_judge.specs.{Signers.numbers_in, Signers.words_in}
+use Rattle.dnssec_judge.proofs.Words.{meet-decides, meet-three-decides, no-bit, none-decides}
 
 -- what bits stand for stays, if the keys keep their numbers
 pub means-on : (t u : Numbers) (words : List ℕ) (keys : List Id)
@@ -50,6 +53,17 @@ bits-mean t words ns ks h has = record {
         sym p.2,
       ));
 }
+
+-- those of signers do too
+pub signers-mean : (t : Numbers) (s : Signers) (ks : List Id) → StandFor t (numbers_in s) ks
+    → Means t (words_in s) ks
+signers-mean t s ks h = by s.list h
+  where
+    by : (list : Option (Box NumberList Global))
+        → StandFor t (unwrap_or (option_map (λ l. l.value.numbers.items) list) []) ks
+        → Means t (unwrap_or (option_map (λ l. words_of l.value.bits) list) (0 ∷ [])) ks
+    by None h = bits-mean t (0 ∷ []) [] ks h no-bit
+    by (Some l) h = bits-mean t (words_of l.value.bits) l.value.numbers.items ks h l.value.same
 
 module _ (t : Numbers) (table : IsTable t) where
   -- a number of a set is that of its key

@@ -24,6 +24,9 @@ word-of first rest (suc i) = grind (arith, nat_tests)
 bit-within : (words : List ℕ) (n : ℕ) → has_bit words n ≡ true → n < end_of words
 bit-within words n e = grind (arith, nat_tests, bit_at-zero, get_or_past)
 
+pub no-bit : (n : ℕ) → has_bit (0 ∷ []) n ≡ false
+no-bit n = grind (arith, nat_tests, bit_at-zero, word-of 0 [] (n / 64))
+
 -- three sets meet
 pub meet-three-decides : (words ones others : List ℕ)
     → Decides (meet_three words ones others) (ShareAll words ones others)

@@ -3,6 +3,8 @@
 
 mod held;
 mod numbers;
+mod signers;
 
 pub(crate) use held::{OpenSet, WORD, is_in_word};
 pub(crate) use numbers::{NumberList, Numbers};
+pub(crate) use signers::Signers;

@@ -1,6 +1,6 @@
 //! The sets that caches may hold, by the positions that publish them, and what all of them have.
 ghost use Rattle.std.specs.Prelude.{◌≡◌, ◌<◌, ◌∷◌, [], IfOk, OnOk, length, drop};
-ghost use Rattle.std.specs.Prelude.{◌≤◌, ◌/◌, ℕ, false, true};
+ghost use Rattle.std.specs.Prelude.{◌≤◌, ◌/◌, ◌++◌, ℕ, OnErr, false, true};
 ghost use Rattle.std.specs.{List.All, Option.ForSome};
 ghost use Rattle.dnssec_judge.specs.declared.window.spans.TheConstants.{FEW};
 ghost use Rattle.dnssec_judge.specs.{Bits.in_word, Sets.holds};
@@ -11,9 +11,6 @@ use super::Link;
 use crate::sets::OpenSet;
 use std::alloc::{AllocError, Global};
 use std::collections::VecDeque;
-
-/// A window begins with room for this many spans: before the first roll it has no more.
-const FIRST: usize = 1;
 
 /// So many sets are tested one by one: nothing is known of what they have in common.
 pub(super) const FEW: usize = 4;
@@ -37,6 +34,20 @@ impl Clone for Span {
     }
 }
 
+/// Puts `span` at the end of `list`. A short list gets no room to spare. If there is no memory, it
+/// fails, and the list stays as it was.
+#[inline(always)]
+pub(super) fn push(list: &mut VecDeque<Span>, span: Span) -> Result<(), AllocError>
+    ensures ok { OnOk result (list.new.items ≡ list.old.items ++ span ∷ []) }
+    ensures err { OnErr result (list.new.items ≡ list.old.items) }
+{
+    if list.len() < FEW {
+        list.reserve_exact(1)?;
+    }
+    list.push_back(span)?;
+    Ok(())
+}
+
 /// The sets that caches may hold, by their spans, in the order of the positions.
 #[derive(Debug, Drop)]
 pub(crate) struct Spans {
@@ -58,11 +69,9 @@ impl Spans {
     pub(super) fn new(alloc: Global) -> Result<Self, AllocError>
         ensures { IfOk result (λ spans. spans.list.items ≡ first_span ∷ []) }
     {
-        let mut list = VecDeque::with_capacity(alloc, FIRST)?;
-        list.push_back(Span {
-            from: 0,
-            set: OpenSet::none(),
-        })?;
+        let mut list = VecDeque::new(alloc);
+        let set = OpenSet::none();
+        push(&mut list, Span { from: 0, set })?;
         Ok(Spans {
             list,
             newest: 0,

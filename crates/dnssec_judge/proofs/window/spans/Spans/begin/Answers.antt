@@ -1,6 +1,8 @@
 -- What is common is in one set more.
-use Rattle.std.proofs.Common.{◌≡◌, ◌∙◌, ◌++◌, ◌∷◌, [], arith, length-append, rules, subst, sym}
+use Rattle.std.proofs.Common.{◌≡◌, ◌≤◌, ◌∙◌, ◌++◌, ◌∷◌, [], arith, length, length-append, rules}
+use Rattle.std.proofs.Common.{subst, sym}
 use Rattle.std.{specs.List.All, proofs.lemmas.List.Elements.All-push}
+use Rattle.dnssec_judge.specs.declared.window.spans.TheConstants.{FEW}
 use Rattle.dnssec_judge.specs.{Inner.Spans.IsWithin, Bits.words_of, Sets.Numbered}
 use Rattle.dnssec_judge.{specs.declared.window.spans.Span.Span, proofs.OneByOne.More.came-pushed}
 use Rattle.dnssec_judge.proofs.window.spans.Spans.begin.Goals as goal
@@ -11,7 +13,7 @@ invariant_of-self-then-is_enough c =
     let was = c.args.self.now in let items = was.list.items in
     let set : Numbered = (words_of c.in_ok-keys.keys, words_of c.in_ok-signers.signers) in
     let s : Span = record { from = c.args.from; set = set } in
-    rw c.in_ok-push_back.ensures.items (elim c.match-self.branch [
+    rw c.in_ok-push.ensures.ok (elim c.match-self.branch [
       | in-Some w ↦ (let within : IsWithin w.deref.result.now s.set =
           w.is_within-is_enough.ensures (sym w.is_enough-is ∙ c.if-is_enough.true) in record {
             newest_is = sym (came-pushed items s);
@@ -33,9 +35,10 @@ invariant_of-self-2 c =
     let was = c.args.self.now.list.items in
     let set : Numbered = (words_of c.in_ok-keys.keys, words_of c.in_ok-signers.signers) in
     let s : Span = record { from = c.args.from; set = set } in
-    rw c.in_ok-push_back-2.ensures.items record {
+    rw c.in_ok-push-2.ensures.ok record {
       newest_is = sym (came-pushed was s);
-      many = λ x e. search rules;
+      many = λ x e. (let long : FEW ≤ length was = search rules in
+          omega (arith, long, length-append was (s ∷ [])));
       in_each = λ x e. (let same : common ≡ x.value = cc c.in_ok-common.ensures.ok in
           subst (λ (x : Numbered). All (λ s. IsWithin x s.set) (was ++ s ∷ [])) same
           (All-push (λ s. IsWithin common s.set) was s so.each so.set));
