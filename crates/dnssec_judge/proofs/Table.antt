@@ -2,8 +2,7 @@
 -- for.
 use Rattle.std.proofs.Common.{◌≡◌, ◌≤◌, ℕ, zero, suc, refl, sym, ◌∙◌, ap, arith}
 use Rattle.std.proofs.Common.{List, [], ◌∷◌, ◌++◌, length, map, Option, None, Some}
-use Rattle.std.specs.Prelude.{◌&&◌, slice_get, unwrap_or, IsSome, if◌then◌else◌, max, nat_eq}
-use Rattle.std.specs.Prelude.{nat_le}
+use Rattle.std.specs.Prelude.{◌&&◌, slice_get, unwrap_or, IsSome, if◌then◌else◌, nat_eq, nat_le}
 use Rattle.std.proofs.lemmas.{List.length-map, List.map-append}
 use Rattle.std.{proofs.lemmas.Bool.Decides.nat_tests, specs.Option.option_map}
 use Rattle.std.specs.{List.Contains, BTreeMap.get, Ordering.nat_cmp}
@@ -31,11 +30,10 @@ same-keys (k ∷ keys) (l ∷ others) e (suc n) =
 -- a table with the same keys, which are known too
 pub table-from : (old new : Numbers) → ((n : ℕ) → key_at new n ≡ key_at old n)
     → ((n : ℕ) (k : Id) → FEW ≤ n → key_at old n ≡ Some k → IsSome (get nat_cmp new.by_added k.1))
-    → new.newest ≡ old.newest → IsTable old → IsTable new
-table-from old new same known newest t = record {
+    → IsTable old → IsTable new
+table-from old new same known t = record {
   apart = λ m n k a b. t.apart m n k (sym (same m) ∙ a) (sym (same n) ∙ b);
   known = λ n k few e. known n k few (sym (same n) ∙ e);
-  within = λ n k e. rw newest (t.within n k (sym (same n) ∙ e));
 }
 
 -- a number that no key had is given to a key that had none
@@ -44,14 +42,12 @@ pub grown : (old new : Numbers) (number : ℕ) (key : Id) → key_at old number 
     → ((n : ℕ) → (n ≡ number → ⊥) → key_at new n ≡ key_at old n)
     → ((at : ℕ) → get nat_cmp new.by_added at
     ≡ (if nat_le FEW number && nat_eq key.1 at then Some number else get nat_cmp old.by_added at))
-    → new.newest ≡ max old.newest key.1
     → (IsTable old → (n : ℕ) → key_at old n ≡ Some key → ⊥) → Extends old new
-grown old new number key none here others at newest lacks t = (
+grown old new number key none here others at lacks t = (
   record {
     apart = λ m n k a b.
         grind (arith, others m, others n, lacks t m, lacks t n, t.apart m n k, here);
     known = λ n k few e. grind (arith, nat_tests, others n, at k.1, t.known n k, here, few);
-    within = λ n k e. grind (arith, others n, newest, t.within n k, here);
   },
   λ n k e. grind (arith, others n, none, e),
 )

@@ -17,12 +17,11 @@ key_in (Some key) = option_map id_of key
 abbrev pub key_at : Numbers → ℕ → Option Id
 key_at t n = key_in (slice_get t.keys.items n)
 
--- no two numbers are of one key, a key is known by the position of its add, unless its number is
--- one of a few, and none was added later than the newest
+-- no two numbers are of one key, and a key is known by the position of its add, unless its number
+-- is one of a few
 pub record IsTable (t : Numbers) : Type 0 where
   pub apart : (m n : ℕ) (k : Id) → key_at t m ≡ Some k → key_at t n ≡ Some k → m ≡ n
   pub known : (n : ℕ) (k : Id) → FEW ≤ n → key_at t n ≡ Some k → IsSome (get nat_cmp t.by_added k.1)
-  pub within : (n : ℕ) (k : Id) → key_at t n ≡ Some k → k.1 ≤ t.newest
 
 -- each key that has a number keeps it
 abbrev pub Grows : Numbers → Numbers → Type 0

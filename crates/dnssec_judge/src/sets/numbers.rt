@@ -29,8 +29,6 @@ pub(crate) struct Numbers {
     keys: Vec<Option<PublishedKey>>,
     /// By the position of its add, the number of a key from `FEW` on. Lesser ones are looked at.
     by_added: BTreeMap<usize, usize>,
-    /// No key was added later than this.
-    newest: usize,
     /// Each number below this one is some key's.
     least: usize,
     /// So many more numbers may be given before it is time to give some back.
@@ -46,7 +44,6 @@ impl Numbers {
         Numbers {
             keys: Vec::new(alloc),
             by_added: BTreeMap::new(alloc),
-            newest: 0,
             least: 0,
             left: FEW,
         }
@@ -72,7 +69,6 @@ impl Numbers {
         Ok(Numbers {
             keys,
             by_added: self.by_added.clone()?,
-            newest: self.newest,
             least: self.least,
             left: self.left,
         })
@@ -179,16 +175,13 @@ impl Numbers {
         ensures ok { IfOk result (λ n. key_at self.new n ≡ Some (id_of key.now)) }
         ensures extends { OnOk result (Extends self.old self.new) }
     {
-        let added = key.added;
-        if added <= self.newest {
-            if let Some(number) = self.search(key, FEW) {
-                return Ok(number);
-            }
-            if let Some(number) = self.find(key) {
-                return Ok(number);
-            }
+        if let Some(number) = self.search(key, FEW) {
+            return Ok(number);
         }
-        self.newest = self.newest.max(added);
+        if let Some(number) = self.find(key) {
+            return Ok(number);
+        }
+        let added = key.added;
         let reference = key.reference.clone()?;
         let number = self.spare_number();
         if number >= FEW {
@@ -249,7 +242,6 @@ impl Numbers {
         ensures others { OnOk result ((n : ℕ) → (n ≡ number → ⊥) →
             key_at self.new n ≡ key_at self.old n) }
         ensures kept { OnOk result (self.new.by_added ≡ self.old.by_added) }
-        ensures newest { OnOk result (self.new.newest ≡ self.old.newest) }
     {
         if number < self.keys.len() {
             self.keys[number] = Some(key);

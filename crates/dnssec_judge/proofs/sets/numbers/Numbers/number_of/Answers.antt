@@ -1,13 +1,11 @@
 -- A number that no key had.
 use Rattle.std.proofs.Common.{◌≡◌, ◌∙◌, ℕ, ap, arith, inl, inr, refl, Some}
-use Rattle.std.proofs.lemmas.Bool.{cases_lt}
-use Rattle.std.proofs.lemmas.Bool.Decides.{nat_tests}
-use Rattle.std.specs.Prelude.{◌&&◌, if◌then◌else◌, max, nat_eq, nat_le}
+use Rattle.std.proofs.lemmas.Bool.{cases_lt, Decides.nat_tests}
+use Rattle.std.specs.Prelude.{◌&&◌, if◌then◌else◌, nat_eq, nat_le}
 use Rattle.std.specs.{BTreeMap.get, Ordering.nat_cmp}
 use Rattle.dnssec_run.specs.Published.{id_of}
 use Rattle.dnssec_judge.specs.declared.sets.numbers.TheConstants.{FEW}
-use Rattle.dnssec_judge.specs.Numbers.{IsTable, key_at}
-use Rattle.dnssec_judge.proofs.Table.{grown}
+use Rattle.dnssec_judge.{specs.Numbers.IsTable, specs.Numbers.key_at, proofs.Table.grown}
 use Rattle.std.proofs.Common.{rules}
 use Rattle.dnssec_judge.proofs.sets.numbers.Numbers.number_of.Goals as goal
 
@@ -27,24 +25,14 @@ returns c =
       | goal.else-number-ge-FEW w ↦ λ at.
           grind (arith, nat_tests, w.self-is, w.if-number-ge-FEW.false)
     ] in
-    let newest : new.newest ≡ max old.newest key.1 = elim c.if-number-ge-FEW.branch [
-      | goal.then-number-ge-FEW+in_ok-insert w ↦
-          grind (arith, w.self-is, c.in_ok-write.ensures.newest, c.max-self.ensures)
-      | goal.else-number-ge-FEW w ↦
-          grind (arith, w.self-is, c.in_ok-write.ensures.newest, c.max-self.ensures)
-    ] in
-    let none : IsTable old → (n : ℕ) → key_at old n ≡ Some key → ⊥ = elim c.if-added-self.branch [
-      | goal.then-added-self+in_default+in_default-find w ↦ λ t n e. elim (cases_lt n FEW) [
-        | inl lt ↦ w.search.ensures.none w.in_default.is n lt e
-        | inr ge ↦ w.find.ensures.none w.in_default-find.is t n ge e
-      ]
-      | goal.else-added-self w ↦ λ t n e.
-          absurd (omega (arith, t.within n key e, w.if-added-self.false))
+    let none : IsTable old → (n : ℕ) → key_at old n ≡ Some key → ⊥ =
+    λ t n e. elim (cases_lt n FEW) [
+      | inl lt ↦ c.search.ensures.none c.in_default.is n lt e
+      | inr ge ↦ c.find.ensures.none c.in_default-find.is t n ge e
     ] in
     record {
       ok = here;
       extends = grown old new number key c.spare_number-number.ensures.none here
           (λ n isnt. c.in_ok-write.ensures.others n isnt ∙ places n)
-          (λ p. ap (λ m. get nat_cmp m p) c.in_ok-write.ensures.kept ∙ known p) newest
-          none;
+          (λ p. ap (λ m. get nat_cmp m p) c.in_ok-write.ensures.kept ∙ known p) none;
     }

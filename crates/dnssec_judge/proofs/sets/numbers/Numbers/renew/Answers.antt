@@ -1,5 +1,5 @@
 -- Each key that has a number is known anew.
-use Rattle.std.proofs.Common.{◌≡◌, ◌<◌, ◌≤◌, arith, refl, ℕ, Some}
+use Rattle.std.proofs.Common.{◌≡◌, ◌<◌, ◌≤◌, arith, ℕ, Some}
 use Rattle.std.proofs.lemmas.{Bool.Decides.nat_tests, Option.gets, List.get_or_default}
 use Rattle.std.proofs.lemmas.List.{get_or-take, length-take}
 use Rattle.std.specs.{Prelude.IsSome, Prelude.slice_get, BTreeMap.get, Ordering.nat_cmp}
@@ -43,5 +43,5 @@ returns c =
     let fit = c.shrink_to.ensures.items in let cut = c.truncate.ensures.items in
     grind (arith, gets, get_or-take, length-take, get_or_default, fit, cut, so))) in record {
       same = same;
-      table = table-from old _ same (λ n k few e. (all n k e).1 few) refl;
+      table = table-from old _ same (λ n k few e. (all n k e).1 few);
     }

@@ -1,5 +1,5 @@
 -- The same keys stand at the same places, and are known.
-use Rattle.std.proofs.Common.{◌≡◌, ◌∙◌, ap, map, refl, sym, List, Option, subst, ℕ}
+use Rattle.std.proofs.Common.{◌≡◌, ◌∙◌, ap, map, sym, List, Option, subst, ℕ}
 use Rattle.std.proofs.lemmas.List.{Elements.same_from_all_zip, take_all}
 use Rattle.std.specs.{Prelude.IsSome, Prelude.slice_get, Option.option_map, BTreeMap.is_at}
 use Rattle.std.specs.{BTreeMap.get, Ordering.nat_cmp, Map.lookup}
@@ -24,8 +24,8 @@ returns c =
       same = keys;
       table = (
         λ t. table-from old copy keys
-            (λ n k few e. subst IsSome (sym (known k.1)) (t.known n k few e)) refl t,
+            (λ n k few e. subst IsSome (sym (known k.1)) (t.known n k few e)) t,
         λ t. table-from copy old (λ n. sym (keys n))
-            (λ n k few e. subst IsSome (known k.1) (t.known n k few e)) refl t,
+            (λ n k few e. subst IsSome (known k.1) (t.known n k few e)) t,
       );
     }
