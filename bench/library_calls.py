@@ -2,12 +2,13 @@
 
     python3 bench/library_calls.py [--original ORIGINAL]
 
-It takes the library that `make lib` has made. The scripts are those of successive_rolls.py. It
-prints the number of lines; the least microseconds of `keyset_answer` for them all; of a line in a
-session, with its share of the opening and of the closing; of the closing lines and of the status
-after the last line; and the bytes that malloc hands out for such a session, which has two keys or
-three. ORIGINAL is a program that answers a script on its standard input by the original. Its least
-time of some runs is printed, less the time that it takes for a script of the zone's line only.
+It takes the library that `make lib` has made. The scripts are two adds on a new zone, and those of
+successive_rolls.py. It prints the number of lines; the least microseconds of `keyset_answer` for
+them all; of a line in a session, with its share of the opening and of the closing; of the closing
+lines and of the status after the last line; and the bytes that malloc hands out for such a session,
+which has two keys or three. ORIGINAL is a program that answers a script on its standard input by
+the original. Its least time of some runs is printed, less the time that it takes for a script of
+the zone's line only.
 """
 
 import argparse
@@ -17,10 +18,11 @@ import tempfile
 import time
 from pathlib import Path
 
-from successive_rolls import script
+from successive_rolls import FIRST, script
 
 TOP = Path(__file__).resolve().parent.parent
 LIBRARY = TOP / "library" / "out"
+TWO_ADDS = "".join(FIRST.splitlines(keepends=True)[:3])
 CALLS = (8, 96, 1_000, 10_000)
 RUNS = 50
 
@@ -73,8 +75,8 @@ def main():
         source = TOP / "bench" / "library_call.c"
         flags = [f"-I{LIBRARY}/include", f"-L{LIBRARY}/lib", "-l:libkeyset.a"]
         subprocess.run(["cc", "-O2", "-o", program, source, *flags], check=True)
-        for calls in CALLS:
-            row(figures(program, script(calls), original))
+        for text in (TWO_ADDS, *map(script, CALLS)):
+            row(figures(program, text, original))
 
 
 if __name__ == "__main__":
