@@ -85,7 +85,8 @@ def wires():
             answers = threading.Thread(target=_answer, args=(server, text), daemon=True)
             answers.start()
             store = Api(ZONE, f"http://127.0.0.1:{port}", "secret")
-            with mock.patch.object(pdns_api, "SECONDS", 0.5):
+            seconds = 0.5 if text is None else daemon.SECONDS
+            with mock.patch.object(pdns_api, "SECONDS", seconds):
                 said = fault_of(lambda: store.now([]))
             answers.join()
         if says not in said:
@@ -116,22 +117,38 @@ exit 1
 """
 # What PowerDNS says if SQLite is locked in the midst of a change.
 UNSAID = "Internal Server Error"
-# What fails, how often, what it says then, and how often it runs at least and at most: a command,
-# or a request by this method.
+# How often what always fails runs: at once, and after each pause of its time.
+PAUSE = daemon.SECONDS / 4
+ALL = 5
+# What fails, how often, what it says then, and how often it runs: a command, or a request by this
+# method.
 LOCKS = (
-    ("tool", 2, daemon.LOCKED, 3, 3), ("tool", 9, daemon.LOCKED, 2, 4),
-    ("tool", 9, "no such key", 1, 1), ("PATCH", 2, UNSAID, 3, 3), ("PATCH", 9, UNSAID, 2, 4),
-    ("POST", 9, UNSAID, 1, 1), ("POST", 2, daemon.LOCKED, 3, 3),
+    ("tool", 2, daemon.LOCKED, 3), ("tool", 9, daemon.LOCKED, ALL), ("tool", 9, "no such key", 1),
+    ("PATCH", 2, UNSAID, 3), ("PATCH", 9, UNSAID, ALL),
+    ("POST", 9, UNSAID, 1), ("POST", 2, daemon.LOCKED, 3),
 )
+
+
+class Clock:
+    """A clock that only pauses move on."""
+
+    def __init__(self) -> None:
+        self.moment = 0.0
+
+    def monotonic(self) -> float:
+        return self.moment
+
+    def sleep(self, seconds: float) -> None:
+        self.moment += seconds
 
 
 def locked():
     """What failed runs again if another program has locked the database, until its time is over."""
-    for what, fails, says, least, most in LOCKS:
-        with folder(), mock.patch.object(daemon, "PAUSE", 0.25), \
-                mock.patch.multiple(pdns_api, PAUSE=0.25, SECONDS=1):
+    for what, fails, says, wanted in LOCKS:
+        with folder(), mock.patch.multiple(daemon, PAUSE=PAUSE, time=Clock()), \
+                mock.patch.multiple(pdns_api, PAUSE=PAUSE, time=Clock()):
             runs, fault = _by_tool(fails, says) if what == "tool" else _by_api(what, fails, says)
-        if not least <= runs <= most or (says in fault) != (fails > most):
+        if runs != wanted or (says in fault) != (fails > wanted):
             yield f"{what}: {says} {fails} times: {runs} runs, and {fault}"
 
 
@@ -139,7 +156,7 @@ def _by_tool(fails: int, says: str) -> tuple[int, str]:
     """How often a command runs, and what is said in the end."""
     Path("tool").write_text(TOOL)
     Path("tool").chmod(0o755)
-    fault = fault_of(lambda: daemon.said(["./tool", str(fails), says], seconds=1))
+    fault = fault_of(lambda: daemon.said(["./tool", str(fails), says]))
     return len(Path("runs").read_text()), fault
 
 
@@ -149,18 +166,18 @@ def _by_api(method: str, fails: int, says: str) -> tuple[int, str]:
     runs: list[int] = []
 
     def answers() -> None:
-        with contextlib.suppress(TimeoutError):
+        with contextlib.suppress(OSError):
             while True:
                 is_over = len(runs) >= fails
                 _answer(server, OK.format(2, "[]") if is_over else FAULT.format(len(says), says))
                 runs.append(len(runs))
 
     with socket.create_server(("127.0.0.1", 0)) as server:
-        server.settimeout(1)
         thread = threading.Thread(target=answers)
         thread.start()
         store = Api(ZONE, f"http://127.0.0.1:{server.getsockname()[1]}", "secret")
         fault = fault_of(lambda: store.ask(method, "/zones"))
+        server.shutdown(socket.SHUT_RDWR)
         thread.join()
     return len(runs), fault
 
