@@ -24,12 +24,12 @@ use Rattle.dnssec_zone.proofs.Quantified.{first, same_key, second}
 use Rattle.dnssec_run.specs.Published.{Id, World, keys_where, id_of}
 use Rattle.dnssec_run.specs.Record.{new_world}
 use Rattle.dnssec_run.specs.Adds.{IsAscending, position_in}
-use Rattle.dnssec_run.specs.Recorder.{Agrees, AreAtStart, HasKept, IsAtStart, KeptBy, Reading}
+use Rattle.dnssec_run.specs.Recorder.{Agrees, HasKept, KeptBy, Reading}
 use Rattle.dnssec_run.specs.Recorder.{ShowsKey, ShowsNext, ids_read, ids_where, position_shown}
 use Rattle.dnssec_run.specs.Recorder.{reading, shown_once}
 use Rattle.dnssec_run.specs.Published.{in_dnskey, in_ds, signs_dnskey, signs_zone}
 use Rattle.dnssec_run.specs.declared.{lists.ByList.ByList, record.Published.Published}
-use Rattle.dnssec_run.specs.declared.sets.Renewals.{Renewals}
+use Rattle.dnssec_run.specs.declared.sets.{Renewal.Renewal, Renewals.Renewals, TheConstants.MANY}
 pub use Rattle.dnssec_run.specs.Recorder.{passing}
 use Rattle.dnssec_run.specs.declared.record.PublishedKey.{PublishedKey}
 
@@ -227,14 +227,14 @@ module _ (passes : KeyType → Bool) (key : List ℕ → Option KeyParts) (touch
     pub fits : set.at.read ≤ vec_len set.keys
     pub kept : HasKept before set
 
-  reads-begin : (set : Reading) → IsAtStart touched set.at → set.keys.items ≡ before
-      → Reads all set
-  reads-begin set start same = record {
-    mark = start.mark;
-    read = λ t. ap (λ n. map id_of (take n set.keys.items) ++ ids_where passes key all) start.read;
+  reads-begin : (set : Reading) → set.at.read ≡ 0 → set.at.around ≡ None
+      → set.at.is_touched ≡ touched → set.keys.items ≡ before → Reads all set
+  reads-begin set start none mark same = record {
+    mark = mark;
+    read = λ t. ap (λ n. map id_of (take n set.keys.items) ++ ids_where passes key all) start;
     stays = λ t. same;
-    fits = omega (arith, start.read);
-    kept = subst (λ o. KeptBy o before set) (sym start.around) same;
+    fits = omega (arith, start);
+    kept = subst (λ o. KeptBy o before set) (sym none) same;
   }
 
   reads-on : (old new : Reading) (e : Id) (es : List Id) (o : Option KeyType)
@@ -290,12 +290,25 @@ module _ (key : List ℕ → Option KeyParts) (touched : ByList) (before : Publi
     pub zone_signers : Reads signs_zone key touched.zone_signers before.zone_signers.items all
         left (reading at.zone_signers sets.zone_signers)
 
-  pub all-begin : (at : Renewals) → AreAtStart touched at → AllRead all at before
-  all-begin at start = record {
-    ds = reads-begin _ _ _ _ _ _ start.ds refl;
-    dnskey = reads-begin _ _ _ _ _ _ start.dnskey refl;
-    dnskey_signers = reads-begin _ _ _ _ _ _ start.dnskey_signers refl;
-    zone_signers = reads-begin _ _ _ _ _ _ start.zone_signers refl;
+  abbrev pub start : Bool → Renewal
+  start is_touched = record {
+    read = 0;
+    changes_left = MANY;
+    around = None;
+    is_touched = is_touched;
+  }
+
+  pub all-begin : AllRead all (record {
+    ds = start touched.ds;
+    dnskey = start touched.dnskey;
+    dnskey_signers = start touched.dnskey_signers;
+    zone_signers = start touched.zone_signers;
+  }) before
+  all-begin = record {
+    ds = reads-begin _ _ _ _ _ _ refl refl refl refl;
+    dnskey = reads-begin _ _ _ _ _ _ refl refl refl refl;
+    dnskey_signers = reads-begin _ _ _ _ _ _ refl refl refl refl;
+    zone_signers = reads-begin _ _ _ _ _ _ refl refl refl refl;
   }
 
   pub all-next : (old new : Renewals) (sets after : Published) (left : List Id) (e : Id)

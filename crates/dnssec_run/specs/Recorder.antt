@@ -191,19 +191,6 @@ KeptBy (Some frame) before set =
 abbrev pub HasKept : List PublishedKey → Reading → Type 0
 HasKept before set = KeptBy set.at.around before set
 
--- no key of the list is read yet
-pub record IsAtStart (touched : Bool) (at : Renewal) : Type 0 where
-  pub read : at.read ≡ 0
-  pub around : at.around ≡ None
-  pub mark : at.is_touched ≡ touched
-
--- the same of the four lists
-pub record AreAtStart (touched : ByList) (at : Renewals) : Type 0 where
-  pub ds : IsAtStart touched.ds at.ds
-  pub dnskey : IsAtStart touched.dnskey at.dnskey
-  pub dnskey_signers : IsAtStart touched.dnskey_signers at.dnskey_signers
-  pub zone_signers : IsAtStart touched.zone_signers at.zone_signers
-
 -- the next key is read: a list that is touched has it too, if it shows it; another stays
 pub record ShowsNext (passes : KeyType → Bool) (keytype : KeyType) (id : Id) (old new : Reading)
     : Type 0 where

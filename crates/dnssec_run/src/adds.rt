@@ -6,8 +6,8 @@ ghost use Rattle.dnssec_run.specs.Adds.{IsAscending, IsInOrder, added_in, in-ord
 ghost use Rattle.dnssec_run.specs.Adds.{position_in};
 ghost use Rattle.dnssec_run.specs.Published.{id_of};
 
-use crate::copies::{FEW, copy_keys, put_at};
-use crate::record::PublishedKey;
+use crate::copies::copy_keys;
+use crate::record::{FEW, PublishedKey, put_at};
 use std::alloc::{AllocError, Global};
 use std::collections::BTreeMap;
 use std::mem;

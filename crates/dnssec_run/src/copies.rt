@@ -1,33 +1,10 @@
-//! Lists of keys without room to spare, and copies of what is published.
-ghost use Rattle.std.specs.Prelude.{◌≡◌, ◌+◌, ◌≤◌, IfOk, OnErr, OnOk, map, vec_len};
-ghost use Rattle.std.specs.List.{insert};
+//! Copies of what is published.
+ghost use Rattle.std.specs.Prelude.{◌≡◌, IfOk, map};
 ghost use Rattle.dnssec_run.specs.Published.{id_of};
 ghost use Rattle.dnssec_run.specs.Recorder.{HasSameKeys};
 
 use crate::record::{Published, PublishedKey};
 use std::alloc::{AllocError, Global};
-
-/// Up to this many keys stand in a list without room to spare.
-pub(crate) const FEW: usize = 8;
-
-/// Puts `key` into the list `keys` at index `place`, counted from 0. If there is no memory, it
-/// fails, and the list stays as it was.
-pub(crate) fn put_at(
-    keys: &mut Vec<PublishedKey>,
-    place: usize,
-    key: PublishedKey,
-) -> Result<(), AllocError>
-    requires { place ≤ vec_len keys.old }
-    ensures items { OnOk result (keys.new.items ≡ insert keys.old.items place key) }
-    ensures len { OnOk result (vec_len keys.new ≡ vec_len keys.old + 1) }
-    ensures kept { OnErr result (keys.new.items ≡ keys.old.items) }
-{
-    if keys.len() < FEW {
-        keys.reserve_exact(1)?;
-    }
-    keys.insert(place, key)?;
-    Ok(())
-}
 
 /// A copy of a list of published keys: the same references and positions in the same order. It
 /// takes its memory from `alloc`, and fails only if there is none.

@@ -9,9 +9,8 @@ ghost use Rattle.dnssec_run.specs.Recorder.{Agrees, ChangesAt, HasSameKeys, Leav
 ghost use Rattle.dnssec_run.specs.Recorder.{PlacesKey, SaysShownAt, at_list, passing, shows};
 
 use crate::adds::Adds;
-use crate::copies::put_at;
 use crate::lists::{ByList, Shown};
-use crate::record::{Frame, Frames, Published, PublishedKey};
+use crate::record::{Frame, Frames, Published, PublishedKey, put_at};
 use dnssec_keyset::{KeySet, KeyType};
 use std::alloc::{AllocError, Global};
 

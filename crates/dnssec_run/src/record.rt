@@ -1,8 +1,9 @@
 //! What a run leaves: its entries, with what was published at each position, and which sets a call
 //! may have changed, and where. And what the next report of each roll counts from: the roll's last
 //! step, and since when the sets are published that the step left.
-ghost use Rattle.std.specs.Prelude.{◌≡◌, ◌||◌, [], None, Some, map, if◌then◌else◌};
-ghost use Rattle.std.specs.List.{list_any};
+ghost use Rattle.std.specs.Prelude.{◌≡◌, ◌+◌, ◌≤◌, ◌||◌, [], None, Some, map, vec_len};
+ghost use Rattle.std.specs.Prelude.{IfOk, OnErr, OnOk, if◌then◌else◌};
+ghost use Rattle.std.specs.List.{insert, list_any};
 ghost use Rattle.dnssec_key.specs.declared.roll.RollType.{RollType};
 ghost use Rattle.dnssec_run.specs.Asked.{asked_by, kind_shown, updates};
 ghost use Rattle.dnssec_run.specs.Frames.{frames_in};
@@ -16,7 +17,7 @@ ghost use Rattle.dnssec_run.specs.declared.lists.Shown.{Shown};
 use crate::caches::{ByKind, SetKind};
 use crate::lists::{ByList, Shown};
 use dnssec_keyset::{Action, Error, KeySet, RollType, UnixTime};
-use std::alloc::Global;
+use std::alloc::{AllocError, Global};
 
 /// What a call answered.
 #[derive(Debug, Drop, PartialEq)]
@@ -63,6 +64,28 @@ pub struct PublishedKey {
     /// before their references.
     pub added: usize,
     pub reference: String,
+}
+
+/// Up to this many keys stand in a list without room to spare.
+pub(crate) const FEW: usize = 8;
+
+/// Puts `key` into the list `keys` at index `place`, counted from 0. If there is no memory, it
+/// fails, and the list stays as it was.
+pub(crate) fn put_at(
+    keys: &mut Vec<PublishedKey>,
+    place: usize,
+    key: PublishedKey,
+) -> Result<(), AllocError>
+    requires { place ≤ vec_len keys.old }
+    ensures items { OnOk result (keys.new.items ≡ insert keys.old.items place key) }
+    ensures len { OnOk result (vec_len keys.new ≡ vec_len keys.old + 1) }
+    ensures kept { OnErr result (keys.new.items ≡ keys.old.items) }
+{
+    if keys.len() < FEW {
+        keys.reserve_exact(1)?;
+    }
+    keys.insert(place, key)?;
+    Ok(())
 }
 
 /// What is published at a position. Each list is in the order of its references' bytes, and has no
@@ -346,6 +369,8 @@ impl Steps {
     /// set that is published after it the position of the call that brought the set. If the mark is
     /// that of an accepted start or end of a first wait, the call becomes the last step of its
     /// roll. Any other call changes nothing.
+    // Inline, so that another call makes no call here.
+    #[inline(always)]
     pub fn note(&mut self, mark: Mark, at: usize, origins: Origins)
         ensures { (roll : RollType) → step_of self.new roll ≡ (if is_step roll mark
             then Some (record { at = at; origins = origins }) else step_of self.old roll) }

@@ -8,16 +8,15 @@ ghost use Rattle.std.specs.Option.{option_map};
 ghost use Rattle.dnssec_run.specs.Adds.{added_in};
 ghost use Rattle.dnssec_run.specs.Frames.{KeepsFrame, KeepsFrames, frame_with};
 ghost use Rattle.dnssec_run.specs.Published.{IsPublished, World, id_of};
-ghost use Rattle.dnssec_run.specs.Recorder.{Agrees, AreAtStart, AreWithin, ChangesOnly, HasKept};
-ghost use Rattle.dnssec_run.specs.Recorder.{HasSameKeys, IsAtStart, Leaves, SaysShown, ShowsKey};
+ghost use Rattle.dnssec_run.specs.Recorder.{Agrees, AreWithin, ChangesOnly, HasKept};
+ghost use Rattle.dnssec_run.specs.Recorder.{HasSameKeys, Leaves, SaysShown, ShowsKey};
 ghost use Rattle.dnssec_run.specs.Recorder.{ids_read, reading, shown_once, shows};
 ghost use Rattle.dnssec_run.specs.declared.record.PublishedKey.{PublishedKey};
 
 use crate::adds::{Adds, Kept};
-use crate::copies::put_at;
 use crate::lists::{ByList, Shown};
 use crate::places::renew_key;
-use crate::record::{Frame, Frames, Published, PublishedKey};
+use crate::record::{Frame, Frames, Published, PublishedKey, put_at};
 use crate::walk_order::{WalkOrder, key_at};
 use dnssec_keyset::{Key, KeySet, KeyType};
 use std::alloc::{AllocError, Global};
@@ -63,18 +62,13 @@ struct Renewal {
 }
 
 impl Renewal {
-    /// No key of the list is read yet.
-    #[inline(always)]
-    fn of(is_touched: bool) -> Self
-        ensures { IsAtStart is_touched result }
-    {
-        Renewal {
-            read: 0,
-            changes_left: MANY,
-            around: None,
-            is_touched,
-        }
-    }
+    /// No key of the list is read yet, nor will be.
+    const START: Renewal = Renewal {
+        read: 0,
+        changes_left: MANY,
+        around: None,
+        is_touched: false,
+    };
 
     /// Reads the next key of the key set, in the order of the references. `keys`, the list, then
     /// has it as its last read key if `shown` shows a key of this kind. `added` is the position of
@@ -223,19 +217,6 @@ struct Renewals {
 }
 
 impl Renewals {
-    /// No key is read yet. Only the lists in `touched` will be read anew.
-    #[inline(always)]
-    fn of(touched: ByList) -> Self
-        ensures { AreAtStart touched result }
-    {
-        Renewals {
-            ds: Renewal::of(touched.ds),
-            dnskey: Renewal::of(touched.dnskey),
-            dnskey_signers: Renewal::of(touched.dnskey_signers),
-            zone_signers: Renewal::of(touched.zone_signers),
-        }
-    }
-
     /// Reads the next key of the key set for each list of `sets`, in the order of the references.
     /// `added` is the position of the call that added the key. It fails only if there is no memory,
     /// and the lists are then of no more use.
@@ -354,7 +335,25 @@ fn renew_all(
         Agrees keyset.now (added_in added.now.kept) w → IsPublished sets.new w) }
 {
     let keys = keyset.keys();
-    let mut lists = Renewals::of(touched);
+    let start = Renewal::START;
+    let mut lists = Renewals {
+        ds: Renewal {
+            is_touched: touched.ds,
+            ..start
+        },
+        dnskey: Renewal {
+            is_touched: touched.dnskey,
+            ..start
+        },
+        dnskey_signers: Renewal {
+            is_touched: touched.dnskey_signers,
+            ..start
+        },
+        zone_signers: Renewal {
+            is_touched: touched.zone_signers,
+            ..start
+        },
+    };
     match &added.kept {
         Kept::Few(list) => {
             for entry in list {

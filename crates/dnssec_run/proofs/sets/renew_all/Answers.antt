@@ -21,7 +21,7 @@ next-is keys i key is lt = at_drop_more (map id_of) keys i key lt
     ∙ ap (λ k. id_of k ∷ map id_of (drop (i + 1) keys)) (sym is)
 
 pub loop-entry-init : goal.loop-entry-init
-loop-entry-init c = all-begin _ _ _ _ _ c.of-lists.ensures
+loop-entry-init c = all-begin _ _ _ _
 
 pub loop-entry-preserved : goal.loop-entry-preserved
 loop-entry-preserved c = all-next _ _ _ _ _ _ _ _ _ _ _ _
@@ -34,7 +34,7 @@ loop-entry-preserved-in_default c = all-past _ _ _ _ _ _ _ _ _
     c.loop-entry.invariant
 
 pub loop-reference-init : goal.loop-reference-init
-loop-reference-init c = all-begin _ _ _ _ _ c.of-lists.ensures
+loop-reference-init c = all-begin _ _ _ _
 
 pub loop-reference-preserved : goal.loop-reference-preserved
 loop-reference-preserved c = all-next _ _ _ _ _ _ _ _ _ _ _ _
