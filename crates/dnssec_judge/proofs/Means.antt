@@ -3,8 +3,8 @@ use Rattle.std.proofs.Common.{◌≡◌, ◌∙◌, ◌∷◌, [], ℕ, zero, su
 use Rattle.std.proofs.Common.{refl, subst, sym}
 use Rattle.std.proofs.lemmas.Bool.Decides.{Decides-and, Decides-like, same_from_decides}
 use Rattle.std.proofs.lemmas.{List.Folds.list_any_at, Map.Views.Contains-from_any}
-use Rattle.std.specs.Prelude.{◌&&◌, ◌||◌, Box, None, Option, nat_eq, unwrap_or}
-use Rattle.std.specs.{Global.Global, Option.option_map}
+use Rattle.std.specs.Prelude.{◌&&◌, ◌||◌, Box, None, Option, nat_eq}
+use Rattle.std.specs.{Global.Global}
 use Rattle.std.proofs.lemmas.Bool.{eq-eqb, eqb-true, false_from_ne_true}
 use Rattle.std.{proofs.lemmas.Option.same_Some, specs.List.Contains, specs.List.list_any}
 use Rattle.dnssec_run.{specs.Origins.CachedSet, specs.Published.Id}
@@ -13,7 +13,7 @@ use Rattle.dnssec_judge.specs.Chained.{is_in, is_none, trusts_keys, trusts_zone}
 use Rattle.dnssec_judge.specs.Numbers.{IsTable, Means, MeansSet, StandFor, key_at}
 use Rattle.dnssec_judge.{specs.Sets.Numbered, specs.Sets.sets_have_chain, proofs.Lists.any-key}
 use Rattle.dnssec_judge.{specs.declared.sets.numbers.Numbers.Numbers, proofs.Lists.in-list}
-use Rattle.dnssec_judge.specs.declared.sets.{numbers.NumberList.NumberList, signers.Signers.Signers}
+use Rattle.dnssec_judge.specs.declared.sets.numbers.NumberList.{NumberList}
 use Rattle.dnssec_judge.specs.{Signers.numbers_in, Signers.words_in}
 use Rattle.dnssec_judge.proofs.Words.{meet-decides, meet-three-decides, no-bit, none-decides}
 
@@ -55,15 +55,11 @@ bits-mean t words ns ks h has = record {
 }
 
 -- those of signers do too
-pub signers-mean : (t : Numbers) (s : Signers) (ks : List Id) → StandFor t (numbers_in s) ks
-    → Means t (words_in s) ks
-signers-mean t s ks h = by s.list h
-  where
-    by : (list : Option (Box NumberList Global))
-        → StandFor t (unwrap_or (option_map (λ l. l.value.numbers.items) list) []) ks
-        → Means t (unwrap_or (option_map (λ l. words_of l.value.bits) list) (0 ∷ [])) ks
-    by None h = bits-mean t (0 ∷ []) [] ks h no-bit
-    by (Some l) h = bits-mean t (words_of l.value.bits) l.value.numbers.items ks h l.value.same
+pub signers-mean : (t : Numbers) (signers : Option (Box NumberList Global)) (ks : List Id)
+    → StandFor t (numbers_in signers) ks → Means t (words_in signers) ks
+signers-mean t None ks h = bits-mean t (0 ∷ []) [] ks h no-bit
+signers-mean t (Some l) ks h =
+    bits-mean t (words_of l.value.bits) l.value.numbers.items ks h l.value.same
 
 module _ (t : Numbers) (table : IsTable t) where
   -- a number of a set is that of its key

@@ -1,12 +1,12 @@
--- The keys that sign a set, as numbers. If there is no list, nothing signs it.
-use Rattle.std.specs.Prelude.{ℕ, List, [], ◌∷◌, unwrap_or}
-use Rattle.std.specs.Option.{option_map}
+-- The keys that sign a set, by the list of their numbers. If there is none, nothing signs it.
+use Rattle.std.specs.Prelude.{ℕ, List, Box, Option, [], ◌∷◌, unwrap_or}
+use Rattle.std.specs.{Global.Global, Option.option_map}
 use Rattle.dnssec_judge.specs.Bits.{words_of}
-use Rattle.dnssec_judge.specs.declared.sets.signers.Signers.{Signers}
+use Rattle.dnssec_judge.specs.declared.sets.numbers.NumberList.{NumberList}
 
-abbrev pub numbers_in : Signers → List ℕ
-numbers_in s = unwrap_or (option_map (λ list. list.value.numbers.items) s.list) []
+abbrev pub numbers_in : Option (Box NumberList Global) → List ℕ
+numbers_in signers = unwrap_or (option_map (λ list. list.value.numbers.items) signers) []
 
 -- and as bits
-abbrev pub words_in : Signers → List ℕ
-words_in s = unwrap_or (option_map (λ list. words_of list.value.bits) s.list) (0 ∷ [])
+abbrev pub words_in : Option (Box NumberList Global) → List ℕ
+words_in signers = unwrap_or (option_map (λ list. words_of list.value.bits) signers) (0 ∷ [])

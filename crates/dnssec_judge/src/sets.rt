@@ -3,8 +3,6 @@
 
 mod held;
 mod numbers;
-mod signers;
 
-pub(crate) use held::{OpenSet, WORD, is_in_word};
+pub(crate) use held::{Bits, OpenSet, WORD, is_in_word};
 pub(crate) use numbers::{NumberList, Numbers};
-pub(crate) use signers::Signers;

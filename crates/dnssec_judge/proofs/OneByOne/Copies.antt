@@ -2,8 +2,7 @@
 use Rattle.std.proofs.Common.{◌≡◌, ℕ, sym, ◌∙◌, ap, arith, List, length}
 use Rattle.dnssec_run.specs.Safe.{SetKind, Ds, Dnskey, ZoneSigners}
 use Rattle.dnssec_run.specs.declared.record.Entry.{Entry}
-use Rattle.dnssec_judge.specs.Inner.{Reports.floor_with, Spans.came}
-use Rattle.dnssec_judge.specs.Inner.Window.{IsSame, Watches}
+use Rattle.dnssec_judge.specs.Inner.{Reports.floor_with, Spans.came, Window.IsSame, Window.Watches}
 use Rattle.dnssec_judge.proofs.OneByOne.Back.{watches-grow}
 use Rattle.dnssec_judge.specs.declared.{sets.numbers.Numbers.Numbers, window.Window.Window}
 use Rattle.dnssec_judge.specs.{Judge.Knows, declared.judging.Judge.Judge}

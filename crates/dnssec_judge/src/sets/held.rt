@@ -49,24 +49,23 @@ impl Clone for Bits {
     /// A copy of the set, which shares its words. It fails only if they are shared too often.
     #[inline(always)]
     fn clone(&self) -> Result<Self, AllocError> {
+        let rest = match &self.rest {
+            Some(rest) => Some(rest.clone()?),
+            None => None,
+        };
         Ok(Bits {
             first: self.first,
-            rest: share(&self.rest)?,
+            rest,
         })
     }
 }
 
 impl Bits {
     /// The empty set.
-    pub(crate) fn none() -> Self
-        ensures words { words_of result ≡ 0 ∷ [] }
-        ensures none { (n : ℕ) → has result n ≡ false }
-    {
-        Bits {
-            first: 0,
-            rest: None,
-        }
-    }
+    pub(crate) const NONE: Bits = Bits {
+        first: 0,
+        rest: None,
+    };
 
     /// The set of these `numbers`. A number that stands there twice is in it once. It fails only if
     /// there is no memory.
@@ -119,14 +118,14 @@ impl Bits {
             }
             return Ok(bits);
         }
-        let rest = share(&self.rest)?;
+        let mut bits = self.clone()?;
         let bit = 1u64 << number;
-        let first = if is_in {
-            self.first | bit
+        if is_in {
+            bits.first |= bit;
         } else {
-            self.first & !bit
-        };
-        Ok(Bits { first, rest })
+            bits.first &= !bit;
+        }
+        Ok(bits)
     }
 
     /// The same for a `number` from 64 on, with words of its own.
@@ -246,8 +245,8 @@ impl OpenSet {
         ensures { result ≡ (0 ∷ [], 0 ∷ []) }
     {
         OpenSet {
-            keys: Bits::none(),
-            signers: Bits::none(),
+            keys: Bits::NONE,
+            signers: Bits::NONE,
         }
     }
 

@@ -178,16 +178,18 @@ impl Numbers {
         if let Some(number) = self.search(key, FEW) {
             return Ok(number);
         }
-        if let Some(number) = self.find(key) {
-            return Ok(number);
+        if self.keys.len() > FEW {
+            if let Some(number) = self.find(key) {
+                return Ok(number);
+            }
         }
         let added = key.added;
         let reference = key.reference.clone()?;
-        let number = self.spare_number();
+        let number = self.give(PublishedKey { added, reference })?;
         if number >= FEW {
             self.by_added.insert(added, number)?;
         }
-        self.write(number, PublishedKey { added, reference })?;
+        self.left = self.left.saturating_sub(1);
         Ok(number)
     }
 
@@ -221,36 +223,30 @@ impl Numbers {
         None
     }
 
-    /// The least number that no key has. It may be the one after the greatest that is in use.
-    fn spare_number(&self) -> usize
-        ensures none { key_at self.now result ≡ None }
-        ensures within { result ≤ vec_len self.now.keys }
-    {
-        for number in self.least..self.keys.len() {
-            if matches!(self.keys.get(number), Some(None)) {
-                return number;
-            }
-        }
-        self.keys.len()
-    }
-
-    /// Gives `number`, which no key has, to `key`. Free numbers are then sought after it (`least`),
-    /// and `left` is one less. All else stays. If there is no memory, it fails and changes nothing.
-    fn write(&mut self, number: usize, key: PublishedKey) -> Result<(), AllocError>
-        requires { number ≤ vec_len self.old.keys }
-        ensures ok { OnOk result (key_at self.new number ≡ Some (id_of key)) }
-        ensures others { OnOk result ((n : ℕ) → (n ≡ number → ⊥) →
+    /// Gives `key` the least number that no key has. It may be the one after the greatest that is in
+    /// use. Free numbers are then sought after it (`least`). All else stays. If there is no memory,
+    /// it fails and changes nothing.
+    fn give(&mut self, key: PublishedKey) -> Result<usize, AllocError>
+        ensures ok { IfOk result (λ number. key_at self.new number ≡ Some (id_of key)) }
+        ensures free { IfOk result (λ number. key_at self.old number ≡ None) }
+        ensures others { IfOk result (λ number. (n : ℕ) → (n ≡ number → ⊥) →
             key_at self.new n ≡ key_at self.old n) }
         ensures kept { OnOk result (self.new.by_added ≡ self.old.by_added) }
     {
+        let mut number = self.keys.len();
+        for free in self.least..self.keys.len() {
+            if matches!(self.keys.get(free), Some(None)) {
+                number = free;
+                break;
+            }
+        }
         if number < self.keys.len() {
             self.keys[number] = Some(key);
         } else {
             self.keys.push(Some(key))?;
         }
         self.least = number.saturating_add(1);
-        self.left = self.left.saturating_sub(1);
-        Ok(())
+        Ok(number)
     }
 
     /// A bound of the numbers: no key has this one or a greater one.
@@ -319,7 +315,7 @@ impl NumberList {
     {
         NumberList {
             numbers: Vec::new(alloc),
-            bits: Bits::none(),
+            bits: Bits::NONE,
             before: None,
         }
     }

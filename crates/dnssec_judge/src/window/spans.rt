@@ -1,6 +1,6 @@
 //! The sets that caches may hold, by the positions that publish them, and what all of them have.
 ghost use Rattle.std.specs.Prelude.{◌≡◌, ◌<◌, ◌∷◌, [], IfOk, OnOk, length, drop};
-ghost use Rattle.std.specs.Prelude.{◌≤◌, ◌/◌, ◌++◌, ℕ, OnErr, false, true};
+ghost use Rattle.std.specs.Prelude.{◌≤◌, ◌/◌, ℕ, false, true};
 ghost use Rattle.std.specs.{List.All, Option.ForSome};
 ghost use Rattle.dnssec_judge.specs.declared.window.spans.TheConstants.{FEW};
 ghost use Rattle.dnssec_judge.specs.{Bits.in_word, Sets.holds};
@@ -12,7 +12,8 @@ use crate::sets::OpenSet;
 use std::alloc::{AllocError, Global};
 use std::collections::VecDeque;
 
-/// So many sets are tested one by one: nothing is known of what they have in common.
+/// So many sets are tested one by one: nothing is known of what they have in common. Their list
+/// has no room to spare.
 pub(super) const FEW: usize = 4;
 
 /// From a position on a set was published. The span ends where the next one begins.
@@ -32,20 +33,6 @@ impl Clone for Span {
             set: self.set.clone()?,
         })
     }
-}
-
-/// Puts `span` at the end of `list`. A short list gets no room to spare. If there is no memory, it
-/// fails, and the list stays as it was.
-#[inline(always)]
-pub(super) fn push(list: &mut VecDeque<Span>, span: Span) -> Result<(), AllocError>
-    ensures ok { OnOk result (list.new.items ≡ list.old.items ++ span ∷ []) }
-    ensures err { OnErr result (list.new.items ≡ list.old.items) }
-{
-    if list.len() < FEW {
-        list.reserve_exact(1)?;
-    }
-    list.push_back(span)?;
-    Ok(())
 }
 
 /// The sets that caches may hold, by their spans, in the order of the positions.
@@ -69,9 +56,9 @@ impl Spans {
     pub(super) fn new(alloc: Global) -> Result<Self, AllocError>
         ensures { IfOk result (λ spans. spans.list.items ≡ first_span ∷ []) }
     {
-        let mut list = VecDeque::new(alloc);
+        let mut list = VecDeque::with_capacity(alloc, 1)?;
         let set = OpenSet::none();
-        push(&mut list, Span { from: 0, set })?;
+        list.push_back(Span { from: 0, set })?;
         Ok(Spans {
             list,
             newest: 0,

@@ -2,8 +2,7 @@
 -- no DS, or any two sets fit together, or the windows are searched.
 use Rattle.std.proofs.Common.{◌≡◌, ◌≤◌, ◌∙◌, ℕ, suc, ap, arith, sym, refl, length, List, Option}
 use Rattle.std.proofs.Common.{Bool, true, false, None}
-use Rattle.std.proofs.lemmas.Bool.{or_left, or_right}
-use Rattle.std.specs.Prelude.{is_some}
+use Rattle.std.{proofs.lemmas.Bool.or_left, proofs.lemmas.Bool.or_right, specs.Prelude.is_some}
 use Rattle.dnssec_run.specs.declared.record.Entry.{Entry}
 use Rattle.dnssec_judge.specs.{declared.verdict.Broken.Broken, declared.judging.Judge.Judge}
 use Rattle.dnssec_judge.specs.{Inner.Window.Tested, Inner.Window.spans_of, Inner.Search.IsVerdictAt}

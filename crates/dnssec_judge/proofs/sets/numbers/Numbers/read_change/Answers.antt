@@ -1,7 +1,6 @@
 -- A key more or less between those that stay, or others: then each key has its number.
 use Rattle.std.proofs.Common.{◌≡◌, ◌∙◌, ◌+◌, ◌++◌, ◌∷◌, [], List, ap, arith, length, map, rules}
-use Rattle.std.proofs.Common.{subst, sym, take}
-use Rattle.std.proofs.lemmas.{Bool.false_from_ne_true}
+use Rattle.std.proofs.{Common.subst, Common.sym, Common.take, lemmas.Bool.false_from_ne_true}
 use Rattle.std.proofs.lemmas.List.{length-map, map_more, take_all}
 use Rattle.dnssec_run.{proofs.Since.same-ids, specs.Published.id_of}
 use Rattle.dnssec_run.specs.{declared.record.PublishedKey.PublishedKey, Origins.same_ids}

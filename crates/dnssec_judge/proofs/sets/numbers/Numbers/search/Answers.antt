@@ -1,6 +1,5 @@
 -- The key at the number is the same, or another, or there is none.
-use Rattle.std.proofs.Common.{arith}
-use Rattle.std.proofs.lemmas.{List.get_or_default, Option.gets}
+use Rattle.std.proofs.{Common.arith, lemmas.List.get_or_default, lemmas.Option.gets}
 use Rattle.dnssec_run.{specs.Published.id_of, proofs.Since.same-id}
 use Rattle.dnssec_judge.proofs.sets.numbers.Numbers.search.Goals as goal
 use Rattle.dnssec_judge.proofs.sets.numbers.Numbers.search.Goals.{in-Some+else-eq, in_default}

@@ -6,26 +6,26 @@ use Rattle.dnssec_judge.specs.declared.window.spans.TheConstants.{FEW}
 use Rattle.dnssec_judge.specs.{Inner.Spans.IsWithin, Bits.words_of, Sets.Numbered}
 use Rattle.dnssec_judge.{specs.declared.window.spans.Span.Span, proofs.OneByOne.More.came-pushed}
 use Rattle.dnssec_judge.proofs.window.spans.Spans.begin.Goals as goal
-use Rattle.dnssec_judge.proofs.window.spans.Spans.begin.Goals.{in-Some, in-None}
+use Rattle.dnssec_judge.proofs.window.spans.Spans.begin.Goals.{in-Some-common, in-None-common}
 
 pub invariant_of-self-then-is_enough : goal.invariant_of-self-then-is_enough
 invariant_of-self-then-is_enough c =
     let was = c.args.self.now in let items = was.list.items in
-    let set : Numbered = (words_of c.in_ok-keys.keys, words_of c.in_ok-signers.signers) in
+    let set : Numbered = (words_of c.in_ok-keys.keys, words_of c.match-last.signers) in
     let s : Span = record { from = c.args.from; set = set } in
     rw c.in_ok-push.ensures.ok (elim c.match-self.branch [
-      | in-Some w ↦ (let within : IsWithin w.deref.result.now s.set =
+      | in-Some-common w ↦ (let within : IsWithin w.deref-in-Some-common.result.now s.set =
           w.is_within-is_enough.ensures (sym w.is_enough-is ∙ c.if-is_enough.true) in record {
             newest_is = sym (came-pushed items s);
             many = λ x e. omega (arith, was.many x e, length-append items (s ∷ []));
-            in_each = λ x e. (let same : w.deref.result.now ≡ x.value = cc w.deref.ensures in
+            in_each = λ x e. (let same : w.deref-in-Some-common.result.now ≡ x.value = cc w.deref-in-Some-common.ensures in
                 All-push (λ s. IsWithin x.value s.set) items s (was.in_each x e)
                 (subst (λ (x : Numbered). IsWithin x s.set) same within));
           })
-      | in-None w ↦ record {
+      | in-None-common w ↦ record {
         newest_is = sym (came-pushed items s);
-        many = λ x e. absurd (grind (arith, w.in-None.is, e));
-        in_each = λ x e. absurd (grind (arith, w.in-None.is, e));
+        many = λ x e. absurd (grind (arith, w.in-None-common.is, e));
+        in_each = λ x e. absurd (grind (arith, w.in-None-common.is, e));
       }
     ])
 
@@ -33,7 +33,7 @@ pub invariant_of-self-2 : goal.invariant_of-self-2
 invariant_of-self-2 c =
     let common = c.in_ok-common_with.field-0 in let so = c.in_ok-common_with.ensures in
     let was = c.args.self.now.list.items in
-    let set : Numbered = (words_of c.in_ok-keys.keys, words_of c.in_ok-signers.signers) in
+    let set : Numbered = (words_of c.in_ok-keys.keys, words_of c.match-last.signers) in
     let s : Span = record { from = c.args.from; set = set } in
     rw c.in_ok-push-2.ensures.ok record {
       newest_is = sym (came-pushed was s);
