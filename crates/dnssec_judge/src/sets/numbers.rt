@@ -223,9 +223,9 @@ impl Numbers {
         None
     }
 
-    /// Gives `key` the least number that no key has. It may be the one after the greatest that is in
-    /// use. Free numbers are then sought after it (`least`). All else stays. If there is no memory,
-    /// it fails and changes nothing.
+    /// Gives `key` the least number that no key has. It may be the one after the greatest that is
+    /// in use. Free numbers are then sought after it (`least`). All else stays. If there is no
+    /// memory, it fails and changes nothing.
     fn give(&mut self, key: PublishedKey) -> Result<usize, AllocError>
         ensures ok { IfOk result (λ number. key_at self.new number ≡ Some (id_of key)) }
         ensures free { IfOk result (λ number. key_at self.old number ≡ None) }

@@ -14,11 +14,12 @@ invariant_of-self-then-is_enough c =
     let set : Numbered = (words_of c.in_ok-keys.keys, words_of c.match-last.signers) in
     let s : Span = record { from = c.args.from; set = set } in
     rw c.in_ok-push.ensures.ok (elim c.match-self.branch [
-      | in-Some-common w ↦ (let within : IsWithin w.deref-in-Some-common.result.now s.set =
+      | in-Some-common w ↦ (let found = w.deref-in-Some-common in
+          let within : IsWithin found.result.now s.set =
           w.is_within-is_enough.ensures (sym w.is_enough-is ∙ c.if-is_enough.true) in record {
             newest_is = sym (came-pushed items s);
             many = λ x e. omega (arith, was.many x e, length-append items (s ∷ []));
-            in_each = λ x e. (let same : w.deref-in-Some-common.result.now ≡ x.value = cc w.deref-in-Some-common.ensures in
+            in_each = λ x e. (let same : found.result.now ≡ x.value = cc found.ensures in
                 All-push (λ s. IsWithin x.value s.set) items s (was.in_each x e)
                 (subst (λ (x : Numbered). IsWithin x s.set) same within));
           })
