@@ -209,11 +209,12 @@ class KeygenRow:
     says: str
 
 
+# What is said of one that hangs.
+LATE = "it has not ended within 1 s"
 HOOKS = (
-    KeygenRow("hangs", "sleep 100", "it has not ended within 1 s"),
-    KeygenRow("hangs, and its child too", "sleep 100 & echo $! >pid; sleep 100",
-              "it has not ended within 1 s"),
-    KeygenRow("leaves a child", "sleep 100 & exit 1", "it has not ended within 1 s"),
+    KeygenRow("hangs", "sleep 100", LATE),
+    KeygenRow("hangs, and its child too", "sleep 100 & echo $! >pid; sleep 100", LATE),
+    KeygenRow("leaves a child", "sleep 100 & exit 1", LATE),
     KeygenRow("fails", "echo no room >&2; exit 3", "status 3: no room"),
     KeygenRow("makes nothing", "true", "it has made no key of role ksk"),
     KeygenRow("makes half a key", "echo x >Kexample.com.+013+00001.key",
@@ -227,15 +228,16 @@ HOOKS = (
 
 
 def hooks() -> Iterator[str]:
-    """Each command is really run, for at most a second: nothing that it does stops a tick, and no
-    key comes in."""
+    """Each command is really run, for at most a second if it hangs: nothing that it does stops a
+    tick, and no key comes in."""
     from vaqsider import hooks as real
 
     run = real.run
     for row in HOOKS:
         COUNTS["commands"] += 1
         world = World()
-        world.runs = lambda *given, **named: run(*given, **{**named, "seconds": 1})
+        patience = {"seconds": 1} if row.says == LATE else {}
+        world.runs = lambda *given, limit=patience, **named: run(*given, **{**named, **limit})
         with folder() as here:
             Path("program").write_text(f"#!/bin/sh\n{row.does}\n")
             Path("program").chmod(0o755)
