@@ -12,8 +12,8 @@ use Rattle.dnssec_run.{specs.Origins.same_id, proofs.Since.same-id, specs.Publis
 use Rattle.dnssec_judge.specs.Chained.{is_in}
 
 -- a test finds a key that passes, if there is one
-pub any-key : (p : Id → Bool) (P : Id → Type 0) → ((k : Id) → Decides (p k) (P k))
-    → (ids : List Id) → Decides (list_any p ids) ((k : Id) × Contains ids k × P k)
+pub any-key : {X : Type 0} (p : X → Bool) (P : X → Type 0) → ((k : X) → Decides (p k) (P k))
+    → (ids : List X) → Decides (list_any p ids) ((k : X) × Contains ids k × P k)
 any-key p P h ids = (
   λ e. (let a = Any-from_list_any p ids e in (a.1, (a.0, a.2, a.3), (h a.1).0 a.4)),
   λ t. list_any-from_Any p ids (t.1.0, t.0, t.1.1, t.1.2, (h t.0).1 t.2),
