@@ -1,18 +1,15 @@
 -- Words of bits: sets of numbers meet if and only if they share a number.
-use Rattle.std.proofs.Common.{◌≡◌, ◌+◌, ◌-◌, ◌/◌, ◌%◌, ◌<◌, ℕ, zero, suc, true, false, List, ◌∷◌}
-use Rattle.std.proofs.Common.{[], arith, refl}
-use Rattle.std.proofs.lemmas.Bool.Decides.{Decides-and, Decides-below_or, Decides-like, Decides-not}
-use Rattle.std.proofs.lemmas.Bool.Decides.{nat_tests, same_from_decides}
-use Rattle.std.proofs.lemmas.List.{get_or_past}
-use Rattle.std.{proofs.lemmas.Bool.true_from_ne_false, specs.Bool.Decides}
-use Rattle.std.proofs.lemmas.Nat.Bits.{bit_at-lt, bit_at-zero, bit_at_and, bit_at_or}
-use Rattle.std.proofs.lemmas.Nat.Bits.{bit_at-trailing_zeros}
-use Rattle.std.proofs.lemmas.Nat.Bits.{bit_at_clear_other, bit_at_clear_same, bit_at_set_other}
-use Rattle.std.{proofs.lemmas.Nat.Bits.bit_at_set_same, specs.Prelude.◌^◌, specs.Int.bit_at}
-use Rattle.std.specs.Prelude.{Bool, ◌*◌, ◌||◌, if◌then◌else◌, get_or, nat_eq}
-use Rattle.std.specs.Int.{w64, trailing_zeros, bit_not, Bits.bit_and, Bits.bit_or}
-use Rattle.dnssec_judge.specs.Bits.{HasSome, Share, ShareAll, all_at, any_below, common_at}
-use Rattle.dnssec_judge.specs.Bits.{end_of, has_bit, has_none, in_word, meet, meet_three, word_at}
+use Rattle.dnssec_judge.specs.Bits.{HasSome, Share, ShareAll, all_at, any_below, common_at, end_of}
+use Rattle.dnssec_judge.specs.Bits.{has_bit, has_none, in_word, meet, meet_three, word_at}
+use Rattle.std.proofs.Common.{Bool, Decides, List, [], arith, false, get_or, if◌then◌else◌, nat_eq}
+use Rattle.std.proofs.Common.{refl, suc, true, zero, ℕ, ◌%◌, ◌*◌, ◌+◌, ◌-◌, ◌/◌, ◌<◌, ◌^◌, ◌||◌}
+use Rattle.std.proofs.{Common.{◌∷◌, ◌≡◌}, lemmas.Bool.Decides.{Decides-and, Decides-below_or}}
+use Rattle.std.proofs.lemmas.Bool.Decides.{Decides-like, Decides-not, nat_tests, same_from_decides}
+use Rattle.std.proofs.lemmas.{Bool.true_from_ne_false, List.get_or_past}
+use Rattle.std.proofs.lemmas.Nat.Bits.{bit_at-lt, bit_at-trailing_zeros, bit_at-zero, bit_at_and}
+use Rattle.std.proofs.lemmas.Nat.Bits.{bit_at_clear_other, bit_at_clear_same, bit_at_or}
+use Rattle.std.proofs.lemmas.Nat.Bits.{bit_at_set_other, bit_at_set_same}
+use Rattle.std.specs.Int.{Bits.{bit_and, bit_or}, bit_at, bit_not, trailing_zeros, w64}
 
 -- a word is the first, or one of the others
 pub word-of : (first : ℕ) (rest : List ℕ) (i : ℕ)
@@ -31,23 +28,20 @@ no-bit n = grind (arith, nat_tests, bit_at-zero, word-of 0 [] (n / 64))
 pub meet-three-decides : (words ones others : List ℕ)
     → Decides (meet_three words ones others) (ShareAll words ones others)
 unfolding any_below
-meet-three-decides words ones others =
-    Decides-like _ (λ t. (t.0, t.2.0, t.2.1.0, t.2.1.1))
+meet-three-decides words ones others = Decides-like _ (λ t. (t.0, t.2.0, t.2.1.0, t.2.1.1))
     (λ t. (t.0, bit-within words t.0 t.1, (t.1, (t.2, t.3))))
     (Decides-below_or _ _ (any_below _) (λ n. Decides-and _ _ (λ e. e, λ e. e)
     (Decides-and _ _ (λ e. e, λ e. e) (λ e. e, λ e. e))) refl (λ n. refl) (end_of words))
 
 -- or two
 pub meet-decides : (words others : List ℕ) → Decides (meet words others) (Share words others)
-meet-decides words others =
-    Decides-like _ (λ t. (t.0, t.1, t.2)) (λ t. (t.0, t.1, t.2, t.2))
+meet-decides words others = Decides-like _ (λ t. (t.0, t.1, t.2)) (λ t. (t.0, t.1, t.2, t.2))
     (meet-three-decides words others others)
 
 -- or there are no numbers
 pub none-decides : (words : List ℕ)
     → Decides (has_none words) ((n : ℕ) → has_bit words n ≡ true → ⊥)
-none-decides words =
-    Decides-like _ (λ f n b. f (n, b, b)) (λ f t. f t.0 t.1)
+none-decides words = Decides-like _ (λ f n b. f (n, b, b)) (λ f t. f t.0 t.1)
     (Decides-not _ (meet-decides words words))
 
 -- ---- words in the code
@@ -61,8 +55,7 @@ all-shared words ones others i some =
     let word = all_at words ones others i in let k = trailing_zeros w64 word in
     let low = bit_at-trailing_zeros w64 word some.0 some.1 in
     let at : (64 * i + k) / 64 ≡ i = omega (arith, low.0) in
-    let bit : (64 * i + k) % 64 ≡ k = omega (arith, low.0) in
-    let set = low.1 in (
+    let bit : (64 * i + k) % 64 ≡ k = omega (arith, low.0) in let set = low.1 in (
       64 * i + k,
       grind (bits, at, bit, set),
       grind (bits, at, bit, set),
@@ -72,8 +65,7 @@ all-shared words ones others i some =
 -- words that have none in common share no number
 all-apart : (words ones others : List ℕ) → ((i : ℕ) → all_at words ones others i ≡ 0)
     → ShareAll words ones others → ⊥
-all-apart words ones others none t =
-    let i = t.0 / 64 in let k = t.0 % 64 in
+all-apart words ones others none t = let i = t.0 / 64 in let k = t.0 % 64 in
     let three = bit_at_and (common_at words ones i) (word_at others i) k in
     let two = bit_at_and (word_at words i) (word_at ones i) k in
     grind (bits, none i, three, two, t.1, t.2, t.3)
@@ -93,15 +85,13 @@ module _ (word bit n : ℕ) (lt : bit < 64) where
   -- a bit is set, and the others stay
   pub bit-set : nat_eq (bit_at (bit_or word (1 * 2 ^ bit % 2 ^ 64)) (n % 64)) 1
       ≡ (if nat_eq bit (n % 64) then true else nat_eq (bit_at word (n % 64)) 1)
-  bit-set =
-      let other = bit_at_set_other w64 word bit lt (n % 64) in
+  bit-set = let other = bit_at_set_other w64 word bit lt (n % 64) in
       grind (arith, nat_tests, bit_at_set_same w64 word bit lt, other)
 
   -- or it is cleared
   pub bit-cleared : nat_eq (bit_at (bit_and word (bit_not w64 (1 * 2 ^ bit % 2 ^ 64))) (n % 64)) 1
       ≡ (if nat_eq bit (n % 64) then false else nat_eq (bit_at word (n % 64)) 1)
-  bit-cleared =
-      let other = bit_at_clear_other w64 word bit lt (n % 64) (omega arith) in
+  bit-cleared = let other = bit_at_clear_other w64 word bit lt (n % 64) (omega arith) in
       grind (arith, nat_tests, bit_at_clear_same w64 word bit lt, other)
 
 -- one word has no numbers if it is 0

@@ -13,7 +13,7 @@ ghost use Rattle.dnssec_run.specs.declared.record.Entry.{Entry};
 
 use crate::courses::{Courses, Turn};
 use dnssec_base::Name;
-use dnssec_judge::{Broken, Judge};
+use dnssec_judge::{Broken, RunJudge};
 use dnssec_keyset::{Action, Error, KeySet, UnixTime};
 use dnssec_run::{Call, Published, PublishedKey, Recorder, Reply};
 use dnssec_script::Statement;
@@ -28,7 +28,7 @@ const FITTED_KEYS: usize = 4;
 #[derive(Drop)]
 pub(crate) struct ZoneState {
     pub(crate) recorder: Recorder,
-    pub(crate) judge: Judge,
+    pub(crate) judge: RunJudge,
     pub(crate) courses: Courses,
 }
 
@@ -46,7 +46,7 @@ impl ZoneState {
     pub(crate) fn new(alloc: Global, name: Name<Vec<u8>>) -> Result<Self, AllocError>
         ensures { IfOk result (λ zone. IsZoneAfter name [] [] zone) }
     {
-        let Ok(judge) = Judge::new(alloc) else {
+        let Ok(judge) = RunJudge::new(alloc) else {
             return Err(AllocError);
         };
         let recorder = Recorder::new(alloc, name);
@@ -134,8 +134,8 @@ impl ZoneState {
         Ok(made)
     }
 
-    /// Makes `call` on the key set, hands what is then published to the judge, and answers the
-    /// reply with the moment of the call. A refused call only counts in the record. Only `recorder`
+    /// Makes `call` on the key set, tells the judge what it changes, and answers the reply with the
+    /// moment of the call. A refused call only counts in the record. Only `recorder`
     /// and `judge` change. If there is no memory to note the call, it fails, and this state is of
     /// no more use.
     fn advance(&mut self, alloc: Global, call: Call<'_>) -> Result<TimedReply, AllocError>
@@ -148,15 +148,10 @@ impl ZoneState {
         let Ok(outcome) = self.recorder.advance(alloc, call) else {
             return Err(AllocError);
         };
-        let recorder = &self.recorder;
-        let news = recorder.news(&outcome);
-        let noted = self.judge.note_changes(
-            alloc,
-            outcome.mark,
-            outcome.moment,
-            news,
-            &recorder.frames,
-        );
+        let changes = self.recorder.changes();
+        let noted = self
+            .judge
+            .note(alloc, outcome.mark, outcome.moment, changes);
         let Ok(()) = noted else {
             return Err(AllocError);
         };
@@ -227,12 +222,15 @@ impl ZoneState {
     /// Appends to `text` the two lines that end the answers: the sets that are published after the
     /// last call, and the verdict on all calls so far. If memory runs out, it fails, and `text` may
     /// end in a part of this.
-    pub(crate) fn push_closing(&self, text: &mut String) -> Result<(), AllocError>
+    pub(crate) fn push_closing(&self, alloc: Global, text: &mut String) -> Result<(), AllocError>
         ensures { OnOk result ((name : List ℕ) (calls : List Call) (entries : List Entry) →
             Follows name calls entries self.now → (closing : List ℕ)
             × Closes entries closing × (string_bytes text.new ≡ string_bytes text.old ++ closing)) }
     {
-        push_published(text, self.recorder.published())?;
+        let Ok(published) = self.recorder.published(alloc) else {
+            return Err(AllocError);
+        };
+        push_published(text, &published)?;
         push_chain_line(text, self.judge.verdict())?;
         Ok(())
     }

@@ -10,10 +10,9 @@
 -- | `Recorder::new`           | `agrees-new`, `published-new` | Next                         |
 -- | `Adds::put`, `make_tree`  | `puts`, `one-over`            | OneKey, Trees                |
 -- | `Recorder::advance`, `ok` | `records-more`                | Next; the key set's After    |
--- | `renew`, `read`           | `reads-all`                   | Positions                    |
+-- | `read_few`, `read_many`   | `read-found`, `all-moved`     | Moves                        |
 -- | `Recorder::advance`, `ok` | `leaves`                      | Asked                        |
--- | `renew_key`, `read`       | `renewed`                     | OneKey                       |
--- | `KeepsFrames`             | `keeps-with`, `kept-more`     | Around                       |
+-- | `set_in`, `set_in_tree`   | `set-found`, `sets-some`      | OneKey                       |
 -- | `starts_suffice`          | `starts-suffice`              | Starts                       |
 -- | `whole_runs_stay_safe`    | `chain-holds`, `each-holds`   | Chain                        |
 -- | the premise of plain lists| `plain-by-sets`               | Premise                      |
@@ -24,7 +23,7 @@
 pub mod Since
 pub mod Positions
 pub mod Trees
-pub mod Around
+pub mod Moves
 pub mod OneKey
 pub mod Next
 pub mod Grow
@@ -37,6 +36,11 @@ pub mod EarlyEnds
 pub mod Premise
 pub mod Starts
 pub mod Recorded
+pub mod Listed
+pub mod Moved
+pub mod Told
+pub mod Apart
+pub mod Advance
 pub mod Latest
 pub mod Lent
 pub mod InOrder

@@ -2,8 +2,9 @@ pub mod Adds
 pub mod Asked
 pub mod ByAlgorithm
 pub mod ByKind
+pub mod Changes
 pub mod EarlyEnds
-pub mod Frames
+pub mod Lists
 pub mod Moments
 pub mod Origins
 pub mod Plain

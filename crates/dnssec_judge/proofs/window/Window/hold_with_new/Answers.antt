@@ -1,13 +1,11 @@
 -- A span that came before the position: so did those before it.
-use Rattle.std.proofs.Common.{◌∙◌, ◌≡◌, arith, suc, sym, ap, take}
-use Rattle.dnssec_judge.specs.{Sets.holds, Inner.Spans.all_in, Inner.Spans.new_hold}
-use Rattle.dnssec_judge.specs.Inner.Window.{spans_of}
 use Rattle.dnssec_judge.proofs.OneByOne.Pairs.{passed-all, passed-before}
+use Rattle.dnssec_judge.specs.{Inner.{Spans.{all_in, new_hold}, Window.spans_of}, Sets.holds}
+use Rattle.std.proofs.Common.{ap, arith, suc, sym, take, ◌∙◌, ◌≡◌}
 use Rattle.dnssec_judge.proofs.window.Window.hold_with_new.Goals as goal
 
 pub returns-then-other-tested : goal.returns-then-other-tested
-returns-then-other-tested c at n tiles =
-    let other = c.args.other.now.spans in
+returns-then-other-tested c at n tiles = let other = c.args.other.now.spans in
     sym (passed-all at n c.args.tested
     (λ p. all_in (spans_of c.args.self.now) (holds c.args.link c.args.is_above p.set))
     other.list.items tiles (rw other.newest_is at c.if-other-tested.true))

@@ -2,7 +2,7 @@
 use Rattle.std.proofs.Common.{◌≡◌, take}
 use Rattle.std.specs.{Prelude.◌||◌, List.list_any}
 use Rattle.dnssec_run.specs.Asked.{kind_shown, updates}
-use Rattle.dnssec_run.specs.Recorder.{at_list}
+use Rattle.dnssec_run.specs.Lists.{at_list}
 use Rattle.dnssec_run.specs.declared.lists.Shown.{Shown}
 use Rattle.dnssec_run.proofs.record.Reply.touched.Given as goal
 

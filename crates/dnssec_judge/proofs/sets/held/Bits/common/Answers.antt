@@ -11,6 +11,5 @@ returns c n =
     grind (arith, nat_tests, word-of, rest, bit_at-lt, bit_at_and, get_or_past, made, past)
 
 pub returns-then-is_none : goal.returns-then-is_none
-returns-then-is_none c n =
-    let none = c.is_none.ensures in let is = c.if-is_none.true in
+returns-then-is_none c n = let none = c.is_none.ensures in let is = c.if-is_none.true in
     grind (arith, nat_tests, word-of, bit_at-lt, bit_at_and, get_or_past, none, is)

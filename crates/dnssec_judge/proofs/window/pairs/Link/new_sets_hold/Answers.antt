@@ -1,8 +1,6 @@
 -- The new sets of each window fit all of the other.
-use Rattle.std.proofs.Common.{◌∙◌, ap, false, sym}
-use Rattle.std.specs.Prelude.{◌&&◌}
-use Rattle.dnssec_judge.specs.{Sets.holds, Inner.Spans.new_hold, Inner.Window.spans_of}
-use Rattle.dnssec_judge.proofs.OneByOne.Pairs.{pairs}
+use Rattle.dnssec_judge.{proofs.OneByOne.Pairs.pairs, specs.Inner.{Spans.new_hold, Window.spans_of}}
+use Rattle.{dnssec_judge.specs.Sets.holds, std.proofs.Common.{ap, false, sym, ◌&&◌, ◌∙◌}}
 use Rattle.dnssec_judge.proofs.window.pairs.Link.new_sets_hold.Goals as goal
 
 pub returns-then-hold_with_new : goal.returns-then-hold_with_new
@@ -13,8 +11,7 @@ returns-then-hold_with_new c at to n above below tested =
     ∙ pairs _ _ _ _ tested
 
 pub returns-else-hold_with_new : goal.returns-else-hold_with_new
-returns-else-hold_with_new c at to n above below tested =
-    c.if-hold_with_new.false
+returns-else-hold_with_new c at to n above below tested = c.if-hold_with_new.false
     ∙ ap (λ b. b && new_hold c.args.tested (holds c.args.self false) (spans_of c.args.below.now)
     (spans_of c.args.above.now)) (sym c.if-hold_with_new.false ∙ c.hold_with_new.ensures at n above)
     ∙ pairs _ _ _ _ tested

@@ -1,11 +1,10 @@
 -- One report more that isn't over takes the place after those that are kept.
-use Rattle.std.proofs.Common.{◌≡◌, ◌+◌, ◌<◌, ◌++◌, ◌∷◌, [], ℕ, ap, arith, drop, get_or, length, set}
-use Rattle.std.proofs.Common.{rules, sym, take, tests, ◌∙◌}
-use Rattle.std.proofs.lemmas.Bool.Decides.{nat_tests}
-use Rattle.std.proofs.lemmas.List.{drop_more, drop-set-lt, length-set, take_more_set}
-use Rattle.std.specs.{Prelude.min, Ordering.ord_min}
 use Rattle.dnssec_base.specs.contracts.time.UnixTimeOrd.TheImpl.{cmp-value}
 use Rattle.dnssec_judge.proofs.OneByOne.Windows.{over_more}
+use Rattle.std.proofs.Common.{[], ap, arith, drop, drop-set-lt, get_or, length, length-set, min}
+use Rattle.std.proofs.Common.{rules, set, sym, take, tests, ℕ, ◌++◌, ◌+◌, ◌<◌, ◌∙◌, ◌∷◌, ◌≡◌}
+use Rattle.std.proofs.lemmas.{Bool.Decides.nat_tests, List.{drop_more, take_more_set}}
+use Rattle.std.specs.Ordering.{ord_min}
 use Rattle.dnssec_judge.proofs.window.reports.Dues.retire.Goals as goal
 
 earlier : (r t u : ℕ) → r ≡ ord_min cmp-value.it t u → r ≡ min t u
@@ -24,8 +23,7 @@ loop-place-preserved c =
     let first = earlier c.min-next.result l.next due.over c.min-next.ensures in
     let same : get_or items l.place due ≡ due = sym c.index.ensures in
     let here : drop l.place items ≡ due ∷ drop (l.place + 1) items =
-    drop_more items l.place due within ∙ ap (λ d. d ∷ drop (l.place + 1) items) same in
-    record {
+    drop_more items l.place due within ∙ ap (λ d. d ∷ drop (l.place + 1) items) same in record {
       none = was.none;
       within = omega (arith, was.within);
       len = length-set items l.kept due ∙ was.len;

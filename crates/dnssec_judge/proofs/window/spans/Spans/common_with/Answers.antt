@@ -5,14 +5,12 @@ use Rattle.dnssec_judge.{specs.Inner.Spans.IsWithin, proofs.OneByOne.Windows.com
 use Rattle.dnssec_judge.proofs.window.spans.Spans.common_with.Goals as goal
 
 pub returns-in-Some-clause-each : goal.returns-in-Some-clause-each
-returns-in-Some-clause-each c =
-    let so = c.in_ok-common.ensures in let was = c.args.self.now in
+returns-in-Some-clause-each c = let so = c.in_ok-common.ensures in let was = c.args.self.now in
     (common_more c.in_ok-common.common c.deref.result.now c.args.set.now was.list.items so.keys
     so.signers (rw c.deref.ensures (was.in_each c.in-Some.common c.in-Some.is))).1
 
 pub loop-place-preserved : goal.loop-place-preserved
-loop-place-preserved c =
-    let place = c.loop-place.place in let s = c.index.result.now in
+loop-place-preserved c = let place = c.loop-place.place in let s = c.index.result.now in
     let so = c.in_ok-common-3.ensures in let common = c.in_ok-common-3.common in
     let was = c.loop-place.invariant in let spans = take place c.args.self.now.list.items in
     let new = common_more common c.loop-place.common s.set spans so.keys so.signers was.each in
@@ -27,8 +25,7 @@ loop-place-preserved c =
     }
 
 pub returns-clause-each : goal.returns-clause-each
-returns-clause-each c =
-    let spans = c.args.self.now.list.items in
+returns-clause-each c = let spans = c.args.self.now.list.items in
     let past : length spans ≤ c.loop-place.place =
     omega (arith, c.loop-place-test.false, c.len-place-end.ensures) in
     rw (take_all c.loop-place.place spans past) at c.loop-place.invariant.each

@@ -1,0 +1,9 @@
+-- One of the sets has the add of each key so far.
+use Rattle.dnssec_run.specs.{Changes.has_added, Published.id_of}
+use Rattle.std.{proofs.Common.{drop, map, nat_cmp, true, ℕ, ◌||◌, ◌≡◌}, specs.BTreeSet.contains}
+use Rattle.dnssec_judge.proofs.reading.have.Given as goal
+
+abbrev pub invariant-loop-key : goal.invariant-loop-key
+invariant-loop-key l = (a : ℕ) → has_added (map id_of l.keys) a ≡ true →
+    ((contains nat_cmp l.one a || contains nat_cmp l.other a)
+    || has_added (map id_of (drop l.key-index l.keys)) a) ≡ true

@@ -1,0 +1,10 @@
+-- The adds so far are in the set.
+use Rattle.{dnssec_run.specs.declared.lists.Change.Change, std.proofs.Common.{drop, nat_cmp, ℕ}}
+use Rattle.std.{proofs.Common.{◌==◌, ◌||◌, ◌≡◌}, specs.{BTreeSet.contains, List.list_any}}
+use Rattle.dnssec_judge.proofs.reading.told_by.Given as goal
+
+abbrev pub invariant-loop-change : goal.invariant-loop-change
+invariant-loop-change l = (a : ℕ) →
+    (contains nat_cmp l.set a
+    || list_any (λ (c : Change). c.added == a) (drop l.change-index l.changes))
+    ≡ list_any (λ (c : Change). c.added == a) l.changes
