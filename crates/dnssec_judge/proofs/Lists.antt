@@ -1,19 +1,15 @@
 -- What tests find: a key in a list, and a step of a roll.
-use Rattle.std.proofs.Common.{◌≡◌, Bool, List, refl, subst}
-use Rattle.dnssec_key.specs.declared.roll.RollType.{RollType}
+use Rattle.dnssec_judge.proofs.Base.{◌≡◌, Bool, Contains, Decides, Decides-like, Id, List, Mark}
+use Rattle.dnssec_judge.proofs.Base.{Other, Report, RollType, is_in, is_step, list_any}
+use Rattle.dnssec_judge.proofs.Base.{list_any-from_Any, refl, same-id, same_id, subst}
+use Rattle.dnssec_run.specs.contracts.record.MarkPartialEq.TheImpl.{eq-value}
+use Rattle.dnssec_run.specs.declared.record.Mark.TheVariants.{Step}
 use Rattle.dnssec_zone.proofs.Phases.{same_roll-eq}
-use Rattle.dnssec_run.specs.declared.record.{Mark.Mark, Mark.TheVariants.Other}
-use Rattle.dnssec_run.specs.declared.record.Mark.TheVariants.{Step, Report}
-use Rattle.dnssec_run.specs.{contracts.record.MarkPartialEq.TheImpl.eq-value, Safe.is_step}
-use Rattle.std.proofs.lemmas.List.Folds.{Any-from_list_any, list_any-from_Any}
-use Rattle.std.{proofs.lemmas.Bool.Decides.Decides-like, specs.Bool.Decides}
-use Rattle.std.specs.{List.Contains, List.list_any}
-use Rattle.dnssec_run.{specs.Origins.same_id, proofs.Since.same-id, specs.Published.Id}
-use Rattle.dnssec_judge.specs.Chained.{is_in}
+use Rattle.std.proofs.lemmas.List.Folds.{Any-from_list_any}
 
 -- a test finds a key that passes, if there is one
-pub any-key : (p : Id → Bool) (P : Id → Type 0) → ((k : Id) → Decides (p k) (P k))
-    → (ids : List Id) → Decides (list_any p ids) ((k : Id) × Contains ids k × P k)
+pub any-key : {X : Type 0} (p : X → Bool) (P : X → Type 0) → ((k : X) → Decides (p k) (P k))
+    → (ids : List X) → Decides (list_any p ids) ((k : X) × Contains ids k × P k)
 any-key p P h ids = (
   λ e. (let a = Any-from_list_any p ids e in (a.1, (a.0, a.2, a.3), (h a.1).0 a.4)),
   λ t. list_any-from_Any p ids (t.1.0, t.0, t.1.1, t.1.2, (h t.0).1 t.2),

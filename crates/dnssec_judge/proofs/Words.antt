@@ -1,18 +1,16 @@
 -- Words of bits: sets of numbers meet if and only if they share a number.
-use Rattle.std.proofs.Common.{◌≡◌, ◌+◌, ◌-◌, ◌/◌, ◌%◌, ◌<◌, ℕ, zero, suc, true, false, List, ◌∷◌}
-use Rattle.std.proofs.Common.{[], arith, refl}
-use Rattle.std.proofs.lemmas.Bool.Decides.{Decides-and, Decides-below_or, Decides-like, Decides-not}
-use Rattle.std.proofs.lemmas.Bool.Decides.{nat_tests, same_from_decides}
-use Rattle.std.proofs.lemmas.List.{get_or_past}
-use Rattle.std.{proofs.lemmas.Bool.true_from_ne_false, specs.Bool.Decides}
-use Rattle.std.proofs.lemmas.Nat.Bits.{bit_at-lt, bit_at-zero, bit_at_and, bit_at_or}
-use Rattle.std.proofs.lemmas.Nat.Bits.{bit_at-trailing_zeros}
-use Rattle.std.proofs.lemmas.Nat.Bits.{bit_at_clear_other, bit_at_clear_same, bit_at_set_other}
-use Rattle.std.{proofs.lemmas.Nat.Bits.bit_at_set_same, specs.Prelude.◌^◌, specs.Int.bit_at}
-use Rattle.std.specs.Prelude.{Bool, ◌*◌, ◌||◌, if◌then◌else◌, get_or, nat_eq}
-use Rattle.std.specs.Int.{w64, trailing_zeros, bit_not, Bits.bit_and, Bits.bit_or}
-use Rattle.dnssec_judge.specs.Bits.{HasSome, Share, ShareAll, all_at, any_below, common_at}
-use Rattle.dnssec_judge.specs.Bits.{end_of, has_bit, has_none, in_word, meet, meet_three, word_at}
+use Rattle.std.proofs.Common.{◌%◌, ◌*◌, ◌+◌, ◌-◌, ◌/◌, ◌<◌, ◌^◌, ◌∷◌, ◌≡◌, Bool, List, [], arith}
+use Rattle.std.proofs.Common.{false, get_or, refl, suc, true, zero, ℕ}
+use Rattle.dnssec_judge.proofs.Base.{◌||◌, Decides, Decides-and, Decides-like, all_at, bit_and}
+use Rattle.dnssec_judge.proofs.Base.{bit_at, bit_at-lt, bit_at-zero, bit_at_and, common_at}
+use Rattle.dnssec_judge.proofs.Base.{get_or_past, has_bit, has_none, if◌then◌else◌, in_word, meet}
+use Rattle.dnssec_judge.proofs.Base.{meet_three, nat_eq, nat_tests, same_from_decides}
+use Rattle.dnssec_judge.specs.Bits.{HasSome, Share, ShareAll, any_below, end_of, word_at}
+use Rattle.std.proofs.lemmas.Nat.Bits.{bit_at-trailing_zeros, bit_at_clear_other, bit_at_clear_same}
+use Rattle.std.proofs.lemmas.Nat.Bits.{bit_at_or, bit_at_set_other, bit_at_set_same}
+use Rattle.std.{proofs.lemmas.Bool.Decides.Decides-below_or, proofs.lemmas.Bool.Decides.Decides-not}
+use Rattle.std.{proofs.lemmas.Bool.true_from_ne_false, specs.Int.Bits.bit_or, specs.Int.bit_not}
+use Rattle.std.{specs.Int.trailing_zeros, specs.Int.w64}
 
 -- a word is the first, or one of the others
 pub word-of : (first : ℕ) (rest : List ℕ) (i : ℕ)

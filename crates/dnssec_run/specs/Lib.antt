@@ -2,6 +2,7 @@ pub mod Adds
 pub mod Asked
 pub mod ByAlgorithm
 pub mod ByKind
+pub mod Changes
 pub mod EarlyEnds
 pub mod Frames
 pub mod Moments

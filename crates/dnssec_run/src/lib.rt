@@ -21,7 +21,7 @@ mod walk_order;
 pub use caches::{ByKind, SetKind, retires};
 pub use call::Call;
 pub use in_order::keys_in_order;
-pub use lists::Shown;
+pub use lists::{ByList, Change, Shown};
 pub use moments::Moments;
 pub use plain::{each_chain_is_one, starts_suffice, whole_runs_stay_safe};
 pub use record::{

@@ -10,17 +10,28 @@ pub enum Shown {
 }
 
 /// One yes or no for each of the four published lists.
-#[derive(Clone, Copy, Drop)]
-pub(crate) struct ByList {
-    pub(crate) ds: bool,
-    pub(crate) dnskey: bool,
-    pub(crate) dnskey_signers: bool,
-    pub(crate) zone_signers: bool,
+#[derive(Clone, Copy, Debug, Drop, PartialEq, Eq)]
+pub struct ByList {
+    pub ds: bool,
+    pub dnskey: bool,
+    pub dnskey_signers: bool,
+    pub zone_signers: bool,
+}
+
+/// A key that has come into published lists, or has left some.
+#[derive(Clone, Copy, Debug, Drop, PartialEq, Eq)]
+pub struct Change {
+    /// The position of its add, counted from 1.
+    pub added: usize,
+    /// Which lists had it before.
+    pub was: ByList,
+    /// Which lists have it now.
+    pub shown: ByList,
 }
 
 impl ByList {
     /// No list.
-    pub(crate) const NONE: ByList = ByList {
+    pub const NONE: ByList = ByList {
         ds: false,
         dnskey: false,
         dnskey_signers: false,
@@ -28,7 +39,7 @@ impl ByList {
     };
 
     /// All lists.
-    pub(crate) const ALL: ByList = ByList {
+    pub const ALL: ByList = ByList {
         ds: true,
         dnskey: true,
         dnskey_signers: true,

@@ -25,6 +25,12 @@ came [] = 0
 came (s ∷ []) = s.from
 came (s ∷ t ∷ ss) = came (t ∷ ss)
 
+-- and its set
+abbrev pub latest : List Span → Numbered
+latest [] = (0 ∷ [], 0 ∷ [])
+latest (s ∷ []) = s.set
+latest (s ∷ t ∷ ss) = latest (t ∷ ss)
+
 -- the span before the first call: nothing is published
 abbrev pub first_span : Span
 first_span = record { from = 0; set = (0 ∷ [], 0 ∷ []) }

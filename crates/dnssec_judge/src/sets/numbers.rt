@@ -1,33 +1,32 @@
 //! The keys of a record as small numbers.
-ghost use Rattle.std.specs.Prelude.{◌↔◌, ◌≡◌, ◌≤◌, ◌<◌, ℕ, false, true, None, Some, [], IfOk};
-ghost use Rattle.std.specs.Prelude.{length, map, nat_eq, if◌then◌else◌, vec_len, IfSome, OnOk};
-ghost use Rattle.std.specs.List.{insert, list_any, remove};
+ghost use Rattle.std.specs.Prelude.{◌↔◌, ◌≡◌, ℕ, true, false, None, Some, IfOk};
+ghost use Rattle.std.specs.Prelude.{map, IfSome, OnOk};
 ghost use Rattle.dnssec_run.specs.Published.{id_of};
-ghost use Rattle.dnssec_judge.specs.Bits.{has};
-ghost use Rattle.dnssec_judge.specs.Numbers.{Extends, IsRead, IsTable, StandFor, key_at};
+ghost use Rattle.dnssec_judge.specs.{Bits.words_of, Inner.Windows.is_in_use};
+ghost use Rattle.dnssec_judge.specs.Numbers.{ByTable, Extends, Grows, IsTable, Means, MeansSet};
+ghost use Rattle.dnssec_judge.specs.Numbers.{key_at};
 
-use super::held::{Bits, share};
-use dnssec_run::{Frame, PublishedKey};
+use super::held::{Bits, Draft, OpenSet, WORD, is_in_word};
+use crate::windows::Windows;
+use dnssec_run::PublishedKey;
 use std::alloc::{AllocError, Global};
 use std::collections::BTreeMap;
-use std::mem;
-use std::sync::ArcSlice;
 
-/// A table has room for this many keys before numbers are given back. So few are looked at in turn.
-const FEW: usize = 8;
+/// A table has room for at least this many keys before numbers are given back.
+const LEAST_ROOM: usize = 8;
 
 /// A key of a record has the number of the place at which it stands here. Numbers of keys that have
 /// left are given to other keys, the least first.
 ///
 /// When its room is used up, the next entry first looks for keys that are in no set any more, and
 /// gives their numbers back with their references. The room is then for 8 keys, for twice as many
-/// as are in sets, or up to the last of those, whichever is most. So it follows what is in sets,
-/// not how many keys there were, and only an entry that itself brings many keys exceeds it.
-/// A look reads a word of each set for 64 numbers. At least half of the room is free after it.
+/// as are in sets, or for as many as ever had numbers at once, whichever is most. So it doesn't
+/// grow with the record, and only an entry that itself brings many keys exceeds it. A look reads a
+/// word of each set for 64 numbers.
 #[derive(Debug, Drop)]
 pub(crate) struct Numbers {
     keys: Vec<Option<PublishedKey>>,
-    /// By the position of its add, the number of a key from `FEW` on. Lesser ones are looked at.
+    /// By the position of its add, the number of a key, unless another was added there too.
     by_added: BTreeMap<usize, usize>,
     /// Each number below this one is some key's.
     least: usize,
@@ -45,7 +44,7 @@ impl Numbers {
             keys: Vec::new(alloc),
             by_added: BTreeMap::new(alloc),
             least: 0,
-            left: FEW,
+            left: LEAST_ROOM,
         }
     }
 
@@ -74,86 +73,38 @@ impl Numbers {
         })
     }
 
-    /// Brings `known`, a list of keys by their numbers, up to `list`, and answers whether that is
-    /// another list than before. `frame` has to say truly how many keys at the front and at the
-    /// back stay. A key without a number gets one. After an error neither table nor list is of use.
-    // Inline, so that a list that stays makes no call.
-    #[inline(always)]
-    pub(crate) fn read(
+    /// The set of these keys and signers, by their numbers. A key without a number gets one. After
+    /// an error the table is of no more use.
+    pub(crate) fn set_of(
         &mut self,
         alloc: Global,
-        list: &[PublishedKey],
-        known: &mut NumberList,
-        frame: Frame,
-    ) -> Result<bool, AllocError>
-        ensures { IfOk result (IsRead self.old self.new known.old.numbers.items
-            known.new.numbers.items frame (map id_of list.now)) }
+        keys: &[PublishedKey],
+        signers: &[PublishedKey],
+    ) -> Result<OpenSet, AllocError>
+        ensures { IfOk result (λ set. IsTable self.old → IsTable self.new
+            × Grows (key_at self.old) (key_at self.new)
+            × MeansSet (ByTable (key_at self.new)) set
+            (map id_of keys.now, map id_of signers.now)) }
     {
-        if frame.front == list.len() && known.numbers.len() == list.len() {
-            return Ok(false);
-        }
-        self.read_change(alloc, list, known, frame)
+        let keys = self.bits_of(alloc, keys)?;
+        let signers = self.bits_of(alloc, signers)?;
+        Ok(OpenSet { keys, signers })
     }
 
-    /// Does what `read` has to do if the frame doesn't say that all keys stay.
-    #[inline(never)]
-    fn read_change(
-        &mut self,
-        alloc: Global,
-        list: &[PublishedKey],
-        known: &mut NumberList,
-        frame: Frame,
-    ) -> Result<bool, AllocError>
-        ensures { IfOk result (IsRead self.old self.new known.old.numbers.items
-            known.new.numbers.items frame (map id_of list.now)) }
+    /// The numbers of the keys of `list`, as `set_of` gives them.
+    fn bits_of(&mut self, alloc: Global, list: &[PublishedKey]) -> Result<Bits, AllocError>
+        ensures { IfOk result (λ bits. IsTable self.old → IsTable self.new
+            × Grows (key_at self.old) (key_at self.new)
+            × Means (ByTable (key_at self.new)) (words_of bits) (map id_of list.now)) }
     {
-        let len = list.len();
-        let old_len = known.numbers.len();
-        let around = frame.front.saturating_add(frame.back);
-        if old_len == len + 1 && around == len {
-            known.remove(alloc, frame.front)?;
-            return Ok(true);
-        }
-        if len == old_len + 1 && around == old_len {
-            let number = self.number_of(&list[frame.front])?;
-            known.insert(alloc, frame.front, number)?;
-            return Ok(true);
-        }
-        if old_len == len && self.are(&known.numbers, list) {
-            return Ok(false);
-        }
-        // Its room is used again.
-        let old = mem::replace(known, NumberList::none(alloc));
-        let mut numbers = old.numbers;
-        numbers.clear();
+        let none = Bits::NONE;
+        let mut draft = Draft::of(&none);
         for key in list {
             let number = self.number_of(key)?;
-            numbers.push(number)?;
+            draft.put(alloc, &none, number, true)?;
         }
-        *known = NumberList {
-            bits: Bits::of(alloc, &numbers)?,
-            numbers,
-            before: old.bits.rest,
-        };
-        Ok(true)
-    }
-
-    /// Whether `numbers` are those of the keys of `list`, in the same order.
-    fn are(&self, numbers: &[usize], list: &[PublishedKey]) -> bool
-        ensures yes { result ≡ true → StandFor self.now numbers.now (map id_of list.now) }
-        ensures no { result ≡ false → StandFor self.now numbers.now (map id_of list.now) → ⊥ }
-    {
-        let mut rest = numbers;
-        for key in list {
-            let Some((number, others)) = rest.split_first() else {
-                return false;
-            };
-            if !self.is(*number, key) {
-                return false;
-            }
-            rest = others;
-        }
-        rest.is_empty()
+        let bits = draft.end(&none, &none)?;
+        Ok(bits)
     }
 
     /// Whether this is the `number` of `key`.
@@ -171,53 +122,35 @@ impl Numbers {
 
     /// The number of `key`. If it has none, the table gives it the least number that is free, and
     /// other keys keep theirs. After an error the table is of no more use.
-    pub(crate) fn number_of(&mut self, key: &PublishedKey) -> Result<usize, AllocError>
+    fn number_of(&mut self, key: &PublishedKey) -> Result<usize, AllocError>
         ensures ok { IfOk result (λ n. key_at self.new n ≡ Some (id_of key.now)) }
         ensures extends { OnOk result (Extends self.old self.new) }
     {
-        if let Some(number) = self.search(key, FEW) {
+        if let Some(number) = self.find(key) {
             return Ok(number);
-        }
-        if self.keys.len() > FEW {
-            if let Some(number) = self.find(key) {
-                return Ok(number);
-            }
         }
         let added = key.added;
         let reference = key.reference.clone()?;
         let number = self.give(PublishedKey { added, reference })?;
-        if number >= FEW {
-            self.by_added.insert(added, number)?;
-        }
+        self.by_added.insert(added, number)?;
         self.left = self.left.saturating_sub(1);
         Ok(number)
     }
 
-    /// The number of `key` from `FEW` on, or `None` if it has none of these.
+    /// The number of `key`, or `None` if it has none.
     fn find(&self, key: &PublishedKey) -> Option<usize>
         ensures some { IfSome result (λ n. key_at self.now n ≡ Some (id_of key.now)) }
-        ensures none { result ≡ None → IsTable self.now → (n : ℕ) → FEW ≤ n →
+        ensures none { result ≡ None → (n : ℕ) →
             key_at self.now n ≡ Some (id_of key.now) → ⊥ }
     {
-        let number = self.by_added.get(&key.added).copied()?;
-        if self.is(number, key) {
-            return Some(number);
+        if let Some(number) = self.by_added.get(&key.added).copied() {
+            if self.is(number, key) {
+                return Some(number);
+            }
         }
-        // Never in the record of a run: another key has the same position of its add.
-        self.search(key, self.end())
-    }
-
-    /// The number of `key` if it is below `end`, by a look at all of these, or else `None`.
-    fn search(&self, key: &PublishedKey, end: usize) -> Option<usize>
-        ensures some { IfSome result (λ n. key_at self.now n ≡ Some (id_of key.now)) }
-        ensures none { result ≡ None → (n : ℕ) → n < end →
-            key_at self.now n ≡ Some (id_of key.now) → ⊥ }
-    {
-        for number in 0..end.min(self.keys.len()) {
-            if let Some(other) = &self.keys[number] {
-                if *other == *key {
-                    return Some(number);
-                }
+        for number in 0..self.keys.len() {
+            if self.is(number, key) {
+                return Some(number);
             }
         }
         None
@@ -249,137 +182,45 @@ impl Numbers {
         Ok(number)
     }
 
-    /// A bound of the numbers: no key has this one or a greater one.
-    pub(crate) fn end(&self) -> usize
-        ensures { (n : ℕ) → result ≤ n → key_at self.now n ≡ None }
+    /// Frees the numbers of keys that are in no set of `windows`, for keys that come later.
+    pub(crate) fn renew(&mut self, windows: &Windows)
+        ensures table { IsTable self.old → IsTable self.new }
+        ensures in_use { (n : ℕ) → is_in_use windows.now n ≡ true →
+            key_at self.new n ≡ key_at self.old n }
     {
-        self.keys.len()
+        let mut word = 0;
+        let mut in_use = 0usize;
+        for number in 0..self.keys.len() {
+            if number % WORD == 0 {
+                word = windows.word_in_use(number / WORD);
+            }
+            if is_in_word(word, number) {
+                in_use = in_use.saturating_add(1);
+            } else {
+                self.give_back(number);
+            }
+        }
+        self.least = 0;
+        let room = LEAST_ROOM
+            .max(self.keys.len())
+            .max(in_use.saturating_mul(2));
+        self.left = room.saturating_sub(in_use);
     }
 
-    /// Frees `number`, so that its key has none any more. Other keys keep theirs. The caller then
-    /// has to call `renew`, which brings the rest of the table up to date.
-    pub(crate) fn give_back(&mut self, number: usize)
+    /// Frees `number`, so that its key has none any more. Other keys keep theirs.
+    fn give_back(&mut self, number: usize)
         ensures others { (n : ℕ) → (n ≡ number → ⊥) → key_at self.new n ≡ key_at self.old n }
         ensures none { key_at self.new number ≡ None }
         ensures table { IsTable self.old → IsTable self.new }
     {
-        if number < self.keys.len() {
-            self.keys[number] = None;
+        if number >= self.keys.len() {
+            return;
         }
+        let added = match &self.keys[number] {
+            Some(key) => key.added,
+            None => 0,
+        };
+        self.by_added.remove(&added);
+        self.keys[number] = None;
     }
-
-    /// Brings `by_added`, `least` and `left` up to date after `give_back`. Each key keeps its
-    /// number. After an error the table is of no more use.
-    pub(crate) fn renew(&mut self, alloc: Global) -> Result<(), AllocError>
-        ensures same { OnOk result ((n : ℕ) → key_at self.new n ≡ key_at self.old n) }
-        ensures table { OnOk result (IsTable self.old → IsTable self.new) }
-    {
-        let mut by_added = BTreeMap::new(alloc);
-        let mut in_use = 0usize;
-        let mut end = 0;
-        for (number, key) in self.keys.iter().enumerate() {
-            let Some(key) = key else {
-                continue;
-            };
-            if number >= FEW {
-                by_added.insert(key.added, number)?;
-            }
-            in_use = in_use.saturating_add(1);
-            end = number + 1;
-        }
-        // No key stands from here on.
-        self.keys.truncate(end);
-        let room = FEW.max(end).max(in_use.saturating_mul(2));
-        self.keys.shrink_to(room);
-        self.by_added = by_added;
-        self.least = 0;
-        self.left = room.saturating_sub(in_use);
-        Ok(())
-    }
-}
-
-/// A list of numbers, and the set of them: with one more, or one less, only that is written.
-#[derive(Debug, Drop)]
-pub(crate) struct NumberList {
-    pub(crate) numbers: Vec<usize>,
-    pub(crate) bits: Bits,
-    /// The words of the set before the last change, without the first. If they come back, these do.
-    before: Option<ArcSlice<u64>>,
-    ghost same: { (n : ℕ) → has bits n ≡ list_any (λ number. nat_eq number n) numbers.items },
-}
-
-impl NumberList {
-    /// The empty list. It takes its memory from `alloc` as it grows.
-    pub(crate) fn none(alloc: Global) -> Self
-        ensures { result.numbers.items ≡ [] }
-    {
-        NumberList {
-            numbers: Vec::new(alloc),
-            bits: Bits::NONE,
-            before: None,
-        }
-    }
-
-    /// A copy of the list, with its set. It fails only if there is no memory.
-    pub(crate) fn try_clone(&self) -> Result<Self, AllocError>
-        ensures { IfOk result (λ list. list.numbers.items ≡ self.now.numbers.items) }
-    {
-        Ok(NumberList {
-            numbers: self.numbers.clone()?,
-            bits: self.bits.clone()?,
-            before: share(&self.before)?,
-        })
-    }
-
-    /// Puts `number` into the list at index `place`, counted from 0, and into `bits`. If there is
-    /// no memory, it fails, and the list stays as it was.
-    pub(crate) fn insert(
-        &mut self,
-        alloc: Global,
-        place: usize,
-        number: usize,
-    ) -> Result<(), AllocError>
-        requires { place ≤ vec_len self.old.numbers }
-        ensures { OnOk result (self.new.numbers.items
-            ≡ insert self.old.numbers.items place number) }
-    {
-        let bits = self.bits.with(alloc, number, true, &self.before)?;
-        self.numbers.insert(place, number)?;
-        self.before = mem::replace(&mut self.bits, bits).rest;
-        Ok(())
-    }
-
-    /// Takes the number at index `place`, counted from 0, out of the list, and out of `bits` unless
-    /// it stands there once more. If there is no memory, it fails, and the list stays as it was.
-    pub(crate) fn remove(&mut self, alloc: Global, place: usize) -> Result<(), AllocError>
-        requires { place < vec_len self.old.numbers }
-        ensures { OnOk result (self.new.numbers.items ≡ remove self.old.numbers.items place) }
-    {
-        let number = self.numbers[place];
-        let is_in = stands_beside(number, &self.numbers, place);
-        let bits = self.bits.with(alloc, number, is_in, &self.before)?;
-        self.numbers.remove(place);
-        self.before = mem::replace(&mut self.bits, bits).rest;
-        Ok(())
-    }
-}
-
-/// Whether `number` stands in `list` at another index than `place`.
-fn stands_beside(number: usize, list: &[usize], place: usize) -> bool
-    requires { place < length list.now }
-    ensures { result ≡ list_any (λ n. nat_eq n number) (remove list.now place) }
-{
-    stands_in(number, &list[..place]) | stands_in(number, &list[place + 1..])
-}
-
-/// Whether `number` stands in `list`.
-fn stands_in(number: usize, list: &[usize]) -> bool
-    ensures { result ≡ list_any (λ n. nat_eq n number) list.now }
-{
-    let mut is_there = false;
-    // It goes on to the end, so that several numbers are compared at once.
-    for other in list {
-        is_there |= *other == number;
-    }
-    is_there
 }

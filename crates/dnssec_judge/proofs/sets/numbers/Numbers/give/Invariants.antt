@@ -1,5 +1,5 @@
 -- No number so far was free.
-use Rattle.std.{proofs.Common.◌≡◌, specs.Prelude.vec_len}
+use Rattle.dnssec_judge.proofs.Base.{◌≡◌, vec_len}
 use Rattle.dnssec_judge.proofs.sets.numbers.Numbers.give.Given as goal
 
 abbrev pub invariant-loop-free : goal.invariant-loop-free

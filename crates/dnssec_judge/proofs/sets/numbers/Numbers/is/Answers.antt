@@ -1,6 +1,5 @@
 -- The key at the place is the same, or another, or there is none.
-use Rattle.std.proofs.{Common.arith, lemmas.List.get_or_default, lemmas.Option.gets}
-use Rattle.dnssec_run.{specs.Published.id_of, proofs.Since.same-id}
+use Rattle.dnssec_judge.proofs.Base.{arith, get_or_default, gets, id_of, same-id}
 use Rattle.dnssec_judge.proofs.sets.numbers.Numbers.is.Goals as goal
 
 pub returns-in-Some-Some : goal.returns-in-Some-Some

@@ -1,11 +1,13 @@
--- The keys so far are known by the positions of their adds.
-use Rattle.std.proofs.Common.{◌≡◌, ℕ, ◌<◌, ◌≤◌, Some}
-use Rattle.std.specs.{BTreeMap.get, Ordering.nat_cmp, Prelude.IsSome, Prelude.slice_get}
-use Rattle.dnssec_run.specs.Published.{Id}
-use Rattle.dnssec_judge.specs.{Numbers.key_in, declared.sets.numbers.TheConstants.FEW}
+-- Numbers in use stay with their keys.
+use Rattle.dnssec_judge.proofs.Base.{◌%◌, ◌/◌, ◌≡◌, ◌≢◌, in_word, is_in_use, key_at, true, ℕ}
+use Rattle.dnssec_judge.specs.Numbers.{IsTable}
 use Rattle.dnssec_judge.proofs.sets.numbers.Numbers.renew.Given as goal
 
 abbrev pub invariant-loop-number : goal.invariant-loop-number
-invariant-loop-number l = (n : ℕ) (k : Id) → n < l.number →
-    key_in (slice_get l.key-items n) ≡ Some k
-    → (n < l.end) × (FEW ≤ n → IsSome (get nat_cmp l.by_added k.1))
+invariant-loop-number l = record {
+  table : IsTable l.initial.self → IsTable l.self;
+  in_use : (number : ℕ) → is_in_use l.windows number ≡ true
+      → key_at l.self number ≡ key_at l.initial.self number;
+  word : l.number % 64 ≢ 0 → (n : ℕ) → n / 64 ≡ l.number / 64
+      → in_word l.word n ≡ is_in_use l.windows n;
+}

@@ -1,6 +1,5 @@
 -- The copies so far.
-use Rattle.std.{proofs.Common.◌≡◌, proofs.Common.map, proofs.Common.take, specs.Option.option_map}
-use Rattle.dnssec_run.specs.Published.{id_of}
+use Rattle.dnssec_judge.proofs.Base.{◌≡◌, id_of, map, option_map, take}
 use Rattle.dnssec_judge.proofs.sets.numbers.Numbers.try_clone.Given as goal
 
 abbrev pub invariant-loop-key : goal.invariant-loop-key

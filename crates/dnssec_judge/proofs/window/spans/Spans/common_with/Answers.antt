@@ -1,7 +1,7 @@
 -- One set more.
 use Rattle.std.proofs.Common.{◌≤◌, arith, length, take}
-use Rattle.std.proofs.lemmas.List.{take_all, take_more, Elements.All-push}
-use Rattle.dnssec_judge.{specs.Inner.Spans.IsWithin, proofs.OneByOne.Windows.common_more}
+use Rattle.dnssec_judge.proofs.Base.{All-push, IsWithin, take_all, take_more}
+use Rattle.dnssec_judge.proofs.OneByOne.Windows.{common_more}
 use Rattle.dnssec_judge.proofs.window.spans.Spans.common_with.Goals as goal
 
 pub returns-in-Some-clause-each : goal.returns-in-Some-clause-each

@@ -1,6 +1,5 @@
 -- The sets up to the place are empty.
-use Rattle.std.proofs.Common.{◌≡◌, drop}
-use Rattle.dnssec_judge.specs.{Bits.has_none, Inner.Spans.all_in}
+use Rattle.dnssec_judge.proofs.Base.{◌≡◌, all_in, drop, has_none}
 use Rattle.dnssec_judge.proofs.window.spans.Spans.have_no_keys.Given as goal
 
 abbrev pub invariant-loop-place : goal.invariant-loop-place

@@ -1,6 +1,5 @@
 -- One more set.
-use Rattle.std.proofs.Common.{◌<◌, arith, length}
-use Rattle.std.proofs.lemmas.List.{drop_more}
+use Rattle.dnssec_judge.proofs.Base.{◌<◌, arith, drop_more, length}
 use Rattle.dnssec_judge.proofs.Words.{in_either}
 use Rattle.dnssec_judge.proofs.window.spans.Spans.word.Goals as goal
 

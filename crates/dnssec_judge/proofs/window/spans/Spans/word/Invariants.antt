@@ -1,6 +1,6 @@
 -- The bits are those of the sets up to the place.
-use Rattle.std.proofs.Common.{◌≡◌, ◌/◌, ◌||◌, ℕ, drop}
-use Rattle.dnssec_judge.specs.{Bits.in_word, Inner.Spans.in_spans}
+use Rattle.dnssec_judge.proofs.Base.{◌/◌, ◌||◌, ◌≡◌, drop, in_word, ℕ}
+use Rattle.dnssec_judge.specs.Inner.Spans.{in_spans}
 use Rattle.dnssec_judge.proofs.window.spans.Spans.word.Given as goal
 
 abbrev pub invariant-loop-place : goal.invariant-loop-place

@@ -1,0 +1,97 @@
+-- The changes are taken, if there are any.
+use Rattle.dnssec_judge.proofs.Base.{◌<◌, ◌∙◌, ◌∷◌, ◌≡◌, Adds, ByAdds, Change, Contains, Dnskey, Ds}
+use Rattle.dnssec_judge.proofs.Base.{Entry, Id, KnowsBy, LeadTo, List, Position, SetKind, Windows}
+use Rattle.dnssec_judge.proofs.Base.{ZoneSigners, [], add_at, arith, eqb-true, is_in_use, length}
+use Rattle.dnssec_judge.proofs.Base.{list_at, or_parts, position_of, refl, same-set, set_at, subst}
+use Rattle.dnssec_judge.proofs.Base.{suc, sym, true, ℕ}
+use Rattle.dnssec_judge.specs.Numbers.{IsShown}
+use Rattle.dnssec_judge.proofs.OneByOne.More.{count, more, position-kept, position-new}
+use Rattle.dnssec_judge.proofs.{OneByOne.Copies.knows-on, Run.takes-changes}
+use Rattle.dnssec_judge.proofs.run_judging.RunJudge.note.Goals as goal
+
+-- keys that were shown are shown in the longer record too
+shown-more : (es : List Entry) (e : Entry) (k : Id) → IsShown es k → IsShown (more es e) k
+shown-more es e k (list, m, le, there) = (
+  list,
+  m,
+  omega (arith, le, count es e),
+  subst (λ p. Contains (list_at list p) k) (sym (position-kept es e m le)) there,
+)
+
+-- what the windows know they know by the adds of the longer record, if keys in use keep numbers
+known-more : (es : List Entry) (e : Entry) (t u : Adds) (w : Windows)
+    → ((n : ℕ) → is_in_use w n ≡ true → 0 < add_at t n → add_at u n ≡ add_at t n)
+    → KnowsBy es (ByAdds es t) w → KnowsBy es (ByAdds (more es e) u) w
+known-more es e t u w kept = knows-on es (ByAdds es t) (ByAdds (more es e) u) w (λ n k used is.
+    (let same = kept n used is.counts in record {
+      counts = omega (arith, same, is.counts);
+      added = is.added ∙ sym same;
+      shown = shown-more es e k is.shown;
+    }))
+
+none-moves : (cs : List Change) (p q : Position) → length cs ≡ 0 → LeadTo cs p q → (kind : SetKind)
+    → set_at kind q ≡ set_at kind p
+none-moves [] p q none lead kind =
+    sym ((same-set (set_at kind p) (set_at kind q)).0 (lead.same kind))
+none-moves (c ∷ cs) p q none lead kind = absurd (omega (arith, none))
+
+of-each : (P : SetKind → Type 0) → P Ds → P Dnskey → P ZoneSigners → (kind : SetKind) → P kind
+of-each P d k z Ds = d
+of-each P d k z Dnskey = k
+of-each P d k z ZoneSigners = z
+
+pub returns-in-None-Other-clause-ok : goal.returns-in-None-Other-clause-ok
+returns-in-None-Other-clause-ok c es e mark moment lead apart h =
+    let j = c.args.self.now in record {
+      table = h.table;
+      windows = c.pass.ensures es e (ByAdds (more es e) j.numbers) (record {
+        has_mark = mark ∙ c.in-None-Other.is-1;
+        has_moment = moment ∙ c.in-None-Other.is-0;
+        here = omega (arith, c.in_ok-at.ensures, h.windows.follows.at);
+      }) (none-moves c.args.changes.now _ _
+          (eqb-true (length c.args.changes.now) 0 (sym c.if-is_empty.ensures)) lead)
+          (known-more es e j.numbers j.numbers j.windows (λ n _ _. refl) h.windows);
+    }
+
+pub returns-clause-ok : goal.returns-clause-ok
+returns-clause-ok c es e mark moment lead apart h =
+    let j = c.args.self.now in let taken = c.in_ok-is_other.ensures in
+    let t = c.take.new.self.numbers in let new = c.take.new.self.windows in
+    let cs = c.args.changes.now in
+    let given = taken.given (taken.table h.table) in
+    let key = ByAdds (more es e) t in
+    let known = known-more es e j.numbers t j.windows (λ n used counts.
+    (let same = taken.used n used in
+    given.1 n (omega (arith, same, counts)) ∙ same)) h.windows in
+    let f = known.follows in
+    let takes = takes-changes es (position_of e) cs lead t given.0 given.2 key
+    (λ n k is. (is.counts, is.added)) (λ list k n there counts is. record {
+      counts = counts;
+      added = is;
+      shown = (
+        list,
+        suc (length es),
+        omega (arith, count es e),
+        subst (λ p. Contains (list_at list p) k) (sym (position-new es e)) there,
+      );
+    }) in
+    let ds = takes Ds c.in_ok-at.at j.windows.ds new.ds taken.others.0 taken.ds f.ds in
+    let keys = takes Dnskey c.in_ok-at.at j.windows.dnskey new.dnskey taken.others.1 taken.dnskey
+    f.dnskey in
+    let zone = takes ZoneSigners c.in_ok-at.at j.windows.zone new.zone taken.others.2 taken.zone
+    f.zone in
+    record {
+      table = given.0;
+      windows = c.in_ok-go_on.ensures es e key j.windows (record {
+        has_mark = mark;
+        has_moment = moment;
+        here = omega (arith, c.in_ok-at.ensures, h.windows.follows.at);
+      }) (record {
+        apart = λ m n k a b. given.0.apart m n a.counts (sym a.added ∙ b.added);
+        one = λ n k l a b. apart a.shown.0 b.shown.0 a.shown.1 b.shown.1 k l a.shown.3 b.shown.3
+            (a.added ∙ sym b.added);
+      }) (record { kept = taken.kept; ds = ds.0; dnskey = keys.0; zone = zone.0 })
+          (λ none. (let two = or_parts _ taken.others.2 (sym taken.any ∙ none) in
+          let one = or_parts taken.others.0 taken.others.1 two.0 in
+          of-each _ (ds.1 one.0) (keys.1 one.1) (zone.1 two.1))) known;
+    }

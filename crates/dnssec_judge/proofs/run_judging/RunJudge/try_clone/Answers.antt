@@ -1,0 +1,27 @@
+-- The copy knows what the judge knows, and the other way round.
+use Rattle.std.proofs.Common.{◌∙◌, ◌≡◌, List, arith, sym, ℕ}
+use Rattle.dnssec_judge.proofs.Base.{AreSame, ByAdds, Entry, RunJudge, add_at}
+use Rattle.dnssec_judge.{specs.Adds.IsTable, specs.Judge.KnowsRun}
+use Rattle.dnssec_judge.proofs.OneByOne.Copies.{are-same-back, knows-on, knows-same}
+use Rattle.dnssec_judge.proofs.run_judging.RunJudge.try_clone.Goals as goal
+
+-- one judge knows what another does, if it has the same of all
+knows-too : (es : List Entry) (a b : RunJudge) → AreSame a.windows b.windows
+    → (IsTable a.numbers → IsTable b.numbers)
+    → ((n : ℕ) → add_at b.numbers n ≡ add_at a.numbers n) → KnowsRun es a → KnowsRun es b
+knows-too es a b windows table same h = record {
+  table = table h.table;
+  windows = knows-on es (ByAdds es a.numbers) (ByAdds es b.numbers) b.windows (λ n k _ is. record {
+    counts = omega (arith, is.counts, same n);
+    added = is.added ∙ sym (same n);
+    shown = is.shown;
+  }) (knows-same es (ByAdds es a.numbers) a.windows b.windows windows h.windows);
+}
+
+pub returns-clause-same : goal.returns-clause-same
+returns-clause-same c entries =
+    let numbers = c.in_ok-try_clone-2.ensures in let windows = c.in_ok-try_clone.ensures in (
+      knows-too entries c.args.self.now _ windows numbers.table.0 numbers.same,
+      knows-too entries _ c.args.self.now (are-same-back windows) numbers.table.1
+          (λ n. sym (numbers.same n)),
+    )
