@@ -1,18 +1,16 @@
 -- Words of bits: sets of numbers meet if and only if they share a number.
-use Rattle.std.proofs.Common.{◌≡◌, ◌+◌, ◌-◌, ◌/◌, ◌%◌, ◌<◌, ℕ, zero, suc, true, false, List, ◌∷◌}
-use Rattle.std.proofs.Common.{[], arith, refl}
-use Rattle.std.proofs.lemmas.Bool.Decides.{Decides-and, Decides-below_or, Decides-like, Decides-not}
-use Rattle.std.proofs.lemmas.Bool.Decides.{nat_tests, same_from_decides}
-use Rattle.std.proofs.lemmas.List.{get_or_past}
-use Rattle.std.{proofs.lemmas.Bool.true_from_ne_false, specs.Bool.Decides}
-use Rattle.std.proofs.lemmas.Nat.Bits.{bit_at-lt, bit_at-zero, bit_at_and, bit_at_or}
-use Rattle.std.proofs.lemmas.Nat.Bits.{bit_at-trailing_zeros}
-use Rattle.std.proofs.lemmas.Nat.Bits.{bit_at_clear_other, bit_at_clear_same, bit_at_set_other}
-use Rattle.std.{proofs.lemmas.Nat.Bits.bit_at_set_same, specs.Prelude.◌^◌, specs.Int.bit_at}
-use Rattle.std.specs.Prelude.{Bool, ◌*◌, ◌||◌, if◌then◌else◌, get_or, nat_eq}
-use Rattle.std.specs.Int.{w64, trailing_zeros, bit_not, Bits.bit_and, Bits.bit_or}
-use Rattle.dnssec_judge.specs.Bits.{HasSome, Share, ShareAll, all_at, any_below, common_at}
-use Rattle.dnssec_judge.specs.Bits.{end_of, has_bit, has_none, in_word, meet, meet_three, word_at}
+use Rattle.dnssec_judge.proofs.Base.{[], ℕ, ◌%◌, ◌+◌, ◌-◌, ◌/◌, ◌<◌, ◌||◌, ◌∷◌, ◌≡◌, all_at, arith}
+use Rattle.dnssec_judge.proofs.Base.{bit_and, bit_at, bit_at-lt, bit_at-zero, bit_at_and, common_at}
+use Rattle.dnssec_judge.proofs.Base.{Decides, Decides-like, false, get_or_past, has_bit, has_none}
+use Rattle.dnssec_judge.proofs.Base.{if◌then◌else◌, in_word, List, meet, meet_three, nat_eq}
+use Rattle.dnssec_judge.proofs.Base.{nat_tests, refl, same_from_decides, suc, true, zero}
+use Rattle.dnssec_judge.specs.Bits.{HasSome, Share, ShareAll, any_below, end_of, word_at}
+use Rattle.std.proofs.lemmas.Bool.Decides.{Decides-and, Decides-below_or, Decides-not}
+use Rattle.std.proofs.lemmas.Bool.{true_from_ne_false}
+use Rattle.std.proofs.lemmas.Nat.Bits.{bit_at-trailing_zeros, bit_at_clear_other, bit_at_clear_same}
+use Rattle.std.proofs.lemmas.Nat.Bits.{bit_at_or, bit_at_set_other, bit_at_set_same}
+use Rattle.std.specs.{Int.bit_not, Int.trailing_zeros, Int.w64, Int.Bits.bit_or, Prelude.Bool}
+use Rattle.std.specs.{Prelude.get_or, Prelude.◌*◌, Prelude.◌^◌}
 
 -- a word is the first, or one of the others
 pub word-of : (first : ℕ) (rest : List ℕ) (i : ℕ)
@@ -61,8 +59,7 @@ all-shared words ones others i some =
     let word = all_at words ones others i in let k = trailing_zeros w64 word in
     let low = bit_at-trailing_zeros w64 word some.0 some.1 in
     let at : (64 * i + k) / 64 ≡ i = omega (arith, low.0) in
-    let bit : (64 * i + k) % 64 ≡ k = omega (arith, low.0) in
-    let set = low.1 in (
+    let bit : (64 * i + k) % 64 ≡ k = omega (arith, low.0) in let set = low.1 in (
       64 * i + k,
       grind (bits, at, bit, set),
       grind (bits, at, bit, set),

@@ -5,7 +5,8 @@ use Rattle.std.specs.Int.{bit_at, Bits.bit_and}
 use Rattle.std.specs.{Prelude.Option, Prelude.None, Prelude.Some, Prelude.[], Global.Global}
 use Rattle.std.specs.Arc.{arc_slice_items}
 use Rattle.std.specs.declared.sync.ArcSlice.{ArcSlice}
-use Rattle.dnssec_judge.specs.declared.sets.held.Bits.{Bits}
+use Rattle.std.specs.declared.vec.Vec.{Vec}
+use Rattle.dnssec_judge.specs.declared.sets.held.{Bits.Bits, BitsDraft.BitsDraft}
 
 -- the words after the first, if there are any
 abbrev pub rest_of : Option (ArcSlice ℕ Global) → List ℕ
@@ -15,6 +16,14 @@ rest_of (Some rest) = arc_slice_items rest
 -- the words of a set
 abbrev pub words_of : Bits → List ℕ
 words_of b = b.first ∷ rest_of b.rest
+
+-- the words of a set that is written over another
+abbrev pub rest_in : Option (Vec ℕ Global) → Bits → List ℕ
+rest_in None base = rest_of base.rest
+rest_in (Some words) base = words.items
+
+abbrev pub drafted : Bits → BitsDraft → List ℕ
+drafted base d = d.first ∷ rest_in d.rest base
 
 -- one of them; all after the last are 0
 abbrev pub word_at : List ℕ → ℕ → ℕ

@@ -1,25 +1,22 @@
 -- A run that goes on call by call: for the zones of scripts and of sessions.
 use Rattle.std.proofs.Common.{◌≡◌, ℕ, ◌-◌, List, [], ◌∷◌, ◌++◌, length, map, Option, None}
 use Rattle.std.proofs.Common.{Some, refl, sym, ◌∙◌, ap, subst, arith, append_assoc, length-append}
-use Rattle.std.proofs.Common.{Bool, true, false, fold}
+use Rattle.std.proofs.Common.{fold, inl, inr}
 use Rattle.std.proofs.lemmas.List.{flat_map_more, Folds.flat_map-map, Sums.fold-append}
 use Rattle.std.specs.Prelude.{codes, slice_get, string_bytes, if◌then◌else◌}
-use Rattle.std.specs.{List.flat_map, Option.option_map}
+use Rattle.std.specs.{List.flat_map, Option.option_map_or}
+use Rattle.std.proofs.lemmas.Option.{slice_get_cases}
 use Rattle.dnssec_key.specs.declared.roll.RollType.{RollType}
-use Rattle.dnssec_run.specs.Safe.{SetKind, Ds, Dnskey, ZoneSigners, position_at, position_of}
-use Rattle.dnssec_run.proofs.Recorded.{last-ds, last-dnskey, last-signers, last-zone}
+use Rattle.dnssec_run.specs.Safe.{blank, position_at, position_of}
 use Rattle.dnssec_run.specs.declared.{call.Call.Call, record.Entry.Entry, record.Outcome.Outcome}
-use Rattle.dnssec_run.specs.declared.record.{Frames.Frames, Published.Published}
-use Rattle.dnssec_run.specs.declared.record.{PublishedKey.PublishedKey}
+use Rattle.dnssec_run.specs.declared.record.{Published.Published, PublishedKey.PublishedKey}
 use Rattle.dnssec_run.specs.declared.{record.Reply.Reply, running.Recorder.Recorder}
-use Rattle.dnssec_run.specs.{Published.Id, Published.id_of}
-use Rattle.dnssec_run.{specs.Recorder.HasSameKeys, specs.Recorder.Records, proofs.Grow.at_end}
-use Rattle.dnssec_run.specs.Recorder.{SaysOutcome}
-use Rattle.dnssec_judge.specs.Judge.{IsPublishedNext}
-use Rattle.dnssec_run.proofs.Around.{keeps-kind}
-use Rattle.dnssec_run.specs.Frames.{KeepsFrames, KeepsSet, frames_in}
-use Rattle.dnssec_run.specs.Origins.{CachedSet, set_at, set_in}
-use Rattle.dnssec_judge.specs.{Judge.ComesNext, Judge.KeepsLast, Judge.Knows}
+use Rattle.dnssec_run.specs.{Changes.AddsApart, Changes.LeadTo, Published.Id, Published.id_of}
+use Rattle.dnssec_run.specs.Recorder.{AreShown, Records, SaysOutcome}
+use Rattle.dnssec_run.proofs.{Apart.adds-apart, Grow.at_end, Recorded.last-list}
+use Rattle.dnssec_run.proofs.Recorded.{shown-sets}
+use Rattle.dnssec_run.specs.declared.lists.Shown.TheVariants as lists
+use Rattle.dnssec_judge.specs.Judge.{Knows}
 use Rattle.dnssec_script.specs.declared.{lines.Lines.Lines, statement.Statement.Statement}
 use Rattle.dnssec_record.proofs.Made.{Finds, HasMade, all_made, one_made}
 use Rattle.dnssec_record.specs.Answer.{IsAnswerOf}
@@ -57,11 +54,32 @@ by_ids p =
     λ i. codes "ds=" ++ ds i ++ codes " dnskey=" ++ dnskey i ++ codes " signers=" ++ signers i
     ++ codes " zone=" ++ zone i ++ codes "\n"
 
-pub same_sets : (p q : Published) → HasSameKeys p q → published_text p ≡ published_text q
-same_sets p q same =
-    by_ids p
-    ∙ (λ i. four_text (same.ds i) (same.dnskey i) (same.dnskey_signers i) (same.zone_signers i))
-    ∙ sym (by_ids q)
+-- the line of the sets says which keys the lists of the last position have
+line_is : (entries : List Entry) → set_line entries
+    ≡ four_text (position_at entries (length entries)).ds
+    (position_at entries (length entries)).dnskey (position_at entries (length entries)).signers
+    (position_at entries (length entries)).zone
+unfolding position_at
+line_is [] = refl
+line_is (x ∷ xs) = let last : length (x ∷ xs) - 1 ≡ length xs = omega arith in
+    elim ((slice_get_cases (x ∷ xs) (length xs)).1) [
+      | inl e ↦ ap (λ n. sets_text (slice_get (x ∷ xs) n)) last ∙ ap sets_text e.2
+          ∙ by_ids e.0.published ∙ (λ i.
+          let p = option_map_or position_of (sym e.2 i) blank in
+          four_text p.ds p.dnskey p.signers p.zone)
+      | inr e ↦ absurd (omega (arith, e.0))
+    ]
+
+-- so the lists that a recorder makes give that line
+pub shown_line : (name : List ℕ) (calls : List Call) (entries : List Entry) (r : Recorder)
+    → Records name calls entries r → (sets : Published) → AreShown sets r
+    → published_text sets ≡ set_line entries
+shown_line name calls entries r so sets shown =
+    let last = last-list name calls entries r so in
+    by_ids sets ∙ (λ i. four_text ((shown.ds ∙ sym (last lists.Ds)) i)
+    ((shown.dnskey ∙ sym (last lists.Dnskey)) i)
+    ((shown.dnskey_signers ∙ sym (last lists.DnskeySigners)) i)
+    ((shown.zone_signers ∙ sym (last lists.ZoneSigners)) i)) ∙ sym (line_is entries)
 
 -- ---- turns
 
@@ -90,43 +108,12 @@ folded_more f none calls entries call e same =
 pub none_follows : (name : List ℕ) (zone : ZoneState) → Records name [] [] zone.recorder
     → Knows [] zone.judge → zone.courses.listed.items ≡ [] → zone.courses.ended.items ≡ []
     → IsZoneAfter name [] [] zone
-unfolding position_at
 none_follows name zone records knows listed ended = record {
-  follows = record {
-    records = records;
-    knows = knows;
-    shown =
-        let r = zone.recorder in
-        by_ids r.published ∙ (λ i. four_text (sym (last-ds name [] [] r records) i)
-        (sym (last-dnskey name [] [] r records) i) (sym (last-signers name [] [] r records) i)
-        (sym (last-zone name [] [] r records) i));
-  };
+  follows = record { records = records; knows = knows };
   listed = ap (map as_listed) listed;
   ended = ended;
   moments = refl;
 }
-
--- the entry after some others
-last_of : (entries : List Entry) (e : Entry)
-    → Some e ≡ slice_get (entries ++ e ∷ []) (length (entries ++ e ∷ []) - 1)
-last_of entries e =
-    let more = length-append entries (e ∷ []) in
-    let at : length entries ≡ length (entries ++ e ∷ []) - 1 = omega arith in
-    sym (at_end entries e) ∙ ap (slice_get (entries ++ e ∷ [])) at
-
--- what the last position holds of a kind
-last_held : (name : List ℕ) (calls : List Call) (entries : List Entry) (r : Recorder)
-    → Records name calls entries r → (kind : SetKind)
-    → set_in kind r.published ≡ set_at kind (position_at entries (length entries))
-last_held name calls entries r so Ds = λ i. (sym (last-ds name calls entries r so) i, [])
-last_held name calls entries r so Dnskey = λ i.
-    (sym (last-dnskey name calls entries r so) i, sym (last-signers name calls entries r so) i)
-last_held name calls entries r so ZoneSigners = λ i. (sym (last-zone name calls entries r so) i, [])
-
-set_held : (e : Entry) (kind : SetKind) → set_at kind (position_of e) ≡ set_in kind e.published
-set_held e Ds = refl
-set_held e Dnskey = refl
-set_held e ZoneSigners = refl
 
 -- the entry of an outcome, with what is then published
 abbrev pub entry_of : Outcome → Published → Entry
@@ -137,77 +124,30 @@ entry_of outcome sets = record {
   published = sets;
 }
 
--- it comes next, if the sets are handed in that may have changed
-next_comes : (name : List ℕ) (calls : List Call) (entries : List Entry) (r s : Recorder)
-    (outcome : Outcome) (news : Option Published) → Records name calls entries r
-    → (outcome.may_publish ≡ false → s.published ≡ r.published)
-    → news ≡ (if outcome.may_publish then Some s.published else None)
-    → ComesNext entries (entry_of outcome s.published) outcome.mark outcome.moment news
-next_comes name calls entries r s outcome news so kept handed = record {
-  has_mark = refl;
-  has_moment = refl;
-  publishes = λ kind. subst (λ news. IsPublishedNext (option_map (set_in kind) news)
-      (set_at kind (position_at entries (length entries)))
-      (set_at kind (position_of (entry_of outcome s.published))))
-      (sym handed) (by outcome.may_publish kept kind);
-}
-  where
-    by : (b : Bool) → (b ≡ false → s.published ≡ r.published) → (kind : SetKind)
-        → IsPublishedNext (option_map (set_in kind) (if b then Some s.published else None))
-        (set_at kind (position_at entries (length entries)))
-        (set_at kind (position_of (entry_of outcome s.published)))
-    by true kept kind = set_held (entry_of outcome s.published) kind
-    by false kept kind = set_held (entry_of outcome s.published) kind
-        ∙ ap (set_in kind) (kept refl) ∙ last_held name calls entries r so kind
-
--- and keeps the frames of the changes
-next_keeps : (name : List ℕ) (calls : List Call) (entries : List Entry) (r s : Recorder)
-    (outcome : Outcome) (news : Option Published) (frames : Frames) → Records name calls entries r
-    → (outcome.may_publish ≡ true → KeepsFrames frames r.published s.published)
-    → news ≡ (if outcome.may_publish then Some s.published else None)
-    → KeepsLast entries frames news
-next_keeps name calls entries r s outcome news frames so keeps handed =
-    subst (KeepsLast entries frames) (sym handed) (by outcome.may_publish keeps)
-  where
-    by : (b : Bool) → (b ≡ true → KeepsFrames frames r.published s.published)
-        → KeepsLast entries frames (if b then Some s.published else None)
-    by true keeps kind =
-        subst (λ (set : CachedSet). KeepsSet (frames_in kind frames) set
-        (set_in kind s.published)) (last_held name calls entries r so kind)
-        (keeps-kind frames r.published s.published kind (keeps refl))
-    by false keeps kind = tt
-
 -- after one more call
 pub goes_on : (name : List ℕ) (calls : List Call) (entries : List Entry) (old next : ZoneState)
-    (call : Call) (outcome : Outcome) (news : Option Published) (frames : Frames)
-    → Follows name calls entries old
+    (call : Call) (outcome : Outcome) → Follows name calls entries old
     → ((name : List ℕ) (calls : List Call) (entries : List Entry) (e : Entry)
-    → SaysOutcome e outcome → HasSameKeys e.published next.recorder.published
+    → SaysOutcome e outcome → AreShown e.published next.recorder
     → Records name calls entries old.recorder
-    → Records name (calls ++ call ∷ []) (entries ++ e ∷ []) next.recorder)
-    → (outcome.may_publish ≡ false → next.recorder.published ≡ old.recorder.published)
-    → (outcome.may_publish ≡ true
-    → KeepsFrames frames old.recorder.published next.recorder.published)
-    → news ≡ (if outcome.may_publish then Some next.recorder.published else None)
-    → ((entries : List Entry) (e : Entry) → ComesNext entries e outcome.mark outcome.moment news
-    → KeepsLast entries frames news → Knows entries old.judge
+    → Records name (calls ++ call ∷ []) (entries ++ e ∷ []) next.recorder
+    × LeadTo next.recorder.changes.items (position_at entries (length entries)) (position_of e))
+    → ((entries : List Entry) (e : Entry) → e.mark ≡ outcome.mark → e.moment ≡ outcome.moment
+    → LeadTo next.recorder.changes.items (position_at entries (length entries)) (position_of e)
+    → AddsApart (entries ++ e ∷ []) → Knows entries old.judge
     → Knows (entries ++ e ∷ []) next.judge)
     → Comes Follows name calls entries call next
     (record { reply = outcome.reply; moment = outcome.moment })
-goes_on name calls entries old next call outcome news frames so records kept keeps handed judged =
-    let r = old.recorder in let q = next.recorder in let e = entry_of outcome q.published in
+goes_on name calls entries old next call outcome so records judged =
+    let sets = shown-sets next.recorder in
+    let e = entry_of outcome sets.0 in
+    let went = records name calls entries e (record { reply = refl; mark = refl; moment = refl })
+    sets.1 so.records in
     record {
       entry = e;
       stands = record {
-        records = records name calls entries e
-            (record { reply = refl; mark = refl; moment = refl })
-            (record { ds = refl; dnskey = refl; dnskey_signers = refl; zone_signers = refl })
-            so.records;
-        knows = judged entries e
-            (next_comes name calls entries r q outcome news so.records kept handed)
-            (next_keeps name calls entries r q outcome news frames so.records keeps handed)
-            so.knows;
-        shown = ap sets_text (last_of entries e);
+        records = went.0;
+        knows = judged entries e refl refl went.1 (adds-apart went.0.run) so.knows;
       };
       is_reply = refl;
       is_moment = refl;
@@ -232,7 +172,6 @@ lists_on {calls = calls} {entries = entries} next {call = call} so came same rec
         follows = record {
           records = rw recorder came.stands.records;
           knows = rw judge came.stands.knows;
-          shown = rw recorder came.stands.shown;
         };
         listed = listed
             ∙ ap (λ (cs : Courses). listed_after (map as_listed cs.listed.items) turn) same

@@ -13,7 +13,7 @@ use Rattle.dnssec_judge.specs.declared.verdict.Broken.{Broken}
 use Rattle.dnssec_judge.specs.Judge.{Knows}
 use Rattle.dnssec_judge.specs.Verdict.{IsVerdict}
 use Rattle.dnssec_record.specs.Courses.{as_listed, ended_by, listed_by}
-use Rattle.dnssec_record.specs.Output.{chain_line, published_text, reply_text, set_line}
+use Rattle.dnssec_record.specs.Output.{chain_line, reply_text, set_line}
 use Rattle.dnssec_script.specs.Script.{AreScript, IsZoneLine, NamesZone, lines_of, says}
 use Rattle.dnssec_record.specs.declared.fault.ScriptFault.{ScriptFault}
 use Rattle.dnssec_record.specs.declared.fault.ScriptFault.TheVariants.{Malformed, Device}
@@ -33,7 +33,6 @@ pub record Follows (name : List ℕ) (calls : List Call) (entries : List Entry) 
     : Type 0 where
   pub records : Records name calls entries zone.recorder
   pub knows : Knows entries zone.judge
-  pub shown : published_text zone.recorder.published ≡ set_line entries
 
 -- the session stands after the last of them
 pub record StandsAfter (name : List ℕ) (calls : List Call) (entries : List Entry) (s : Session)

@@ -15,8 +15,8 @@ pub use dnssec_judge::{
     Broken, Judge, audit, audit_window, plain_runs_pass, records_have_one_verdict, runs_stay_safe,
 };
 pub use dnssec_run::{
-    Call, Entry, Mark, Moments, Outcome, Published, PublishedKey, Recorder, Reply, Run,
-    each_chain_is_one, run, starts_suffice, whole_runs_stay_safe,
+    ByList, Call, Change, Entry, Mark, Moments, Outcome, Published, PublishedKey, Recorder, Reply,
+    Run, each_chain_is_one, run, starts_suffice, whole_runs_stay_safe,
 };
 pub use dnssec_script::{Fields, all_lines};
 pub use dnssec_zone::Part;

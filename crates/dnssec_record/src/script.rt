@@ -136,7 +136,7 @@ fn answer_to(alloc: Global, script: &[u8]) -> Result<String, ScriptFault>
         };
         push_answer(&mut text, &reply)?;
     }
-    zone.push_closing(&mut text)?;
+    zone.push_closing(alloc, &mut text)?;
     Ok(text)
 }
 

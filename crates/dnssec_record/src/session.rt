@@ -9,7 +9,7 @@ ghost use Rattle.dnssec_record.specs.Inner.Zone.{Comes, IsZoneAfter};
 ghost use Rattle.dnssec_record.specs.Courses.{as_listed, ended_by, listed_by};
 ghost use Rattle.dnssec_record.specs.Session.{Advances, Closes, FaultOfZone, Stands, StandsAfter};
 ghost use Rattle.dnssec_record.specs.Session.{Resumes, Takes, Tries};
-ghost use Rattle.dnssec_run.specs.Moments.{moments_of};
+ghost use Rattle.dnssec_run.specs.{Moments.moments_of, Recorder.AreShown};
 ghost use Rattle.dnssec_run.specs.Steps.{AreStepsOf};
 ghost use Rattle.dnssec_run.specs.declared.call.Call.{Call};
 ghost use Rattle.dnssec_run.specs.declared.record.Entry.{Entry};
@@ -265,7 +265,7 @@ impl Session {
             StandsAfter name calls entries self.now → Closes entries (string_bytes text)) }
     {
         let mut text = String::new(alloc);
-        self.zone.push_closing(&mut text)?;
+        self.zone.push_closing(alloc, &mut text)?;
         Ok(text)
     }
 
@@ -277,11 +277,16 @@ impl Session {
     }
 
     /// What is to be published after the calls so far: which keys have a DS, are in the DNSKEY set,
-    /// sign it, and sign the zone.
-    pub fn published(&self) -> &Published
-        ensures { result.now ≡ self.now.zone.recorder.published }
+    /// sign it, and sign the zone. The lists take their memory from `alloc`.
+    ///
+    /// # Errors
+    ///
+    /// Only `OutOfMemory`, if there is no memory for the lists.
+    pub fn published(&self, alloc: Global) -> Result<Published, Error>
+        ensures ok { IfOk result (λ sets. AreShown sets self.now.zone.recorder) }
+        ensures err { IfErr result (λ e. e ≡ OutOfMemory) }
     {
-        self.zone.recorder.published()
+        self.zone.recorder.published(alloc)
     }
 
     /// The keys that the starts of the rolls in progress listed, in the order of the starts: for

@@ -97,7 +97,7 @@ impl ZoneState {
     }
 
     /// Makes the call of `statement`, a line of a script, and answers its reply with the moment
-    /// that it was given. It updates the key set, the published sets and the judge, but not
+    /// that it was given. It updates the key set, what is published and the judge, but not
     /// `courses`: it is for a caller who doesn't ask which keys the rolls listed. A refused call
     /// only counts in the record. If there is no memory to note the call, it fails, and this state
     /// is of no more use.
@@ -115,7 +115,7 @@ impl ZoneState {
     }
 
     /// Makes `call` on the key set, and answers its reply with the moment that it was given. It
-    /// also updates the published sets, the judge, and which keys the rolls listed. A refused call
+    /// also updates what is published, the judge, and which keys the rolls listed. A refused call
     /// counts in the record too, also one that ran out of memory, but changes neither keys nor what
     /// is published.
     ///
@@ -134,10 +134,9 @@ impl ZoneState {
         Ok(made)
     }
 
-    /// Makes `call` on the key set, hands what is then published to the judge, and answers the
-    /// reply with the moment of the call. A refused call only counts in the record. Only `recorder`
-    /// and `judge` change. If there is no memory to note the call, it fails, and this state is of
-    /// no more use.
+    /// Makes `call` on the key set, tells the judge what it changes, and answers the reply with the
+    /// moment of the call. A refused call only counts in the record. Only `recorder` and `judge`
+    /// change. If there is no memory to note the call, it fails, and this state is of no more use.
     fn advance(&mut self, alloc: Global, call: Call<'_>) -> Result<TimedReply, AllocError>
         ensures known { IfOk result (λ made.
             (name : List ℕ) (calls : List Call) (entries : List Entry) →
@@ -148,15 +147,10 @@ impl ZoneState {
         let Ok(outcome) = self.recorder.advance(alloc, call) else {
             return Err(AllocError);
         };
-        let recorder = &self.recorder;
-        let news = recorder.news(&outcome);
-        let noted = self.judge.note_changes(
-            alloc,
-            outcome.mark,
-            outcome.moment,
-            news,
-            &recorder.frames,
-        );
+        let changes = self.recorder.changes();
+        let noted = self
+            .judge
+            .note(alloc, outcome.mark, outcome.moment, changes);
         let Ok(()) = noted else {
             return Err(AllocError);
         };
@@ -227,12 +221,15 @@ impl ZoneState {
     /// Appends to `text` the two lines that end the answers: the sets that are published after the
     /// last call, and the verdict on all calls so far. If memory runs out, it fails, and `text` may
     /// end in a part of this.
-    pub(crate) fn push_closing(&self, text: &mut String) -> Result<(), AllocError>
+    pub(crate) fn push_closing(&self, alloc: Global, text: &mut String) -> Result<(), AllocError>
         ensures { OnOk result ((name : List ℕ) (calls : List Call) (entries : List Entry) →
             Follows name calls entries self.now → (closing : List ℕ)
             × Closes entries closing × (string_bytes text.new ≡ string_bytes text.old ++ closing)) }
     {
-        push_published(text, self.recorder.published())?;
+        let Ok(published) = self.recorder.published(alloc) else {
+            return Err(AllocError);
+        };
+        push_published(text, &published)?;
         push_chain_line(text, self.judge.verdict())?;
         Ok(())
     }

@@ -10,21 +10,22 @@
 -- | `Recorder::new`           | `agrees-new`, `published-new` | Next                         |
 -- | `Adds::put`, `make_tree`  | `puts`, `one-over`            | OneKey, Trees                |
 -- | `Recorder::advance`, `ok` | `records-more`                | Next; the key set's After    |
--- | `renew`, `read`           | `reads-all`                   | Positions                    |
+-- | `read_few`, `read_many`   | `read-found`, `all-moved`     | Moves                        |
 -- | `Recorder::advance`, `ok` | `leaves`                      | Asked                        |
--- | `renew_key`, `read`       | `renewed`                     | OneKey                       |
--- | `KeepsFrames`             | `keeps-with`, `kept-more`     | Around                       |
+-- | `set_in`, `set_in_tree`   | `set-found`, `sets-some`      | OneKey                       |
 -- | `starts_suffice`          | `starts-suffice`              | Starts                       |
 -- | `whole_runs_stay_safe`    | `chain-holds`, `each-holds`   | Chain                        |
 -- | the premise of plain lists| `plain-by-sets`               | Premise                      |
 -- | all laws of runs          | `came`, `goes`, `by-phase`    | Effects                      |
 -- | for callers of `Recorder` | `last-ds` and the like        | Recorded                     |
+-- | `changes_after`           | `leads-on`                    | Leads                        |
+-- | for the judge             | `position-new` and the like   | OneMore                      |
 -- | `Moments`                 | `moments-more`, `latest-is`   | Latest                       |
 -- | `keys_in_order`           | `put_in_order`                | InOrder                      |
 pub mod Since
 pub mod Positions
 pub mod Trees
-pub mod Around
+pub mod Moves
 pub mod OneKey
 pub mod Next
 pub mod Grow
@@ -33,10 +34,18 @@ pub mod Laws
 pub mod Chain
 pub mod WholeRolls
 pub mod Asked
+pub mod ListBits
 pub mod EarlyEnds
 pub mod Premise
 pub mod Starts
 pub mod Recorded
+pub mod Listed
+pub mod Moved
+pub mod Leads
+pub mod OneMore
+pub mod Told
+pub mod Apart
+pub mod Advance
 pub mod Latest
 pub mod Lent
 pub mod InOrder

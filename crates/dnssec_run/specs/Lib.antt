@@ -1,9 +1,12 @@
 pub mod Adds
 pub mod Asked
+pub mod Between
 pub mod ByAlgorithm
 pub mod ByKind
+pub mod ByList
+pub mod Changes
 pub mod EarlyEnds
-pub mod Frames
+pub mod Lists
 pub mod Moments
 pub mod Origins
 pub mod Plain

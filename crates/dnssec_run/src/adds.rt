@@ -1,26 +1,33 @@
-//! The position of each key's add, by its reference.
-ghost use Rattle.std.specs.Prelude.{◌≡◌, ℕ, List, None, Some, IfOk, OnOk, map, string_bytes};
+//! What is known of each key that is there, by its reference.
+ghost use Rattle.std.specs.Prelude.{◌≡◌, ◌++◌, ℕ, List, None, Some, IfOk, OnOk, string_bytes};
 ghost use Rattle.std.specs.Prelude.{if◌then◌else◌};
-ghost use Rattle.std.specs.{BTreeMap.get_by_text, Str.bytes_eq};
-ghost use Rattle.dnssec_run.specs.Adds.{IsAscending, IsInOrder, added_in, in-order-prop};
-ghost use Rattle.dnssec_run.specs.Adds.{position_in};
-ghost use Rattle.dnssec_run.specs.Published.{id_of};
+ghost use Rattle.std.specs.HashMap as hash;
+ghost use Rattle.std.specs.{Option.option_map, Str.bytes_eq};
+ghost use Rattle.dnssec_run.specs.Adds.{IsInOrder, all_changes, changed_by, entries_in, reread};
+ghost use Rattle.dnssec_run.specs.Adds.{in-order-prop, listing_in, new_listing, set_listing};
 
-use crate::copies::copy_keys;
-use crate::record::{FEW, PublishedKey, put_at};
+use crate::few::{copy_of, put_in, read_few, set_in, take_out};
+use crate::listing::{KeyListing, Known};
+use crate::lists::{ByList, Change};
+use crate::many::{list_of, measure, put_in_tree, read_many, set_in_tree, tree_of};
+use crate::walk_order::WalkOrder;
+use dnssec_keyset::Key;
 use std::alloc::{AllocError, Global};
-use std::collections::BTreeMap;
+use std::collections::{BTreeMap, HashMap};
 use std::mem;
 
-/// Keys with the positions of their adds, in the order of their references.
+/// Up to this many keys stand in a list without room to spare.
+pub(crate) const FEW: usize = 8;
+
+/// Keys with what is known of them, in the order of their references.
 #[derive(Drop)]
 pub(crate) enum Kept {
     /// At most `FEW`, in a list without room to spare. A tree takes room for eleven at once.
-    Few(Vec<PublishedKey>),
-    Many(BTreeMap<String, usize>),
+    Few(Vec<Known>),
+    Many(BTreeMap<String, KeyListing>),
 }
 
-/// The position of its add, for each key that is there.
+/// What is known of each key that is there.
 #[derive(Drop)]
 pub(crate) struct Adds {
     pub(crate) kept: Kept,
@@ -30,7 +37,7 @@ pub(crate) struct Adds {
 impl Adds {
     /// No key is there. Keys take their memory from `alloc` as they come.
     pub(crate) fn new(alloc: Global) -> Self
-        ensures { (q : List ℕ) → added_in result.kept q ≡ None }
+        ensures { (q : List ℕ) → listing_in result.kept q ≡ None }
     {
         Adds {
             kept: Kept::Few(Vec::new(alloc)),
@@ -41,59 +48,102 @@ impl Adds {
     /// `alloc`, and fails only if there is none.
     pub(crate) fn try_clone(&self, alloc: Global) -> Result<Self, AllocError>
         ensures { IfOk result (λ copy. (q : List ℕ) →
-            added_in copy.kept q ≡ added_in self.now.kept q) }
+            listing_in copy.kept q ≡ listing_in self.now.kept q) }
     {
         let kept = match &self.kept {
-            Kept::Few(keys) => Kept::Few(copy_keys(alloc, keys)?),
+            Kept::Few(keys) => Kept::Few(copy_of(alloc, keys)?),
             Kept::Many(tree) if tree.len() <= FEW => Kept::Few(list_of(alloc, tree)?),
-            Kept::Many(tree) => Kept::Many(tree.clone()?),
+            Kept::Many(tree) => {
+                let copy = tree.clone()?;
+                measure(&copy);
+                Kept::Many(copy)
+            }
         };
         Ok(Adds { kept })
     }
 
-    /// The position of the add of the key with this reference, or `None` if there is no such key.
-    pub(crate) fn get(&self, reference: &str) -> Option<usize>
-        ensures { result ≡ added_in self.now.kept reference.now }
-    {
-        match &self.kept {
-            Kept::Few(keys) => find(keys, reference),
-            Kept::Many(tree) => tree.get(reference).copied(),
-        }
-    }
-
-    /// Puts the key with this reference in, which was added at position `added`. Other keys stay.
-    /// It fails only if there is no memory, and the keys are then of no more use.
+    /// Puts the key with this reference in, which was added at position `added`, and which no list
+    /// has. Other keys stay. It fails only if there is no memory, and the keys are then of no more
+    /// use.
     pub(crate) fn put(
         &mut self,
         alloc: Global,
         reference: String,
         added: usize,
     ) -> Result<(), AllocError>
-        ensures { OnOk result ((q : List ℕ) → added_in self.new.kept q
-            ≡ (if bytes_eq (string_bytes reference) q then Some added
-            else added_in self.old.kept q)) }
+        ensures { OnOk result ((q : List ℕ) → listing_in self.new.kept q
+            ≡ (if bytes_eq (string_bytes reference) q then Some (new_listing added)
+            else listing_in self.old.kept q)) }
     {
         if self.is_full() {
             self.make_tree(alloc)?;
         }
+        let shown = ByList::NONE;
+        let listing = KeyListing { added, shown };
         match &mut self.kept {
-            Kept::Few(keys) => put_in(keys, reference, added)?,
-            Kept::Many(tree) => {
-                tree.insert(reference, added)?;
-            }
+            Kept::Few(keys) => put_in(keys, reference, listing)?,
+            Kept::Many(tree) => put_in_tree(tree, reference, listing)?,
         }
         Ok(())
     }
 
     /// Takes the key with this reference out, if it is there. Other keys stay.
     pub(crate) fn take(&mut self, reference: &str)
-        ensures { (q : List ℕ) → added_in self.new.kept q
-            ≡ (if bytes_eq reference.now q then None else added_in self.old.kept q) }
+        ensures { (q : List ℕ) → listing_in self.new.kept q
+            ≡ (if bytes_eq reference.now q then None else listing_in self.old.kept q) }
     {
         match &mut self.kept {
             Kept::Few(keys) => take_out(keys, reference),
             Kept::Many(tree) => {
                 tree.remove(reference);
+                measure(tree);
+            }
+        }
+    }
+
+    /// Notes that each list in `touched` has the key with this reference if `is` says so, and else
+    /// doesn't have it. Other lists and other keys stay. Answers what this changes, or `None` if it
+    /// changes nothing, as if there is no such key.
+    #[inline(always)]
+    pub(crate) fn set(&mut self, reference: &str, touched: ByList, is: ByList) -> Option<Change>
+        ensures change { result ≡ changed_by touched is (listing_in self.old.kept reference.now) }
+        ensures set { (q : List ℕ) → listing_in self.new.kept q
+            ≡ (if bytes_eq reference.now q
+            then option_map (set_listing touched is) (listing_in self.old.kept q)
+            else listing_in self.old.kept q) }
+    {
+        match &mut self.kept {
+            Kept::Few(keys) => set_in(keys, reference, touched, is),
+            Kept::Many(tree) => {
+                let change = set_in_tree(tree, reference, touched, is);
+                measure(tree);
+                change
+            }
+        }
+    }
+
+    /// Reads from the flags of each key of the key set which lists have it. Appends to `changes`
+    /// what this changes, in the order of the references. `order` keeps that order for the next
+    /// call. It fails only if there is no memory, and all these are then of no more use.
+    #[inline(always)]
+    pub(crate) fn read(
+        &mut self,
+        alloc: Global,
+        keys: &HashMap<String, Key>,
+        order: &mut WalkOrder,
+        changes: &mut Vec<Change>,
+    ) -> Result<(), AllocError>
+        ensures changes { OnOk result (changes.new.items ≡ changes.old.items
+            ++ all_changes (hash.get_by_text keys.now) (entries_in self.old.kept)) }
+        ensures read { OnOk result ((q : List ℕ) → listing_in self.new.kept q
+            ≡ option_map (reread (hash.get_by_text keys.now q)) (listing_in self.old.kept q)) }
+    {
+        match &mut self.kept {
+            Kept::Few(list) => read_few(keys, list, changes),
+            Kept::Many(tree) => {
+                let read = read_many(alloc, keys, order, tree, changes);
+                measure(tree);
+                read
             }
         }
     }
@@ -110,7 +160,7 @@ impl Adds {
     /// are then of no more use.
     fn make_tree(&mut self, alloc: Global) -> Result<(), AllocError>
         ensures { OnOk result ((q : List ℕ) →
-            added_in self.new.kept q ≡ added_in self.old.kept q) }
+            listing_in self.new.kept q ≡ listing_in self.old.kept q) }
     {
         let kept = mem::replace(&mut self.kept, Kept::Few(Vec::new(alloc)));
         self.kept = match kept {
@@ -119,77 +169,4 @@ impl Adds {
         };
         Ok(())
     }
-}
-
-/// The position of the add of the key with this reference in the list `keys`, if it is there.
-fn find(keys: &[PublishedKey], reference: &str) -> Option<usize>
-    ensures { result ≡ position_in (map id_of keys.now) reference.now }
-{
-    for key in keys {
-        if key.reference.as_str() == reference {
-            return Some(key.added);
-        }
-    }
-    None
-}
-
-/// Puts a key into the list `keys` at its place in the order of the references, in place of the key
-/// that has the same reference, if there is one. The list gets no room to spare. It fails only if
-/// there is no memory, and the list is then as it was.
-fn put_in(keys: &mut Vec<PublishedKey>, reference: String, added: usize) -> Result<(), AllocError>
-    requires { IsAscending (map id_of keys.old.items) }
-    ensures ascending { IsAscending (map id_of keys.new.items) }
-    ensures put { OnOk result ((q : List ℕ) → position_in (map id_of keys.new.items) q
-        ≡ (if bytes_eq (string_bytes reference) q then Some added
-        else position_in (map id_of keys.old.items) q)) }
-{
-    let found = keys.binary_search_by(|key| key.reference.as_str().cmp(reference.as_str()));
-    let key = PublishedKey { added, reference };
-    match found {
-        Ok(place) => keys[place] = key,
-        Err(place) => put_at(keys, place, key)?,
-    }
-    Ok(())
-}
-
-/// Takes the key with this reference out of the list `keys`, if it is there.
-fn take_out(keys: &mut Vec<PublishedKey>, reference: &str)
-    requires { IsAscending (map id_of keys.old.items) }
-    ensures ascending { IsAscending (map id_of keys.new.items) }
-    ensures taken { (q : List ℕ) → position_in (map id_of keys.new.items) q
-        ≡ (if bytes_eq reference.now q then None
-        else position_in (map id_of keys.old.items) q) }
-{
-    if let Ok(place) = keys.binary_search_by(|key| key.reference.as_str().cmp(reference)) {
-        keys.remove(place);
-    }
-}
-
-/// A tree with the keys of a list. It fails only if there is no memory.
-fn tree_of(alloc: Global, keys: Vec<PublishedKey>) -> Result<BTreeMap<String, usize>, AllocError>
-    requires { IsAscending (map id_of keys.items) }
-    ensures { IfOk result (λ tree. (q : List ℕ) →
-        get_by_text tree q ≡ position_in (map id_of keys.items) q) }
-{
-    let mut tree = BTreeMap::new(alloc);
-    for PublishedKey { added, reference } in keys {
-        tree.insert(reference, added)?;
-    }
-    Ok(tree)
-}
-
-/// A list with the keys of a tree, without room to spare. It fails only if there is no memory.
-fn list_of(alloc: Global, tree: &BTreeMap<String, usize>) -> Result<Vec<PublishedKey>, AllocError>
-    ensures ascending { IfOk result (λ keys. IsAscending (map id_of keys.items)) }
-    ensures same { IfOk result (λ keys. (q : List ℕ) →
-        position_in (map id_of keys.items) q ≡ get_by_text tree.now q) }
-{
-    let mut keys = Vec::with_capacity(alloc, tree.len())?;
-    for (reference, added) in tree.iter() {
-        keys.push(PublishedKey {
-            added: *added,
-            reference: reference.clone()?,
-        })?;
-    }
-    Ok(keys)
 }

@@ -3,8 +3,8 @@ ghost use Rattle.std.specs.Prelude.{◌≡◌, IfOk};
 ghost use Rattle.std.specs.Option.{option_map};
 ghost use Rattle.dnssec_keyset.specs.Step.{Step, reply_done, reply_list};
 ghost use Rattle.dnssec_run.specs.Asked.{sets_shown};
-ghost use Rattle.dnssec_run.specs.Recorder.{at_list, put_by, reference_deleted, reference_set};
-ghost use Rattle.dnssec_run.specs.Recorder.{shown_by, taken_by};
+ghost use Rattle.dnssec_run.specs.Recorder.{put_by, reference_deleted, reference_set};
+ghost use Rattle.dnssec_run.specs.{Lists.at_list, Recorder.shown_by, Recorder.taken_by};
 ghost use Rattle.dnssec_run.specs.Record.{call_of, mark_of, call_moment, reference_added, reply_of};
 ghost use Rattle.dnssec_run.specs.declared.lists.Shown.{Shown};
 
@@ -201,29 +201,19 @@ impl<'a> Call<'a> {
             Call::SetPresent { pubref, value, now } => Ok(Meaning {
                 moment: Some(now),
                 reference_set: Some(pubref),
-                sets_shown: ByList {
-                    dnskey: true,
-                    ..ByList::NONE
-                },
+                sets_shown: ByList::DNSKEY,
                 is_shown: Some(value),
                 ..Meaning::NONE
             }),
             Call::SetSigner { pubref, value } => Ok(Meaning {
                 reference_set: Some(pubref),
-                sets_shown: ByList {
-                    dnskey_signers: true,
-                    zone_signers: true,
-                    ..ByList::NONE
-                },
+                sets_shown: ByList::DNSKEY_SIGNERS.with(ByList::ZONE_SIGNERS),
                 is_shown: if value { None } else { Some(false) },
                 ..Meaning::NONE
             }),
             Call::SetAtParent { pubref, value } => Ok(Meaning {
                 reference_set: Some(pubref),
-                sets_shown: ByList {
-                    ds: true,
-                    ..ByList::NONE
-                },
+                sets_shown: ByList::DS,
                 is_shown: Some(value),
                 ..Meaning::NONE
             }),

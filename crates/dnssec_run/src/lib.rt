@@ -5,27 +5,29 @@
 #![tactic(auto)]
 
 mod adds;
+mod between;
 mod caches;
 mod call;
-mod copies;
+mod few;
 mod in_order;
+mod listing;
 mod lists;
+mod many;
 mod moments;
-mod places;
 mod plain;
 mod record;
 mod running;
 mod sets;
 mod walk_order;
 
+pub use between::{changes_after, entry_at, is_other, keys_at};
 pub use caches::{ByKind, SetKind, retires};
 pub use call::Call;
 pub use in_order::keys_in_order;
-pub use lists::Shown;
+pub use lists::{ByList, Change, Shown};
 pub use moments::Moments;
 pub use plain::{each_chain_is_one, starts_suffice, whole_runs_stay_safe};
 pub use record::{
-    Entry, Frame, Frames, LastStep, Mark, Origins, Outcome, Published, PublishedKey, Reply, Run,
-    Steps,
+    Entry, LastStep, Mark, Origins, Outcome, Published, PublishedKey, Reply, Run, Steps,
 };
 pub use running::{Recorder, run};

@@ -1,15 +1,13 @@
 //! What a run leaves: its entries, with what was published at each position, and which sets a call
 //! may have changed, and where. And what the next report of each roll counts from: the roll's last
 //! step, and since when the sets are published that the step left.
-ghost use Rattle.std.specs.Prelude.{◌≡◌, ◌+◌, ◌≤◌, ◌||◌, [], None, Some, map, vec_len};
-ghost use Rattle.std.specs.Prelude.{IfOk, OnErr, OnOk, if◌then◌else◌};
-ghost use Rattle.std.specs.List.{insert, list_any};
+ghost use Rattle.std.specs.Prelude.{◌≡◌, ◌||◌, None, Some, map, if◌then◌else◌};
+ghost use Rattle.std.specs.List.{list_any};
 ghost use Rattle.dnssec_key.specs.declared.roll.RollType.{RollType};
 ghost use Rattle.dnssec_run.specs.Asked.{asked_by, kind_shown, updates};
-ghost use Rattle.dnssec_run.specs.Frames.{frames_in};
 ghost use Rattle.dnssec_run.specs.Origins.{same_ids, same_set, set_at, set_in};
 ghost use Rattle.dnssec_run.specs.Published.{id_of};
-ghost use Rattle.dnssec_run.specs.Recorder.{at_list};
+ghost use Rattle.dnssec_run.specs.Lists.{at_list};
 ghost use Rattle.dnssec_run.specs.Safe.{SetKind as AnyKind, is_step, kind_of, position_at};
 ghost use Rattle.dnssec_run.specs.Steps.{AreStepsOf, origin_in, step_of};
 ghost use Rattle.dnssec_run.specs.declared.lists.Shown.{Shown};
@@ -38,21 +36,20 @@ impl Reply {
         ensures { (list : Shown) → at_list result list
             ≡ (at_list by_hand list || list_any (updates (kind_shown list)) (asked_by self.now)) }
     {
-        let mut lists = by_hand;
+        let mut ds = false;
+        let mut dnskey = false;
+        let mut zone = false;
         if let Reply::Actions(actions) = self {
             for action in actions {
                 match action {
-                    Action::UpdateDsRrset => lists.ds = true,
-                    Action::UpdateDnskeyRrset => {
-                        lists.dnskey = true;
-                        lists.dnskey_signers = true;
-                    }
-                    Action::UpdateRrsig => lists.zone_signers = true,
+                    Action::UpdateDsRrset => ds = true,
+                    Action::UpdateDnskeyRrset => dnskey = true,
+                    Action::UpdateRrsig => zone = true,
                     _ => {}
                 }
             }
         }
-        lists
+        by_hand.with(ByList::by_flags(ds, dnskey, dnskey, zone))
     }
 }
 
@@ -64,28 +61,6 @@ pub struct PublishedKey {
     /// before their references.
     pub added: usize,
     pub reference: String,
-}
-
-/// Up to this many keys stand in a list without room to spare.
-pub(crate) const FEW: usize = 8;
-
-/// Puts `key` into the list `keys` at index `place`, counted from 0. If there is no memory, it
-/// fails, and the list stays as it was.
-pub(crate) fn put_at(
-    keys: &mut Vec<PublishedKey>,
-    place: usize,
-    key: PublishedKey,
-) -> Result<(), AllocError>
-    requires { place ≤ vec_len keys.old }
-    ensures items { OnOk result (keys.new.items ≡ insert keys.old.items place key) }
-    ensures len { OnOk result (vec_len keys.new ≡ vec_len keys.old + 1) }
-    ensures kept { OnErr result (keys.new.items ≡ keys.old.items) }
-{
-    if keys.len() < FEW {
-        keys.reserve_exact(1)?;
-    }
-    keys.insert(place, key)?;
-    Ok(())
 }
 
 /// What is published at a position. Each list is in the order of its references' bytes, and has no
@@ -103,22 +78,6 @@ pub struct Published {
 }
 
 impl Published {
-    /// Four empty lists, since a new zone publishes nothing. They take their memory from `alloc`
-    /// once keys come in.
-    pub(crate) fn none(alloc: Global) -> Published
-        ensures ds { result.ds.items ≡ [] }
-        ensures dnskey { result.dnskey.items ≡ [] }
-        ensures dnskey_signers { result.dnskey_signers.items ≡ [] }
-        ensures zone_signers { result.zone_signers.items ≡ [] }
-    {
-        Published {
-            ds: Vec::new(alloc),
-            dnskey: Vec::new(alloc),
-            dnskey_signers: Vec::new(alloc),
-            zone_signers: Vec::new(alloc),
-        }
-    }
-
     /// The published set of this kind as two lists of keys: its keys, and the keys that sign it.
     /// The second list is empty unless it is the DNSKEY set. For `ZoneSigners` the first one has
     /// the keys that sign the zone.
@@ -130,51 +89,6 @@ impl Published {
             SetKind::Ds => (self.ds.as_slice(), &[]),
             SetKind::Dnskey => (self.dnskey.as_slice(), self.dnskey_signers.as_slice()),
             SetKind::ZoneSigners => (self.zone_signers.as_slice(), &[]),
-        }
-    }
-}
-
-/// What a change of a published list has left: so many keys at its front and at its back are those
-/// of the list before, in their order.
-#[derive(Clone, Copy, Debug, PartialEq, Eq)]
-pub struct Frame {
-    pub front: usize,
-    pub back: usize,
-}
-
-impl Frame {
-    /// Any key may have changed.
-    pub const NONE: Frame = Frame { front: 0, back: 0 };
-}
-
-/// The frames of the four lists of what is published.
-#[derive(Clone, Copy, Debug, PartialEq, Eq)]
-pub struct Frames {
-    pub ds: Frame,
-    pub dnskey: Frame,
-    pub dnskey_signers: Frame,
-    pub zone_signers: Frame,
-}
-
-impl Frames {
-    /// Any key of any list may have changed.
-    pub const NONE: Frames = Frames {
-        ds: Frame::NONE,
-        dnskey: Frame::NONE,
-        dnskey_signers: Frame::NONE,
-        zone_signers: Frame::NONE,
-    };
-
-    /// The frame of the published set of this kind, and that of the keys that sign it: how many
-    /// keys at the front and at the back of each list the change has left. The second is
-    /// `Frame::NONE` unless it is the DNSKEY set.
-    pub fn of(&self, kind: SetKind) -> (Frame, Frame)
-        ensures { result ≡ frames_in (kind_of kind) self.now }
-    {
-        match kind {
-            SetKind::Ds => (self.ds, Frame::NONE),
-            SetKind::Dnskey => (self.dnskey, self.dnskey_signers),
-            SetKind::ZoneSigners => (self.zone_signers, Frame::NONE),
         }
     }
 }

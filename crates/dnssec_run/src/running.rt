@@ -3,43 +3,46 @@ ghost use Rattle.std.specs.Prelude.{◌≡◌, ◌++◌, ◌∷◌, ℕ, List, [
 ghost use Rattle.std.specs.Option.{option_map};
 ghost use Rattle.std.specs.Prelude.{true, false, IsSome, Some, None, if◌then◌else◌};
 ghost use Rattle.dnssec_base.specs.declared.error.Error.TheVariants.{OutOfMemory};
-ghost use Rattle.dnssec_run.specs.Adds.{added_in};
+ghost use Rattle.std.specs.FinMap.{get};
+ghost use Rattle.std.specs.Prelude.{◌≢◌, length};
+ghost use Rattle.dnssec_run.specs.Adds.{listing_in};
 ghost use Rattle.dnssec_run.specs.Asked.{ChangesAsAsked, RetiresAsAsked, asks_to_publish};
 ghost use Rattle.dnssec_run.specs.EarlyEnds.{UndoesStarts};
-ghost use Rattle.dnssec_run.specs.Frames.{KeepsFrames};
+ghost use Rattle.dnssec_run.specs.Changes.{LeadTo};
+ghost use Rattle.dnssec_run.specs.Lists.{lists_said};
 ghost use Rattle.dnssec_run.specs.WholeRolls.{GoesOn, NeverMissesStamp, RollsFinish};
 ghost use Rattle.dnssec_run.specs.WholeRolls.{SettlesBetweenRolls, WaitsExactly};
 ghost use Rattle.dnssec_run.specs.Plain.{StaysSafe};
 ghost use Rattle.dnssec_run.specs.ByAlgorithm.{StaysSafeByEach};
 ghost use Rattle.dnssec_run.specs.Record.{IsRun, KeepsSidesApart};
 ghost use Rattle.dnssec_run.specs.Record.{NeighboursMayBeExchanged, StaysSound, call_of, world_at};
-ghost use Rattle.dnssec_run.specs.Recorder.{HasSameKeys, IsCopyOf, Records, SaysOutcome};
-ghost use Rattle.dnssec_run.specs.Recorder.{positions_after, put_by, reference_set, taken_by};
+ghost use Rattle.dnssec_run.specs.Recorder.{AreShown, IsCopyOf, Records, Renews, SaysOutcome};
+ghost use Rattle.dnssec_run.specs.Recorder.{listing_after, put_by, reference_set, taken_by};
+ghost use Rattle.dnssec_run.specs.Safe.{position_at, position_of};
 ghost use Rattle.dnssec_run.specs.declared.call.Call.{Call};
 ghost use Rattle.dnssec_run.specs.declared.record.Entry.{Entry};
 
 use crate::adds::Adds;
 use crate::call::{Call, KeyChange};
-use crate::copies::copy_sets;
-use crate::record::{Entry, Frames, Mark, Outcome, Published, Reply, Run};
-use crate::sets::renew;
+use crate::lists::{ByList, Change, note_change};
+use crate::record::{Entry, Mark, Outcome, Published, Reply, Run};
 use crate::walk_order::WalkOrder;
 use dnssec_base::Name;
 use dnssec_keyset::{Error, KeySet};
 use std::alloc::{AllocError, Global};
 
-/// Keeps `added`, the position of each key's add by its reference, up to date after the accepted
-/// call at position `at`. `change` is which key the call added or deleted. Answers whether it added
-/// or deleted one. It fails only if there is no memory, and `added` is then of no more use.
+/// Keeps `added`, what is known of each key by its reference, up to date after the accepted call at
+/// position `at`. `change` is which key the call added or deleted. Answers whether it added or
+/// deleted one. It fails only if there is no memory, and `added` is then of no more use.
 fn note(
     alloc: Global,
     added: &mut Adds,
     change: KeyChange<'_>,
     at: usize,
 ) -> Result<bool, AllocError>
-    ensures { OnOk result ((q : List ℕ) → added_in added.new.kept q
-        ≡ positions_after at (put_by change.entry) (taken_by change.entry)
-        (added_in added.old.kept) q) }
+    ensures { OnOk result ((q : List ℕ) → listing_in added.new.kept q
+        ≡ listing_after at (put_by change.entry) (taken_by change.entry)
+        (listing_in added.old.kept) q) }
 {
     match change {
         KeyChange::Adds(reference) => {
@@ -54,18 +57,34 @@ fn note(
     }
 }
 
+/// Which of the four published lists have the key `reference`. If `says` isn't `None`, it is the
+/// answer for each list. Otherwise the flags of the key decide, and no list has a key that isn't in
+/// the key set.
+#[inline(always)]
+fn lists_with(keyset: &KeySet, reference: &str, says: Option<bool>) -> ByList
+    ensures { result ≡ lists_said says (get keyset.now.keys reference.now) }
+{
+    match says {
+        Some(true) => ByList::ALL,
+        Some(false) => ByList::NONE,
+        None => match keyset.keys().get(reference) {
+            Some(key) => ByList::showing(key.keytype()),
+            None => ByList::NONE,
+        },
+    }
+}
+
 /// Makes calls one by one on a new key set, and says what each came to, as `run` records it.
 ///
-/// It keeps no entry, only the sets that are published after the last call. So a caller who needs
-/// only a part of the record, as the answers and a judge's verdict, takes memory for its keys, and
-/// not for each call.
+/// It keeps no entry, only which published lists have which keys after the last call. So a caller
+/// who needs only a part of the record, as the answers and a judge's verdict, takes memory for its
+/// keys, and not for each call.
 ///
 /// ```rust
 /// let mut recorder = Recorder::new(alloc, name);
 /// for call in calls {
 ///     let outcome = recorder.advance(alloc, call)?;
-///     let news = recorder.news(&outcome);
-///     judge.note_changes(alloc, outcome.mark, outcome.moment, news, &recorder.frames)?;
+///     judge.note(alloc, outcome.mark, outcome.moment, recorder.changes())?;
 /// }
 /// ```
 #[derive(Drop)]
@@ -73,10 +92,8 @@ pub struct Recorder {
     keyset: KeySet,
     added: Adds,
     order: WalkOrder,
-    /// What is published.
-    published: Published,
-    /// What stands around the changes of the last call that may have changed what is published.
-    pub frames: Frames,
+    /// What the last call has changed in the published lists.
+    changes: Vec<Change>,
     /// How many calls were made.
     at: usize,
 }
@@ -91,8 +108,7 @@ impl Recorder {
             keyset: KeySet::new(alloc, name),
             added: Adds::new(alloc),
             order: WalkOrder::new(alloc),
-            published: Published::none(alloc),
-            frames: Frames::NONE,
+            changes: Vec::new(alloc),
             at: 0,
         }
     }
@@ -101,8 +117,7 @@ impl Recorder {
     /// sets. A refused call has an outcome too, also one that was refused because memory ran out.
     /// It counts as a position of the record, and changes nothing else.
     ///
-    /// The published sets and `frames` are renewed only after an accepted call that may have
-    /// changed them.
+    /// `changes` then says which keys came into published lists by this call, or left some.
     ///
     /// # Errors
     ///
@@ -113,17 +128,17 @@ impl Recorder {
     pub fn advance(&mut self, alloc: Global, call: Call<'_>) -> Result<Outcome, Error>
         ensures ok { IfOk result (λ outcome.
             (name : List ℕ) (calls : List Call) (entries : List Entry) (entry : Entry) →
-            SaysOutcome entry outcome → HasSameKeys entry.published self.new.published →
+            SaysOutcome entry outcome → AreShown entry.published self.new →
             Records name calls entries self.old →
-            Records name (calls ++ call.entry ∷ []) (entries ++ entry ∷ []) self.new) }
+            Records name (calls ++ call.entry ∷ []) (entries ++ entry ∷ []) self.new
+            × LeadTo self.new.changes.items (position_at entries (length entries))
+            (position_of entry)) }
         ensures kept { IfOk result (λ outcome. outcome.may_publish ≡ false →
-            self.new.published ≡ self.old.published) }
+            self.new.changes.items ≡ []) }
         ensures asked { IfOk result (λ outcome. reference_set (call_of call.entry) ≡ None →
             outcome.may_publish ≡ asks_to_publish outcome.reply) }
         ensures by_hand { IfOk result (λ outcome. IsSome (reference_set (call_of call.entry)) →
-            outcome.may_publish ≡ true → ¬ HasSameKeys self.old.published self.new.published) }
-        ensures frames { IfOk result (λ outcome. outcome.may_publish ≡ true →
-            KeepsFrames self.new.frames self.old.published self.new.published) }
+            outcome.may_publish ≡ true → self.new.changes.items ≢ []) }
         ensures err { IfErr result (λ e. e ≡ OutOfMemory) }
     {
         let Some(at) = self.at.checked_add(1) else {
@@ -132,6 +147,7 @@ impl Recorder {
         let meaning = call.meaning()?;
         let reply = call.make(&mut self.keyset);
         self.at = at;
+        self.changes.clear();
         if let Reply::Refused(_) = &reply {
             return Ok(Outcome {
                 reply,
@@ -142,17 +158,7 @@ impl Recorder {
         }
         self.order.is_stale |= note(alloc, &mut self.added, meaning.change, at)?;
         let touched = reply.touched(meaning.sets_shown);
-        let may_publish = renew(
-            alloc,
-            &self.keyset,
-            &self.added,
-            &mut self.order,
-            &mut self.published,
-            touched,
-            meaning.reference_set,
-            meaning.is_shown,
-            &mut self.frames,
-        )?;
+        let may_publish = self.renew(alloc, touched, meaning.reference_set, meaning.is_shown)?;
         Ok(Outcome {
             reply,
             moment: meaning.moment,
@@ -161,9 +167,50 @@ impl Recorder {
         })
     }
 
-    /// Makes the next call on the key set, and answers its entry of the record, with a copy of what
-    /// is then published. A refused call has an entry too, also one that was refused because memory
-    /// ran out.
+    /// Brings what is known of the keys up to date after an accepted call, and `changes` with it.
+    /// Only the lists in `touched` may have changed.
+    ///
+    /// If the call set a key by hand, `only` is its reference. Then only this key is looked at, and
+    /// the answer is whether a list has changed. `says` is whether the touched lists have this key,
+    /// or `None` if its flags decide. Without `only` all keys are read, and the answer is whether a
+    /// list is touched, so that it may have changed.
+    ///
+    /// It fails only if there is no memory. The recorder is then of no more use.
+    #[inline(always)]
+    fn renew(
+        &mut self,
+        alloc: Global,
+        touched: ByList,
+        only: Option<&str>,
+        says: Option<bool>,
+    ) -> Result<bool, AllocError>
+        requires { self.old.changes.items ≡ [] }
+        ensures keyset { OnOk result (self.new.keyset ≡ self.old.keyset) }
+        ensures at { OnOk result (self.new.at ≡ self.old.at) }
+        ensures renewed { IfOk result (λ changed.
+            Renews (option_map (λ r. r.now) only.entry) touched says self.old.keyset
+            self.old.added.kept self.new.added.kept self.new.changes.items changed) }
+    {
+        if touched.is_none() {
+            return Ok(false);
+        }
+        let Some(reference) = only else {
+            let keys = self.keyset.keys();
+            self.added
+                .read(alloc, keys, &mut self.order, &mut self.changes)?;
+            return Ok(true);
+        };
+        let is = lists_with(&self.keyset, reference, says);
+        let Some(change) = self.added.set(reference, touched, is) else {
+            return Ok(false);
+        };
+        note_change(&mut self.changes, change)?;
+        Ok(true)
+    }
+
+    /// Makes the next call on the key set, and answers its entry of the record, with what is then
+    /// published. A refused call has an entry too, also one that was refused because memory ran
+    /// out.
     ///
     /// # Errors
     ///
@@ -177,7 +224,7 @@ impl Recorder {
         ensures err { IfErr result (λ e. e ≡ OutOfMemory) }
     {
         let outcome = self.advance(alloc, call)?;
-        let published = copy_sets(alloc, &self.published)?;
+        let published = self.published(alloc)?;
         Ok(Entry {
             reply: outcome.reply,
             moment: outcome.moment,
@@ -186,24 +233,24 @@ impl Recorder {
         })
     }
 
-    /// What is published after the calls so far.
-    pub fn published(&self) -> &Published
-        ensures { result.now ≡ self.now.published }
+    /// What is published after the calls so far. The lists take their memory from `alloc`.
+    ///
+    /// # Errors
+    ///
+    /// Only `OutOfMemory`, if there is no memory for the lists.
+    pub fn published(&self, alloc: Global) -> Result<Published, Error>
+        ensures ok { IfOk result (λ sets. AreShown sets self.now) }
+        ensures err { IfErr result (λ e. e ≡ OutOfMemory) }
     {
-        &self.published
+        Ok(self.added.published(alloc)?)
     }
 
-    /// What is published after the calls so far, or `None` if the last call can't have changed it.
-    /// `outcome` is what `advance` answered for that call.
-    pub fn news(&self, outcome: &Outcome) -> Option<&Published>
-        ensures { option_map (λ sets. sets.now) result
-            ≡ (if outcome.now.may_publish then Some self.now.published else None) }
+    /// What the last call has changed in the published lists: the keys that came into some, or left
+    /// some. There is none before the first call, after a refused call, and in a copy.
+    pub fn changes(&self) -> &[Change]
+        ensures { result.now ≡ self.now.changes.items }
     {
-        if outcome.may_publish {
-            Some(&self.published)
-        } else {
-            None
-        }
+        self.changes.as_slice()
     }
 
     /// The key set after the calls so far, to look at.
@@ -230,8 +277,7 @@ impl Recorder {
             keyset: self.keyset.try_clone()?,
             added,
             order: WalkOrder::new(alloc),
-            published: copy_sets(alloc, &self.published)?,
-            frames: self.frames,
+            changes: Vec::new(alloc),
             at: self.at,
         })
     }

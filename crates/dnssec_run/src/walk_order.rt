@@ -1,5 +1,5 @@
 //! The order of the references in a walk over many keys, kept from one call to the next.
-ghost use Rattle.std.specs.Prelude.{◌≡◌, IfOk, string_bytes};
+ghost use Rattle.std.specs.Prelude.{◌≡◌, IfOk, IfSome, string_bytes};
 ghost use Rattle.std.specs.HashMap as hash;
 ghost use Rattle.std.specs.Option.{option_map};
 ghost use Rattle.dnssec_run.specs.Recorder.{AreFound};
@@ -60,23 +60,25 @@ impl WalkOrder {
     }
 }
 
-/// The key with this reference, or `None` if there is none. `entries` are those of a walk over the
-/// keys, and `places` has the places at which the references stand there in their order, by their
-/// rank in it. If the key doesn't stand there, it is looked up.
-pub(crate) fn key_at<'a>(
+/// The key with this reference, with that reference as the key set has it, or `None` if there is
+/// none. `entries` are those of a walk over the keys, and `places` has the places at which the
+/// references stand there in their order, by their rank in it. If the key doesn't stand there, it
+/// is looked up.
+pub(crate) fn entry_at<'a>(
     keys: &'a HashMap<String, Key>,
     entries: &[(&'a String, &'a Key)],
     places: &[usize],
     rank: usize,
     reference: &String,
-) -> Option<&'a Key>
+) -> Option<(&'a String, &'a Key)>
     requires { AreFound (hash.get_by_text keys.now) entries.now }
-    ensures { option_map (λ k. k.now) result
+    ensures key { option_map (λ e. e.1.now) result
         ≡ hash.get_by_text keys.now (string_bytes reference.now) }
+    ensures same { IfSome result (λ e. string_bytes e.0.now ≡ string_bytes reference.now) }
 {
     let place = places.get(rank).copied().unwrap_or(rank);
     match entries.get(place) {
-        Some((found, key)) if **found == *reference => Some(*key),
-        _ => keys.get(reference.as_str()),
+        Some((found, key)) if **found == *reference => Some((*found, *key)),
+        _ => keys.get_key_value(reference.as_str()),
     }
 }

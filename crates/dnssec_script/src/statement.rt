@@ -123,6 +123,8 @@ impl<'a> Lines<'a> {
     /// - `Malformed` with the number of the line if it doesn't have its form. Line 1 is that of the
     ///   zone.
     /// - `OutOfMemory` if there is no memory for its call. A line that makes no call takes none.
+    // Inline, so that a program that reads scripts in several places takes no longer for a line.
+    #[inline(always)]
     pub fn next(&mut self, alloc: Global) -> Result<Option<Statement<'a>>, ReadFault>
         ensures ok { IfOk result (λ found. (script name : List ℕ) (calls : List Call) →
             HasRead script name calls self.old → ReadsOn script name calls self.new found) }

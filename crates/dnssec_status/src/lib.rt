@@ -60,13 +60,10 @@ pub fn status(alloc: Global, session: &Session) -> Result<Vec<u8>, AllocError>
     let mut out = Vec::new(alloc);
     let keyset = session.keyset();
     let zone = format!(in alloc; "{}", keyset.name())?;
-    push_zone(
-        alloc,
-        &mut out,
-        &zone,
-        session.verdict(),
-        session.published(),
-    )?;
+    let Ok(sets) = session.published(alloc) else {
+        return Err(AllocError);
+    };
+    push_zone(alloc, &mut out, &zone, session.verdict(), &sets)?;
     let listings = Listings::of(alloc, session.listed())?;
     let keys = keys_in_order(alloc, keyset.keys())?;
     let rolls = in_progress(alloc, keyset)?;

@@ -133,12 +133,32 @@ const DS: Row = (Mark::Other, None, &[("K", 1)], DNSKEY);
 
 const STRANGERS_DS: Row = (Mark::Other, None, &[("K", 9)], DNSKEY);
 
+/// No run leaves these: a key says that it was added at position 0, where no call stands, and the
+/// keys of a list change places.
+const UNADDED_DS: Row = (Mark::Other, None, &[("K", 0)], DNSKEY);
+
+const UNADDED_KEY: Row = (
+    Mark::Other,
+    None,
+    &[("K", 1)],
+    &[("K", 1), ("L", 0), ("Z", 2)],
+);
+
+const OTHER_PLACES: Row = (Mark::Other, None, &[], &[("Z", 2), ("K", 1)]);
+
 /// Entries by hand, and where their record breaks.
 const BY_HAND: &[(&[Row], Option<Positions>)] = &[
     (&[START, REPORT, DS], None),
     (&[START, REPORT, STRANGERS_DS], Some([3, 3, 1, 1])),
     (&[START, LAST_REPORT, DS], None),
     (&[START, LAST_REPORT_TTL_1, DS], Some([3, 3, 0, 0])),
+    (&[START, REPORT, UNADDED_DS], Some([3, 3, 1, 1])),
+    (&[START, REPORT, UNADDED_KEY], None),
+    (&[START, REPORT, OTHER_PLACES, DS], None),
+    (
+        &[START, REPORT, OTHER_PLACES, STRANGERS_DS],
+        Some([4, 4, 1, 1]),
+    ),
 ];
 
 /// Where each audit says that a record breaks.

@@ -1,19 +1,13 @@
 -- A window over a table with more keys, or with fewer that no set has, for the judge.
-use Rattle.std.proofs.Common.{◌≡◌, ℕ, ◌≤◌, inl, inr, true, ◌∙◌, ap, arith, List, subst, Some}
-use Rattle.std.proofs.Common.{◌∷◌, []}
-use Rattle.std.proofs.lemmas.Bool.{or_left, or_right, cases_lt}
+use Rattle.dnssec_judge.proofs.Base.{[], ℕ, ◌||◌, ◌∙◌, ◌∷◌, ◌≡◌, ◌≤◌, ap, arith, Begins, cases_lt}
+use Rattle.dnssec_judge.proofs.Base.{Contains, Entry, floor_up_to, has_bit, Id, in_window, inl, inr}
+use Rattle.dnssec_judge.proofs.Base.{Keys, List, Numbered, or_left, or_right, SetKind, Span}
+use Rattle.dnssec_judge.proofs.Base.{spans_of, Stands, Tiles, time_at, true, Watches, Window}
+use Rattle.dnssec_judge.proofs.{Means.means-on, Verdicts.Floors.retired-below}
+use Rattle.dnssec_run.proofs.Chain.History.{never-gone-now}
 use Rattle.std.proofs.lemmas.List.Elements.{Contains-append_left, Contains-append_right}
-use Rattle.std.proofs.lemmas.List.{Elements.Contains-push, Folds.list_any-from_Any}
-use Rattle.std.specs.{Prelude.◌||◌, List.Contains}
-use Rattle.dnssec_run.{specs.Safe.time_at, proofs.Chain.History.never-gone-now}
-use Rattle.dnssec_run.specs.{declared.record.Entry.Entry, Safe.SetKind, Published.Id}
-use Rattle.dnssec_judge.proofs.Verdicts.Floors.{retired-below}
-use Rattle.dnssec_judge.specs.Inner.{Floor.floor_up_to, Spans.Begins, Spans.Tiles, Window.Watches}
-use Rattle.dnssec_judge.specs.Numbers.{Grows, IsTable, Means, StandFor, key_at}
-use Rattle.dnssec_judge.specs.{Inner.Window.in_window, Inner.Window.spans_of, Bits.has_bit}
-use Rattle.dnssec_judge.specs.declared.window.{spans.Span.Span, Window.Window}
-use Rattle.dnssec_judge.specs.declared.sets.numbers.Numbers.{Numbers}
-use Rattle.dnssec_judge.{proofs.Means.means-on, proofs.Table.stand-by, specs.Sets.Numbered}
+use Rattle.std.proofs.lemmas.List.Elements.{Contains-push}
+use Rattle.std.proofs.lemmas.List.Folds.{list_any-from_Any}
 
 -- a floor is a position so far
 floor-within : (entries : List Entry) (kind : SetKind) (n : ℕ)
@@ -23,9 +17,9 @@ floor-within entries kind n = elim (cases_lt n (floor_up_to entries kind (time_a
   | inr ge ↦ omega arith
 ]
 
-pub low : (es : List Entry) (kind : SetKind) (n : ℕ) (t : Numbers) (w : Window)
-    → Watches es kind n t w → w.floor ≤ n
-low es kind n t w h = omega (arith, h.floor, floor-within es kind n)
+pub low : (es : List Entry) (kind : SetKind) (n : ℕ) (key : Keys) (w : Window)
+    → Watches es kind n key w → w.floor ≤ n
+low es kind n key w h = omega (arith, h.floor, floor-within es kind n)
 
 -- the set of a position is that of a span
 set-from : (at : ℕ → Numbered) (n q : ℕ) (s : Span) (ss : List Span) → Tiles at n (s ∷ ss)
@@ -45,48 +39,28 @@ set-there at n floor q (s ∷ []) b h ge le = set-from at n q s [] h (omega (ari
 set-there at n floor q (s ∷ t ∷ ss) b h ge le =
     set-from at n q s (t ∷ ss) h (omega (arith, b.0, ge)) le
 
--- a window watches the same over another table, if the keys of its sets keep their numbers
-module _ (es : List Entry) (kind : SetKind) (n : ℕ) (t u : Numbers) (w : Window)
-    (table : IsTable t)
-    (kept : (m : ℕ) (k : Id) → in_window w m ≡ true → key_at t m ≡ Some k → key_at u m ≡ Some k)
-    (h : Watches es kind n t w) where
+-- a window watches the same by other keys, if those of its sets keep their numbers
+module _ (es : List Entry) (kind : SetKind) (n : ℕ) (key other : Keys) (w : Window)
+    (kept : (m : ℕ) (k : Id) → in_window w m ≡ true → Stands key m k → Stands other m k)
+    (h : Watches es kind n key w) where
   in-use : (q : ℕ) → w.floor ≤ q → q ≤ n → (m : ℕ) (k : Id)
       → (has_bit (h.numbered q).0 m || has_bit (h.numbered q).1 m) ≡ true
-      → key_at t m ≡ Some k → key_at u m ≡ Some k
+      → Stands key m k → Stands other m k
   in-use q ge le m k b =
       let g = set-there h.numbered n w.floor q (spans_of w) h.begins h.spans ge le in
       kept m k (list_any-from_Any (λ s. has_bit s.set.0 m || has_bit s.set.1 m) (spans_of w)
       (g.1.0, g.0, g.1.1, g.1.2, ap (λ (p : Numbered). has_bit p.0 m || has_bit p.1 m) g.2 ∙ b))
 
-  -- a list of numbers stands for its keys still, if each has its bit
-  listed : (words : List ℕ) (keys : List Id) (ns : List ℕ) → Means t words keys
-      → ((m : ℕ) (k : Id) → has_bit words m ≡ true → key_at t m ≡ Some k → key_at u m ≡ Some k)
-      → StandFor t ns keys → StandFor u ns keys
-  listed words keys ns means on = stand-by t u ns keys (λ m k c e. (let i = means.all k c in
-      on m k (subst (λ x. has_bit words x ≡ true) (table.apart i.0 m k i.2 e) i.1) e))
-
-  pub watches-on : Watches es kind n u w
-  watches-on =
-      let first = low es kind n t w h in
-      let means = h.means n first (omega arith) in let last = in-use n first (omega arith) in
-      record {
-        floor = h.floor;
-        dues = h.dues;
-        means = λ q ge le. (
-          means-on t u _ _ (λ m k b. in-use q ge le m k (or_left _ _ b)) (h.means q ge le).0,
-          means-on t u _ _ (λ m k b. in-use q ge le m k (or_right _ _ b)) (h.means q ge le).1,
-        );
-        numbered = h.numbered;
-        spans = h.spans;
-        begins = h.begins;
-        last = (
-          listed _ _ _ means.0 (λ m k b. last m k (or_left _ _ b)) h.last.0,
-          listed _ _ _ means.1 (λ m k b. last m k (or_right _ _ b)) h.last.1,
-        );
-        came_at = h.came_at;
-      }
-
--- so if all keys keep theirs
-pub watches-grow : (es : List Entry) (kind : SetKind) (n : ℕ) (t u : Numbers) (w : Window)
-    → IsTable t → Grows t u → Watches es kind n t w → Watches es kind n u w
-watches-grow es kind n t u w table grows = watches-on es kind n t u w table (λ m k b. grows m k)
+  pub watches-on : Watches es kind n other w
+  watches-on = record {
+    floor = h.floor;
+    dues = h.dues;
+    means = λ q ge le. (
+      means-on key other _ _ (λ m k b. in-use q ge le m k (or_left _ _ b)) (h.means q ge le).0,
+      means-on key other _ _ (λ m k b. in-use q ge le m k (or_right _ _ b)) (h.means q ge le).1,
+    );
+    numbered = h.numbered;
+    spans = h.spans;
+    begins = h.begins;
+    came_at = h.came_at;
+  }

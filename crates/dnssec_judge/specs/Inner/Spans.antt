@@ -25,6 +25,12 @@ came [] = 0
 came (s ∷ []) = s.from
 came (s ∷ t ∷ ss) = came (t ∷ ss)
 
+-- and its set
+abbrev pub latest : List Span → Numbered
+latest [] = (0 ∷ [], 0 ∷ [])
+latest (s ∷ []) = s.set
+latest (s ∷ t ∷ ss) = latest (t ∷ ss)
+
 -- the span before the first call: nothing is published
 abbrev pub first_span : Span
 first_span = record { from = 0; set = (0 ∷ [], 0 ∷ []) }
@@ -64,6 +70,11 @@ pairs_hold holds ps qs = all_in ps (λ p. all_in qs (holds p))
 abbrev pub new_hold : ℕ → (Numbered → Numbered → Bool) → List Span → List Span → Bool
 new_hold tested holds ps qs =
     list_all (λ p. nat_lt p.from tested || all_in qs (holds p.set)) ps
+
+-- each set is that of a span that came before this position
+abbrev pub AreOld : ℕ → List Span → Type 0
+AreOld tested ss = (s : Span) → Contains ss s →
+    (t : Span) × Contains ss t × (t.from < tested) × (t.set ≡ s.set)
 
 -- any two that came before this position pass the test
 abbrev pub PairsTested : ℕ → (Numbered → Numbered → Bool) → List Span → List Span → Type 0

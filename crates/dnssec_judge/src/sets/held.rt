@@ -1,9 +1,9 @@
 //! A set that caches may hold, by bits of the numbers of its keys.
 ghost use Rattle.std.specs.Prelude.{◌≡◌, ◌&&◌, ◌||◌, ◌∷◌, ℕ, List, [], false, true, nat_eq};
-ghost use Rattle.std.specs.Prelude.{◌≤◌, ◌/◌, if◌then◌else◌};
-ghost use Rattle.std.specs.{List.list_any, Prelude.IfOk, Prelude.OnOk};
+ghost use Rattle.std.specs.Prelude.{◌≤◌, ◌<◌, ◌/◌, if◌then◌else◌};
+ghost use Rattle.std.specs.{Prelude.IfOk, Prelude.OnOk};
 ghost use Rattle.dnssec_judge.specs.Bits.{HasSome, all_at, has, has_bit, has_none, meet_three};
-ghost use Rattle.dnssec_judge.specs.Bits.{in_word, rest_of, word_at, words_of};
+ghost use Rattle.dnssec_judge.specs.Bits.{drafted, in_word, rest_of, word_at, words_of};
 ghost use Rattle.dnssec_judge.specs.Inner.Spans.{IsWithin};
 ghost use Rattle.dnssec_judge.specs.Sets.{keys_hold, sets_have_chain, zone_holds};
 
@@ -27,7 +27,7 @@ pub(crate) fn is_in_word(word: u64, number: usize) -> bool
 #[derive(Debug, Drop)]
 pub(crate) struct Bits {
     /// The numbers below 64.
-    first: u64,
+    pub(super) first: u64,
     /// The others, in words of 64 numbers. None if no such number was ever in the set.
     pub(super) rest: Option<ArcSlice<u64>>,
 }
@@ -67,89 +67,6 @@ impl Bits {
         rest: None,
     };
 
-    /// The set of these `numbers`. A number that stands there twice is in it once. It fails only if
-    /// there is no memory.
-    pub(crate) fn of(alloc: Global, numbers: &[usize]) -> Result<Self, AllocError>
-        ensures { IfOk result (λ bits. (n : ℕ) →
-            has bits n ≡ list_any (λ number. nat_eq number n) numbers.now) }
-    {
-        let mut first = 0;
-        let mut rest = Vec::new(alloc);
-        for number in numbers {
-            let bit = 1u64 << (*number % WORD);
-            let Some(index) = (*number / WORD).checked_sub(1) else {
-                first |= bit;
-                continue;
-            };
-            let len = rest.len().max(index + 1);
-            rest.resize(len, 0)?;
-            rest[index] |= bit;
-        }
-        if rest.is_empty() {
-            return Ok(Bits { first, rest: None });
-        }
-        let rest = Some(ArcSlice::from_vec(rest)?);
-        Ok(Bits { first, rest })
-    }
-
-    /// This set with `number` in it if `is_in`, or else without it. Copies of this set stay as they
-    /// are. If `number` is 64 or more and the words from 64 on are `older` again, it shares these,
-    /// so that a key which leaves a set and comes back takes no more memory. It fails only if there
-    /// is no memory.
-    #[inline(always)]
-    pub(crate) fn with(
-        &self,
-        alloc: Global,
-        number: usize,
-        is_in: bool,
-        older: &Option<ArcSlice<u64>>,
-    ) -> Result<Self, AllocError>
-        ensures { IfOk result (λ bits. (n : ℕ) → has bits n
-            ≡ (if nat_eq number n then is_in else has self.now n)) }
-    {
-        if number >= WORD {
-            let bits = self.with_word(alloc, number, is_in)?;
-            if bits.rest == *older {
-                let rest = share(older)?;
-                return Ok(Bits {
-                    first: bits.first,
-                    rest,
-                });
-            }
-            return Ok(bits);
-        }
-        let mut bits = self.clone()?;
-        let bit = 1u64 << number;
-        if is_in {
-            bits.first |= bit;
-        } else {
-            bits.first &= !bit;
-        }
-        Ok(bits)
-    }
-
-    /// The same for a `number` from 64 on, with words of its own.
-    #[inline(never)]
-    fn with_word(&self, alloc: Global, number: usize, is_in: bool) -> Result<Self, AllocError>
-        requires { 64 ≤ number }
-        ensures { IfOk result (λ bits. (n : ℕ) → has bits n
-            ≡ (if nat_eq number n then is_in else has self.now n)) }
-    {
-        let index = number / WORD - 1;
-        let len = self.rest().len().max(index + 1);
-        let mut rest = Vec::with_capacity(alloc, len)?;
-        rest.extend_from_slice(self.rest())?;
-        rest.resize(len, 0)?;
-        let bit = 1u64 << (number % WORD);
-        let old = rest[index];
-        let word = if is_in { old | bit } else { old & !bit };
-        rest[index] = word;
-        Ok(Bits {
-            first: self.first,
-            rest: Some(ArcSlice::from_vec(rest)?),
-        })
-    }
-
     /// The numbers that are in this set and in `other`. It fails only if there is no memory.
     #[inline(always)]
     pub(crate) fn common(&self, alloc: Global, other: &Bits) -> Result<Self, AllocError>
@@ -176,6 +93,14 @@ impl Bits {
         self.rest.is_none() && self.first & other.first == self.first
     }
 
+    /// Whether it is seen at once that `other` has the same numbers: all are below 64.
+    #[inline(always)]
+    fn is_same(&self, other: &Bits) -> bool
+        ensures { result ≡ true → words_of self.now ≡ words_of other.now }
+    {
+        self.rest.is_none() && other.rest.is_none() && self.first == other.first
+    }
+
     /// The words of the numbers from 64 on.
     #[inline(always)]
     fn rest(&self) -> &[u64]
@@ -185,6 +110,17 @@ impl Bits {
             Some(rest) => rest.as_slice(),
             None => &[],
         }
+    }
+
+    /// A copy of these words, with room for the one of this index. It fails only if there is no
+    /// memory.
+    fn rest_for(&self, alloc: Global, index: usize) -> Result<Vec<u64>, AllocError>
+        ensures { IfOk result (λ words. words.items ≡ rest_of self.now.rest) }
+    {
+        let len = self.rest().len().max(index.saturating_add(1));
+        let mut rest = Vec::with_capacity(alloc, len)?;
+        rest.extend_from_slice(self.rest())?;
+        Ok(rest)
     }
 
     /// The word of this index: a bit for each number from 64 times the index on. It is 0 past the
@@ -207,6 +143,107 @@ impl Bits {
             return true;
         }
         do_all_meet(self.rest(), one.rest(), other.rest())
+    }
+}
+
+/// The first word of a set with this `number`, which is below 64, if `is_in`, or else without it.
+#[inline(always)]
+pub(super) fn put(first: u64, number: usize, is_in: bool) -> u64
+    requires { number < 64 }
+    ensures { (n : ℕ) (rest : List ℕ) → has_bit (result ∷ rest) n
+        ≡ (if nat_eq number n then is_in else has_bit (first ∷ rest) n) }
+{
+    let bit = 1u64 << number;
+    if is_in { first | bit } else { first & !bit }
+}
+
+/// A set while it is written over another one, its base: numbers are put in or taken out.
+#[derive(Debug, Drop)]
+pub(crate) struct BitsDraft {
+    first: u64,
+    /// The words from 64 on. None as long as they are those of the base.
+    rest: Option<Vec<u64>>,
+}
+
+impl BitsDraft {
+    /// The set `base`, of which nothing is written yet.
+    #[inline(always)]
+    pub(crate) fn of(base: &Bits) -> Self
+        ensures { drafted base.now result ≡ words_of base.now }
+    {
+        BitsDraft {
+            first: base.first,
+            rest: None,
+        }
+    }
+
+    /// Puts `number` into the set if `is_in`, or else takes it out. It fails only if there is no
+    /// memory.
+    #[inline(always)]
+    pub(crate) fn put(
+        &mut self,
+        alloc: Global,
+        base: &Bits,
+        number: usize,
+        is_in: bool,
+    ) -> Result<(), AllocError>
+        ensures { OnOk result ((n : ℕ) → has_bit (drafted base.now self.new) n
+            ≡ (if nat_eq number n then is_in else has_bit (drafted base.now self.old) n)) }
+    {
+        if number >= WORD {
+            self.put_far(alloc, number, is_in, base)?;
+            return Ok(());
+        }
+        self.first = put(self.first, number, is_in);
+        Ok(())
+    }
+
+    /// The same for a `number` from 64 on, with words of its own.
+    #[inline(never)]
+    fn put_far(
+        &mut self,
+        alloc: Global,
+        number: usize,
+        is_in: bool,
+        base: &Bits,
+    ) -> Result<(), AllocError>
+        requires { 64 ≤ number }
+        ensures { OnOk result ((n : ℕ) → has_bit (drafted base.now self.new) n
+            ≡ (if nat_eq number n then is_in else has_bit (drafted base.now self.old) n)) }
+    {
+        let index = number / WORD - 1;
+        let mut rest = match self.rest.take() {
+            Some(rest) => rest,
+            None => base.rest_for(alloc, index)?,
+        };
+        let len = rest.len().max(index + 1);
+        rest.resize(len, 0)?;
+        let bit = 1u64 << (number % WORD);
+        let old = rest[index];
+        let word = if is_in { old | bit } else { old & !bit };
+        rest[index] = word;
+        self.rest = Some(rest);
+        Ok(())
+    }
+
+    /// The set that was written over `base`. If words were written, and they are those of `older`
+    /// again, it shares these, so that a key which leaves a set and comes back takes no more
+    /// memory. It fails only if there is no memory.
+    #[inline(always)]
+    pub(crate) fn end(self, base: &Bits, older: &Bits) -> Result<Bits, AllocError>
+        ensures { IfOk result (λ bits. words_of bits ≡ drafted base.now self) }
+    {
+        let first = self.first;
+        let Some(words) = self.rest else {
+            let rest = share(&base.rest)?;
+            return Ok(Bits { first, rest });
+        };
+        let rest = Some(ArcSlice::from_vec(words)?);
+        if rest == older.rest {
+            let rest = share(&older.rest)?;
+            return Ok(Bits { first, rest });
+        }
+        Ok(Bits { first, rest })
     }
 }
 
@@ -271,6 +308,14 @@ impl OpenSet {
         ensures { result ≡ true → IsWithin self.now other.now }
     {
         self.keys.is_within(&other.keys) && self.signers.is_within(&other.signers)
+    }
+
+    /// Whether it is seen at once that `other` has the same keys and the same signers.
+    #[inline(always)]
+    pub(crate) fn is_same(&self, other: &OpenSet) -> bool
+        ensures { result ≡ true → self.now ≡ other.now }
+    {
+        self.keys.is_same(&other.keys) && self.signers.is_same(&other.signers)
     }
 
     /// The word of this index, with a bit for each key that is in the set, or signs it.

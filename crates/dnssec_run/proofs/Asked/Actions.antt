@@ -13,7 +13,7 @@ use Rattle.dnssec_run.specs.Asked.{kind_shown, update_of, report_of, updates, fl
 use Rattle.dnssec_run.specs.Asked.{sets_flag, sets_shown}
 use Rattle.dnssec_run.specs.Safe.{SetKind, retires}
 use Rattle.dnssec_run.specs.WholeRolls.{propagation}
-use Rattle.dnssec_run.specs.{declared.lists.Shown.Shown, Recorder.reference_set, Recorder.shows}
+use Rattle.dnssec_run.specs.{declared.lists.Shown.Shown, Lists.shows, Recorder.reference_set}
 use Rattle.dnssec_zone.proofs.Flags.{started, ended}
 use Rattle.dnssec_keyset.specs.Step as keyset
 

@@ -13,9 +13,9 @@ use Rattle.dnssec_zone.specs.{Lists.listed_by, Refusals.setting_refusal, Start.i
 use Rattle.dnssec_keyset.{specs.KeySet.KeySetParts, proofs.Accepted.gone_key, proofs.Laws.no_cause}
 use Rattle.dnssec_run.specs.Asked.{asked_by, asks_to_publish, flag_shown, kind_shown, updates}
 use Rattle.dnssec_run.specs.Asked.{sets_shown, SamePublished, ChangesAsAsked}
-use Rattle.dnssec_run.specs.Published.{Id, IsPublished, World, keys_where}
+use Rattle.dnssec_run.specs.Published.{IsPublished, World, keys_where}
 use Rattle.dnssec_run.specs.Record.{IsRun, added_by, call_of, reply_of, is_accepted, world_at}
-use Rattle.dnssec_run.specs.Safe.{Position, SetKind, Ds, Dnskey, ZoneSigners, position_at}
+use Rattle.dnssec_run.specs.Safe.{SetKind, Ds, Dnskey, ZoneSigners, position_at}
 use Rattle.dnssec_run.specs.Safe.{position_of, blank}
 use Rattle.dnssec_run.proofs.Asked.Actions.{asks_update, idle-unseen, no-flag, roll-asks}
 use Rattle.dnssec_run.proofs.Asked.Actions.{set-stays, unset, wait-asks}
@@ -23,9 +23,9 @@ use Rattle.dnssec_run.proofs.Effects.{accepted_step, added-free, added-same, end
 use Rattle.dnssec_run.proofs.Effects.{moved_key, passing-moved, put_at, refused_step, start-kind}
 use Rattle.dnssec_run.proofs.Positions.{passing, same-shown, shown-none}
 use Rattle.dnssec_run.specs.declared.{call.Call.Call, record.Entry.Entry, record.Reply.Reply}
-use Rattle.dnssec_run.specs.declared.lists.{ByList.ByList, Shown.Shown}
-use Rattle.dnssec_run.specs.Recorder.{Leaves, SaysShown, at_list, reference_set, shown_after}
-use Rattle.dnssec_run.specs.Recorder.{shown_by, shows}
+use Rattle.dnssec_run.specs.{ByList.ByList, declared.lists.Shown.Shown}
+use Rattle.dnssec_run.specs.Recorder.{Leaves, SaysShown, reference_set, shown_after, shown_by}
+use Rattle.dnssec_run.specs.{Changes.list_at, Lists.any_list, Lists.at_list, Lists.shows}
 use Rattle.dnssec_run.proofs.Chain.Trust.{adds_blank}
 use Rattle.dnssec_run.proofs.{Chain.Trust.plainly, Laws.made-at, WholeRolls.Replies.added-next}
 use Rattle.dnssec_zone.specs.Wait as waits
@@ -45,7 +45,7 @@ due_by r = grind arith
 pub touches-asked : (c : keyset.Call) (r : Reply) (hand t : ByList) → reference_set c ≡ None
     → ((s : Shown) → at_list hand s ≡ sets_shown s c) → ((s : Shown)
     → at_list t s ≡ (at_list hand s || list_any (updates (kind_shown s)) (asked_by r)))
-    → (t.ds || t.dnskey || t.dnskey_signers || t.zone_signers) ≡ asks_to_publish r
+    → any_list t ≡ asks_to_publish r
 touches-asked c r hand t none shown asked = by t (is lists.Ds) (is lists.Dnskey)
     (is lists.DnskeySigners) (is lists.ZoneSigners)
   where
@@ -117,7 +117,7 @@ module _ (n : ℕ) (w v : World) (c : Call) (r : Reply)
   ]
 
   -- and a key that was there is the same
-  places : (q : List ℕ) (k : KeyParts) → get w.set.keys q ≡ Some k → v.added q ≡ w.added q
+  pub places : (q : List ℕ) (k : KeyParts) → get w.set.keys q ≡ Some k → v.added q ≡ w.added q
   places q k there = ap (λ f. f q) added ∙ added-same n c r w.added w.set
       (λ t. (accepted_step w.set v.set (call_of c) r t step).0) q k there
 
@@ -127,12 +127,7 @@ module _ (n : ℕ) (w v : World) (c : Call) (r : Reply)
   -- so a list that isn't touched is the same
   pub leaves : (touched : ByList) → ((s : Shown) → at_list touched s ≡ false → Passes s)
       → Leaves touched w v
-  leaves touched calm = record {
-    ds = λ no. same-list lists.Ds (calm lists.Ds no);
-    dnskey = λ no. same-list lists.Dnskey (calm lists.Dnskey no);
-    dnskey_signers = λ no. same-list lists.DnskeySigners (calm lists.DnskeySigners no);
-    zone_signers = λ no. same-list lists.ZoneSigners (calm lists.ZoneSigners no);
-  }
+  leaves touched calm list none = keys list (calm list none)
 
 -- ---- a setter
 
@@ -162,16 +157,10 @@ says-shown old new _ r touched ok step at = tt
 
 -- ---- the lists of a position
 
-abbrev pub list_at : Shown → Position → List Id
-list_at lists.Ds p = p.ds
-list_at lists.Dnskey p = p.dnskey
-list_at lists.DnskeySigners p = p.signers
-list_at lists.ZoneSigners p = p.zone
-
-blank-list : (s : Shown) → list_at s blank ≡ []
+pub blank-list : (s : Shown) → list_at s blank ≡ []
 blank-list s = grind arith
 
-entry-list : (s : Shown) (e : Entry) (w : World) → IsPublished e.published w
+pub entry-list : (s : Shown) (e : Entry) (w : World) → IsPublished e.published w
     → list_at s (position_of e) ≡ keys_where (shows s) w
 entry-list s e w p = grind arith
 

@@ -6,7 +6,7 @@ use Rattle.dnssec_run.specs.Record.{world_at}
 use Rattle.std.specs.Prelude.{IsPermutation}
 use Rattle.dnssec_record.specs.Courses.{Listing, listed_by}
 use Rattle.dnssec_status.specs.Status.{state_json, status_text, zone_json}
-use Rattle.dnssec_run.specs.InOrder.{entry_of}
+use Rattle.dnssec_run.{specs.InOrder.entry_of, proofs.Recorded.shown-published}
 use Rattle.dnssec_status.specs.{Inner.Entries.entry_json, Json.array_json}
 use Rattle.dnssec_status.specs.{Keys.key_json, Rolls.AreGoing}
 use Rattle.dnssec_status.specs.declared.rolls.RollInProgress.{RollInProgress}
@@ -39,8 +39,9 @@ returns c name calls entries stands =
       is_world = refl;
       verdict = c.verdict.result;
       is_verdict = c.verdict.ensures name calls entries stands;
-      sets = s.zone.recorder.published;
-      are_published = stands.follows.records.published;
+      sets = c.in-Ok.sets;
+      are_published = shown-published name calls entries s.zone.recorder stands.follows.records
+          c.in-Ok.sets c.in-Ok.ensures.ok;
       rolls = c.deref-2.result.now;
       are_rolls = subst (λ (rolls : List RollInProgress).
           AreGoing (world_at name calls entries (length calls)).set rolls)
@@ -49,5 +50,5 @@ returns c name calls entries stands =
           (record { all = c.in_ok-rolls.ensures.all; ends = c.in_ok-rolls.ensures.ends }));
       is_text =
           simp (c.in_ok-push_rest.ensures, c.in_ok-push_zone.ensures, c.new-out.ensures.items)
-          (simp (named, c.published.ensures, keys, ended, same));
+          (simp (named, keys, ended, same));
     }

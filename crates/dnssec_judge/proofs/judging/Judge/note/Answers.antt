@@ -1,30 +1,81 @@
--- Without frames any set may follow any other.
-use Rattle.std.proofs.Common.{List, Option, None, Some}
-use Rattle.std.specs.Option.{option_map}
-use Rattle.dnssec_run.specs.declared.record.{Frames.Frames, Published.Published}
-use Rattle.dnssec_run.specs.{Safe.Ds, Safe.Dnskey, Safe.ZoneSigners, declared.record.Entry.Entry}
-use Rattle.dnssec_run.{specs.Origins.CachedSet, specs.Origins.set_in, proofs.Around.keeps-none}
-use Rattle.dnssec_run.specs.Frames.{no_frame}
-use Rattle.dnssec_judge.specs.{Inner.Window.KeepsNext, Judge.KeepsLast}
+-- The changes are taken, if there are any.
+use Rattle.dnssec_judge.proofs.Base.{[], ℕ, ◌<◌, ◌∙◌, ◌∷◌, ◌≡◌, add_at, arith, Change, Contains}
+use Rattle.dnssec_judge.proofs.Base.{count, Dnskey, Ds, Entry, Id, is_in_use, Keys, LeadTo, length}
+use Rattle.dnssec_judge.proofs.Base.{List, list_at, more, Position, position-kept, refl, same-set}
+use Rattle.dnssec_judge.proofs.Base.{set_at, SetKind, subst, sym, true, Windows, ZoneSigners}
+use Rattle.dnssec_judge.proofs.{OneByOne.Copies.knows-on, Run.takes-changes}
+use Rattle.dnssec_judge.specs.{Inner.Windows.KnowsBy, Numbers.IsShown}
+use Rattle.dnssec_judge.specs.declared.sets.adds.Table.{Table}
+use Rattle.dnssec_run.proofs.Leads.{of-each}
+use Rattle.std.proofs.lemmas.Bool.{eqb-true, or_parts}
 use Rattle.dnssec_judge.proofs.judging.Judge.note.Goals as goal
 
-abbrev no_frames : Frames
-no_frames = record {
-  ds = no_frame;
-  dnskey = no_frame;
-  dnskey_signers = no_frame;
-  zone_signers = no_frame;
-}
+-- keys that were shown are shown in the longer record too
+shown-more : (es : List Entry) (e : Entry) (k : Id) → IsShown es k → IsShown (more es e) k
+shown-more es e k (list, m, le, there) = (
+  list,
+  m,
+  omega (arith, le, count es e),
+  subst (λ p. Contains (list_at list p) k) (sym (position-kept es e m le)) there,
+)
 
-keeps-any : (before : CachedSet) (set : Option CachedSet)
-    → KeepsNext (no_frame, no_frame) before set
-keeps-any before None = tt
-keeps-any before (Some set) = (keeps-none before.0 set.0, keeps-none before.1 set.1)
+-- what the windows know they know by the adds of the longer record, if keys in use keep numbers
+known-more : (es : List Entry) (e : Entry) (t u : Table) (w : Windows)
+    → ((n : ℕ) → is_in_use w n ≡ true → 0 < add_at t n → add_at u n ≡ add_at t n)
+    → KnowsBy es (es, t) w → KnowsBy es (more es e, u) w
+known-more es e t u w kept = knows-on es (es, t) (more es e, u) w (λ n k used is.
+    (let same = kept n used is.counts in record {
+      counts = omega (arith, same, is.counts);
+      added = is.added ∙ sym same;
+      shown = shown-more es e k is.shown;
+    }))
 
-any-last : (es : List Entry) (sets : Option Published) → KeepsLast es no_frames sets
-any-last es sets Ds = keeps-any _ (option_map (set_in Ds) sets)
-any-last es sets Dnskey = keeps-any _ (option_map (set_in Dnskey) sets)
-any-last es sets ZoneSigners = keeps-any _ (option_map (set_in ZoneSigners) sets)
+none-moves : (cs : List Change) (p q : Position) → length cs ≡ 0 → LeadTo cs p q → (kind : SetKind)
+    → set_at kind q ≡ set_at kind p
+none-moves [] p q none lead kind =
+    sym ((same-set (set_at kind p) (set_at kind q)).0 (lead.same kind))
+none-moves (c ∷ cs) p q none lead kind = absurd (omega (arith, none))
+
+pub returns-in-None-Other-clause-ok : goal.returns-in-None-Other-clause-ok
+returns-in-None-Other-clause-ok c es e mark moment lead apart h =
+    let j = c.args.self.now in record {
+      table = h.table;
+      windows = c.pass.ensures es e (more es e, j.numbers) (record {
+        has_mark = mark ∙ c.in-None-Other.is-1;
+        has_moment = moment ∙ c.in-None-Other.is-0;
+        here = omega (arith, c.in_ok-at.ensures, h.windows.follows.at);
+      }) (none-moves c.args.changes.now _ _
+          (eqb-true (length c.args.changes.now) 0 (sym c.if-is_empty.ensures)) lead)
+          (known-more es e j.numbers j.numbers j.windows (λ n _ _. refl) h.windows);
+    }
 
 pub returns-clause-ok : goal.returns-clause-ok
-returns-clause-ok c es e next h = c.in_ok-note_changes.ensures.ok es e next (any-last es _) h
+returns-clause-ok c es e mark moment lead apart h =
+    let j = c.args.self.now in let taken = c.in_ok-is_other.ensures in
+    let t = c.take.new.self.numbers in let new = c.take.new.self.windows in
+    let cs = c.args.changes.now in let given = taken.given (taken.table h.table) in
+    let key : Keys = (more es e, t) in
+    let known = known-more es e j.numbers t j.windows (λ n used counts.
+    (let same = taken.used n used in
+    given.1 n (omega (arith, same, counts)) ∙ same)) h.windows in
+    let f = known.follows in let takes = takes-changes es e cs lead t given.0 given.2 in
+    let ds = takes Ds c.in_ok-at.at j.windows.ds new.ds taken.others.0 taken.ds f.ds in
+    let keys = takes Dnskey c.in_ok-at.at j.windows.dnskey new.dnskey taken.others.1 taken.dnskey
+    f.dnskey in
+    let zone = takes ZoneSigners c.in_ok-at.at j.windows.zone new.zone taken.others.2 taken.zone
+    f.zone in
+    record {
+      table = given.0;
+      windows = c.in_ok-go_on.ensures es e key j.windows (record {
+        has_mark = mark;
+        has_moment = moment;
+        here = omega (arith, c.in_ok-at.ensures, h.windows.follows.at);
+      }) (record {
+        apart = λ m n k a b. given.0.apart m n a.counts (sym a.added ∙ b.added);
+        one = λ n k l a b. apart a.shown.0 b.shown.0 a.shown.1 b.shown.1 k l a.shown.3 b.shown.3
+            (a.added ∙ sym b.added);
+      }) (record { kept = taken.kept; ds = ds.0; dnskey = keys.0; zone = zone.0 })
+          (λ none. (let two = or_parts _ taken.others.2 (sym taken.any ∙ none) in
+          let one = or_parts taken.others.0 taken.others.1 two.0 in
+          of-each _ (ds.1 one.0) (keys.1 one.1) (zone.1 two.1))) known;
+    }

@@ -1,14 +1,26 @@
 -- The copy knows what the judge knows, and the other way round.
-use Rattle.std.proofs.Common.{sym}
+use Rattle.dnssec_judge.proofs.Base.{ℕ, ◌∙◌, ◌≡◌, add_at, AreSame, arith, Entry, IsTable, Judge}
+use Rattle.dnssec_judge.proofs.Base.{Knows, List, sym}
+use Rattle.dnssec_judge.proofs.OneByOne.Copies.{are-same-back, knows-on, knows-same}
 use Rattle.dnssec_judge.proofs.judging.Judge.try_clone.Goals as goal
-use Rattle.dnssec_judge.proofs.OneByOne.Copies.{copy-knows, same-back}
+
+-- one judge knows what another does, if it has the same of all
+knows-too : (es : List Entry) (a b : Judge) → AreSame a.windows b.windows
+    → (IsTable a.numbers → IsTable b.numbers)
+    → ((n : ℕ) → add_at b.numbers n ≡ add_at a.numbers n) → Knows es a → Knows es b
+knows-too es a b windows table same h = record {
+  table = table h.table;
+  windows = knows-on es (es, a.numbers) (es, b.numbers) b.windows (λ n k _ is. record {
+    counts = omega (arith, is.counts, same n);
+    added = is.added ∙ sym (same n);
+    shown = is.shown;
+  }) (knows-same es (es, a.numbers) a.windows b.windows windows h.windows);
+}
 
 pub returns-clause-same : goal.returns-clause-same
 returns-clause-same c entries =
-    let j = c.args.self.now in let numbers = c.in_ok-try_clone.ensures in
-    let ds = c.in_ok-try_clone-2.ensures in let dnskey = c.in_ok-try_clone-3.ensures in
-    let zone = c.in_ok-try_clone-4.ensures in (
-      copy-knows entries j _ _ _ _ numbers.table.0 numbers.same ds dnskey zone,
-      copy-knows entries _ j.numbers j.ds j.dnskey j.zone numbers.table.1
-          (λ n. sym (numbers.same n)) (same-back ds) (same-back dnskey) (same-back zone),
+    let numbers = c.in_ok-try_clone-2.ensures in let windows = c.in_ok-try_clone.ensures in (
+      knows-too entries c.args.self.now _ windows numbers.table.0 numbers.same,
+      knows-too entries _ c.args.self.now (are-same-back windows) numbers.table.1
+          (λ n. sym (numbers.same n)),
     )

@@ -1,6 +1,5 @@
 -- The words so far have no bit in common.
-use Rattle.std.proofs.Common.{◌≡◌, ℕ, ◌<◌}
-use Rattle.dnssec_judge.specs.Bits.{all_at}
+use Rattle.dnssec_judge.proofs.Base.{ℕ, ◌<◌, ◌≡◌, all_at}
 use Rattle.dnssec_judge.proofs.sets.held.do_all_meet.Given as goal
 
 abbrev pub invariant-loop-index : goal.invariant-loop-index

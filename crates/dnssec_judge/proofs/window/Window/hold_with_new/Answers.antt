@@ -1,7 +1,6 @@
 -- A span that came before the position: so did those before it.
-use Rattle.std.proofs.Common.{◌∙◌, ◌≡◌, arith, suc, sym, ap, take}
-use Rattle.dnssec_judge.specs.{Sets.holds, Inner.Spans.all_in, Inner.Spans.new_hold}
-use Rattle.dnssec_judge.specs.Inner.Window.{spans_of}
+use Rattle.dnssec_judge.proofs.Base.{◌∙◌, ◌≡◌, all_in, ap, arith, holds, new_hold, spans_of, suc}
+use Rattle.dnssec_judge.proofs.Base.{sym, take}
 use Rattle.dnssec_judge.proofs.OneByOne.Pairs.{passed-all, passed-before}
 use Rattle.dnssec_judge.proofs.window.Window.hold_with_new.Goals as goal
 

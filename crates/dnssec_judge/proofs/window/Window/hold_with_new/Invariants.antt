@@ -1,6 +1,5 @@
 -- The spans from the place on passed the test.
-use Rattle.std.proofs.Common.{◌≡◌, ◌≤◌, length, take}
-use Rattle.dnssec_judge.specs.{Sets.holds, Inner.Spans.new_hold, Inner.Window.spans_of}
+use Rattle.dnssec_judge.proofs.Base.{◌≡◌, ◌≤◌, holds, length, new_hold, spans_of, take}
 use Rattle.dnssec_judge.proofs.window.Window.hold_with_new.Given as goal
 
 abbrev pub invariant-loop-before : goal.invariant-loop-before

@@ -1,6 +1,5 @@
 -- The recorder's copy has recorded the same, and publishes the same keys.
 use Rattle.std.proofs.Common.{◌∙◌, refl}
-use Rattle.dnssec_record.proofs.Running.{same_sets}
 use Rattle.dnssec_record.proofs.zone.ZoneState.fit.Goals as goal
 
 pub returns-in-Ok : goal.returns-in-Ok
@@ -8,7 +7,6 @@ returns-in-Ok c name calls entries so = record {
   follows = record {
     records = c.in-Ok.ensures.records name calls entries so.follows.records;
     knows = so.follows.knows;
-    shown = same_sets _ _ c.in-Ok.ensures.same.published ∙ so.follows.shown;
   };
   listed = so.listed;
   ended = so.ended;

@@ -1,6 +1,5 @@
 -- The copies know what the three knew.
 use Rattle.std.proofs.Common.{◌∙◌, refl}
-use Rattle.dnssec_record.proofs.Running.{same_sets}
 use Rattle.dnssec_record.proofs.zone.ZoneState.try_clone.Goals as goal
 
 pub returns : goal.returns
@@ -8,7 +7,6 @@ returns c name calls entries so = record {
   follows = record {
     records = c.in-Ok.ensures.records name calls entries so.follows.records;
     knows = (c.in-Ok-try_clone.ensures.same entries).0 so.follows.knows;
-    shown = same_sets _ _ c.in-Ok.ensures.same.published ∙ so.follows.shown;
   };
   listed = c.in_ok-courses.ensures.listed ∙ so.listed;
   ended = c.in_ok-courses.ensures.ended ∙ so.ended;

@@ -1,6 +1,6 @@
 -- Before its first call a recorder has a record of none.
 use Rattle.std.proofs.Common.{refl, []}
-use Rattle.dnssec_run.proofs.{Grow.run_none, Grow.world_none, Next.agrees-new, Next.published-new}
+use Rattle.dnssec_run.proofs.{Grow.run_none, Grow.world_none, Next.agrees-new}
 use Rattle.dnssec_run.proofs.running.Recorder.new.Goals as goal
 
 pub returns : goal.returns
@@ -9,7 +9,4 @@ returns c = record {
   at = refl;
   agrees = rw (world_none c.args.name [])
       (agrees-new c.args.name c.new.result _ c.new.ensures c.new-2.ensures);
-  published = rw (world_none c.args.name []) (published-new c.args.name c.none.result
-      c.none.ensures.ds c.none.ensures.dnskey c.none.ensures.dnskey_signers
-      c.none.ensures.zone_signers);
 }

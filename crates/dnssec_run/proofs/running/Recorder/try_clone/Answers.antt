@@ -1,13 +1,11 @@
 -- A copy has equal parts, so it stands where the recorder does.
 use Rattle.std.proofs.Common.{refl, ◌∙◌}
-use Rattle.dnssec_run.proofs.Next.{published-same}
 use Rattle.dnssec_run.proofs.running.Recorder.try_clone.Goals as goal
 
 pub returns-clause-same : goal.returns-clause-same
 returns-clause-same c = record {
   keyset = c.in_ok-try_clone.ensures.same;
-  added = c.in_ok-added.ensures;
-  published = c.in_ok-copy_sets.ensures;
+  listings = c.in_ok-added.ensures;
   at = refl;
 }
 
@@ -19,7 +17,6 @@ returns-clause-records c name calls entries so =
       at = so.at;
       agrees = record {
         same = is.keyset ∙ so.agrees.same;
-        positions = λ q. is.added q ∙ so.agrees.positions q;
+        listings = λ q. is.listings q ∙ so.agrees.listings q;
       };
-      published = published-same _ _ _ is.published so.published;
     }

@@ -1,6 +1,5 @@
 -- A bit is in both if it is in their words.
-use Rattle.std.proofs.{lemmas.Bool.Decides.nat_tests, Common.arith, Common.◌-◌, Common.◌/◌}
-use Rattle.std.proofs.lemmas.{Nat.Bits.bit_at-lt, Nat.Bits.bit_at_and, List.get_or_past}
+use Rattle.dnssec_judge.proofs.Base.{◌-◌, ◌/◌, arith, bit_at-lt, bit_at_and, get_or_past, nat_tests}
 use Rattle.dnssec_judge.proofs.Words.{word-of}
 use Rattle.dnssec_judge.proofs.sets.held.Bits.common.Goals as goal
 

@@ -1,7 +1,6 @@
 -- The words so far are what both have.
-use Rattle.std.proofs.Common.{◌≡◌, ℕ, get_or}
-use Rattle.std.specs.Prelude.{if◌then◌else◌, nat_lt, vec_len}
-use Rattle.dnssec_judge.specs.Bits.{common_at, rest_of}
+use Rattle.dnssec_judge.proofs.Base.{ℕ, ◌≡◌, common_at, get_or, if◌then◌else◌, nat_lt, vec_len}
+use Rattle.dnssec_judge.specs.Bits.{rest_of}
 use Rattle.dnssec_judge.proofs.sets.held.Bits.common.Given as goal
 
 abbrev pub invariant-loop-index : goal.invariant-loop-index

@@ -1,7 +1,6 @@
 -- A word that is left as it is has only bits of the other.
-use Rattle.std.proofs.{lemmas.Bool.Decides.nat_tests, Common.arith, Common.◌%◌}
-use Rattle.std.proofs.lemmas.Nat.Bits.{bit_at-lt, bit_at-zero, bit_at_and}
-use Rattle.std.proofs.lemmas.List.{get_or_past}
+use Rattle.dnssec_judge.proofs.Base.{◌%◌, arith, bit_at-lt, bit_at-zero, bit_at_and, get_or_past}
+use Rattle.dnssec_judge.proofs.Base.{nat_tests}
 use Rattle.dnssec_judge.proofs.Words.{word-of}
 use Rattle.dnssec_judge.proofs.sets.held.Bits.is_within.Goals as goal
 

@@ -1,8 +1,8 @@
 -- The first words have a bit in common, or others have.
-use Rattle.std.proofs.Common.{arith, suc, ◌-◌, true}
-use Rattle.std.proofs.lemmas.{Nat.and_le_l, Bool.Decides.nat_tests, Bool.true≢false}
-use Rattle.std.specs.Int.Bits.{bit_and}
-use Rattle.dnssec_judge.{proofs.Words.all_met, proofs.Words.word-of, specs.Bits.words_of}
+use Rattle.dnssec_judge.proofs.Base.{◌-◌, arith, bit_and, nat_tests, suc, true, true≢false}
+use Rattle.dnssec_judge.proofs.Words.{all_met, word-of}
+use Rattle.dnssec_judge.specs.Bits.{words_of}
+use Rattle.std.proofs.lemmas.Nat.{and_le_l}
 use Rattle.dnssec_judge.proofs.sets.held.Bits.meets_both.Goals as goal
 
 pub returns-then-self-one-ne0 : goal.returns-then-self-one-ne0

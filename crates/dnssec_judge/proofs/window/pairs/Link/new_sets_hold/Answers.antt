@@ -1,7 +1,5 @@
 -- The new sets of each window fit all of the other.
-use Rattle.std.proofs.Common.{◌∙◌, ap, false, sym}
-use Rattle.std.specs.Prelude.{◌&&◌}
-use Rattle.dnssec_judge.specs.{Sets.holds, Inner.Spans.new_hold, Inner.Window.spans_of}
+use Rattle.dnssec_judge.proofs.Base.{◌&&◌, ◌∙◌, ap, false, holds, new_hold, spans_of, sym}
 use Rattle.dnssec_judge.proofs.OneByOne.Pairs.{pairs}
 use Rattle.dnssec_judge.proofs.window.pairs.Link.new_sets_hold.Goals as goal
 

@@ -1,11 +1,11 @@
 -- One report more that isn't over takes the place after those that are kept.
-use Rattle.std.proofs.Common.{◌≡◌, ◌+◌, ◌<◌, ◌++◌, ◌∷◌, [], ℕ, ap, arith, drop, get_or, length, set}
-use Rattle.std.proofs.Common.{rules, sym, take, tests, ◌∙◌}
-use Rattle.std.proofs.lemmas.Bool.Decides.{nat_tests}
-use Rattle.std.proofs.lemmas.List.{drop_more, drop-set-lt, length-set, take_more_set}
-use Rattle.std.specs.{Prelude.min, Ordering.ord_min}
 use Rattle.dnssec_base.specs.contracts.time.UnixTimeOrd.TheImpl.{cmp-value}
 use Rattle.dnssec_judge.proofs.OneByOne.Windows.{over_more}
+use Rattle.std.proofs.Common.{[], ap, arith, drop, get_or, length, rules, set, sym, take, tests, ℕ}
+use Rattle.std.proofs.Common.{◌++◌, ◌+◌, ◌<◌, ◌∙◌, ◌∷◌, ◌≡◌}
+use Rattle.std.proofs.lemmas.Bool.Decides.{nat_tests}
+use Rattle.std.proofs.lemmas.List.{drop-set-lt, drop_more, length-set, take_more_set}
+use Rattle.std.specs.{Ordering.ord_min, Prelude.min}
 use Rattle.dnssec_judge.proofs.window.reports.Dues.retire.Goals as goal
 
 earlier : (r t u : ℕ) → r ≡ ord_min cmp-value.it t u → r ≡ min t u

@@ -1,7 +1,6 @@
 -- The reports so far are in the floor, or wait.
-use Rattle.std.proofs.Common.{◌≡◌, ◌≤◌, ℕ, drop, length, take}
-use Rattle.std.specs.Prelude.{max}
-use Rattle.dnssec_judge.specs.Inner.Reports.{IsNoneBefore, floor_with, over_all}
+use Rattle.dnssec_judge.proofs.Base.{ℕ, ◌≡◌, ◌≤◌, drop, floor_with, length, max, over_all, take}
+use Rattle.dnssec_judge.specs.Inner.Reports.{IsNoneBefore}
 use Rattle.dnssec_judge.proofs.window.reports.Dues.retire.Given as goal
 
 abbrev pub invariant-loop-place : goal.invariant-loop-place

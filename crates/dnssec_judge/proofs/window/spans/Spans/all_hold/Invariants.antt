@@ -1,6 +1,5 @@
 -- The sets up to the place passed.
-use Rattle.std.proofs.Common.{◌≡◌, drop}
-use Rattle.dnssec_judge.specs.{Sets.holds, Inner.Spans.all_in}
+use Rattle.dnssec_judge.proofs.Base.{◌≡◌, all_in, drop, holds}
 use Rattle.dnssec_judge.proofs.window.spans.Spans.all_hold.Given as goal
 
 abbrev pub invariant-loop-place : goal.invariant-loop-place

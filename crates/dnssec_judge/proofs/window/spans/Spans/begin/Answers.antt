@@ -1,20 +1,18 @@
 -- What is common is in one set more.
-use Rattle.std.proofs.Common.{◌≡◌, ◌≤◌, ◌∙◌, ◌++◌, ◌∷◌, [], arith, length, length-append, rules}
-use Rattle.std.proofs.Common.{subst, sym}
-use Rattle.std.{specs.List.All, proofs.lemmas.List.Elements.All-push}
+use Rattle.dnssec_judge.proofs.Base.{[], ◌++◌, ◌∙◌, ◌∷◌, ◌≡◌, ◌≤◌, All, arith, IsWithin, length}
+use Rattle.dnssec_judge.proofs.Base.{Numbered, rules, Span, subst, sym}
+use Rattle.dnssec_judge.proofs.OneByOne.More.{came-pushed}
+use Rattle.dnssec_judge.proofs.window.spans.Spans.begin.Goals.{in-None, in-Some}
 use Rattle.dnssec_judge.specs.declared.window.spans.TheConstants.{FEW}
-use Rattle.dnssec_judge.specs.{Inner.Spans.IsWithin, Bits.words_of, Sets.Numbered}
-use Rattle.dnssec_judge.{specs.declared.window.spans.Span.Span, proofs.OneByOne.More.came-pushed}
+use Rattle.std.proofs.{Common.length-append, lemmas.List.Elements.All-push}
 use Rattle.dnssec_judge.proofs.window.spans.Spans.begin.Goals as goal
-use Rattle.dnssec_judge.proofs.window.spans.Spans.begin.Goals.{in-Some-common, in-None-common}
 
 pub invariant_of-self-then-is_enough : goal.invariant_of-self-then-is_enough
 invariant_of-self-then-is_enough c =
     let was = c.args.self.now in let items = was.list.items in
-    let set : Numbered = (words_of c.in_ok-keys.keys, words_of c.match-last.signers) in
-    let s : Span = record { from = c.args.from; set = set } in
+    let s : Span = record { from = c.args.from; set = c.args.set } in
     rw c.in_ok-push.ensures.ok (elim c.match-self.branch [
-      | in-Some-common w ↦ (let found = w.deref-in-Some-common in
+      | in-Some w ↦ (let found = w.deref in
           let within : IsWithin found.result.now s.set =
           w.is_within-is_enough.ensures (sym w.is_enough-is ∙ c.if-is_enough.true) in record {
             newest_is = sym (came-pushed items s);
@@ -23,10 +21,10 @@ invariant_of-self-then-is_enough c =
                 All-push (λ s. IsWithin x.value s.set) items s (was.in_each x e)
                 (subst (λ (x : Numbered). IsWithin x s.set) same within));
           })
-      | in-None-common w ↦ record {
+      | in-None w ↦ record {
         newest_is = sym (came-pushed items s);
-        many = λ x e. absurd (grind (arith, w.in-None-common.is, e));
-        in_each = λ x e. absurd (grind (arith, w.in-None-common.is, e));
+        many = λ x e. absurd (grind (arith, w.in-None.is, e));
+        in_each = λ x e. absurd (grind (arith, w.in-None.is, e));
       }
     ])
 
@@ -34,8 +32,7 @@ pub invariant_of-self-2 : goal.invariant_of-self-2
 invariant_of-self-2 c =
     let common = c.in_ok-common_with.field-0 in let so = c.in_ok-common_with.ensures in
     let was = c.args.self.now.list.items in
-    let set : Numbered = (words_of c.in_ok-keys.keys, words_of c.match-last.signers) in
-    let s : Span = record { from = c.args.from; set = set } in
+    let s : Span = record { from = c.args.from; set = c.args.set } in
     rw c.in_ok-push-2.ensures.ok record {
       newest_is = sym (came-pushed was s);
       many = λ x e. (let long : FEW ≤ length was = search rules in

@@ -1,7 +1,7 @@
 -- One set more.
-use Rattle.std.proofs.Common.{◌≤◌, arith, length, take}
-use Rattle.std.proofs.lemmas.List.{take_all, take_more, Elements.All-push}
-use Rattle.dnssec_judge.{specs.Inner.Spans.IsWithin, proofs.OneByOne.Windows.common_more}
+use Rattle.dnssec_judge.proofs.Base.{◌≤◌, arith, IsWithin, length, take, take_all, take_more}
+use Rattle.dnssec_judge.proofs.OneByOne.Windows.{common_more}
+use Rattle.std.proofs.lemmas.List.Elements.{All-push}
 use Rattle.dnssec_judge.proofs.window.spans.Spans.common_with.Goals as goal
 
 pub returns-in-Some-clause-each : goal.returns-in-Some-clause-each
@@ -28,7 +28,6 @@ loop-place-preserved c =
 
 pub returns-clause-each : goal.returns-clause-each
 returns-clause-each c =
-    let spans = c.args.self.now.list.items in
-    let past : length spans ≤ c.loop-place.place =
+    let spans = c.args.self.now.list.items in let past : length spans ≤ c.loop-place.place =
     omega (arith, c.loop-place-test.false, c.len-place-end.ensures) in
     rw (take_all c.loop-place.place spans past) at c.loop-place.invariant.each

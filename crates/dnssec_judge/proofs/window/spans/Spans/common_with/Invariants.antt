@@ -1,6 +1,5 @@
 -- What is common so far is in the new set, and in each set so far.
-use Rattle.std.{proofs.Common.take, specs.List.All}
-use Rattle.dnssec_judge.specs.Inner.Spans.{IsWithin}
+use Rattle.dnssec_judge.proofs.Base.{All, IsWithin, take}
 use Rattle.dnssec_judge.proofs.window.spans.Spans.common_with.Given as goal
 
 abbrev pub invariant-loop-place : goal.invariant-loop-place

@@ -1,6 +1,5 @@
 -- What is left to drop.
-use Rattle.std.proofs.Common.{◌≡◌, None, length}
-use Rattle.dnssec_judge.specs.Inner.Spans.{trimmed}
+use Rattle.dnssec_judge.proofs.Base.{◌≡◌, length, None, trimmed}
 use Rattle.dnssec_judge.proofs.window.spans.Spans.trim.Given as goal
 
 abbrev pub invariant-loop-self : goal.invariant-loop-self

@@ -1,7 +1,6 @@
 -- One more set.
-use Rattle.std.proofs.Common.{◌<◌, arith, length}
-use Rattle.std.proofs.lemmas.List.{drop_more}
 use Rattle.dnssec_judge.proofs.Words.{in_either}
+use Rattle.std.proofs.{Common.arith, Common.length, Common.◌<◌, lemmas.List.drop_more}
 use Rattle.dnssec_judge.proofs.window.spans.Spans.word.Goals as goal
 
 pub loop-place-preserved : goal.loop-place-preserved

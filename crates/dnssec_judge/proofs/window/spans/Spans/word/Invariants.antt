@@ -1,6 +1,6 @@
 -- The bits are those of the sets up to the place.
-use Rattle.std.proofs.Common.{◌≡◌, ◌/◌, ◌||◌, ℕ, drop}
 use Rattle.dnssec_judge.specs.{Bits.in_word, Inner.Spans.in_spans}
+use Rattle.std.proofs.Common.{drop, ℕ, ◌/◌, ◌||◌, ◌≡◌}
 use Rattle.dnssec_judge.proofs.window.spans.Spans.word.Given as goal
 
 abbrev pub invariant-loop-place : goal.invariant-loop-place

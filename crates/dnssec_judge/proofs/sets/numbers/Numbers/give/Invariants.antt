@@ -1,6 +1,0 @@
--- No number so far was free.
-use Rattle.std.{proofs.Common.◌≡◌, specs.Prelude.vec_len}
-use Rattle.dnssec_judge.proofs.sets.numbers.Numbers.give.Given as goal
-
-abbrev pub invariant-loop-free : goal.invariant-loop-free
-invariant-loop-free l = l.number ≡ vec_len l.self.keys

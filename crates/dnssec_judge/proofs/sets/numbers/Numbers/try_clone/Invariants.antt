@@ -1,8 +1,0 @@
--- The copies so far.
-use Rattle.std.{proofs.Common.◌≡◌, proofs.Common.map, proofs.Common.take, specs.Option.option_map}
-use Rattle.dnssec_run.specs.Published.{id_of}
-use Rattle.dnssec_judge.proofs.sets.numbers.Numbers.try_clone.Given as goal
-
-abbrev pub invariant-loop-key : goal.invariant-loop-key
-invariant-loop-key l =
-    map (option_map id_of) l.keys.items ≡ map (option_map id_of) (take l.key-index l.key-items)
