@@ -25,8 +25,8 @@ use dnssec_run::{Call, Moments, Published, Reply, Steps};
 use dnssec_script::{Lines, read_line, read_zone};
 use std::alloc::{AllocError, Global};
 
-/// Room for the line of an answer, so that it grows only if it is longer.
-const ANSWER: usize = 96;
+/// Room for the line of most answers, so that few grow.
+const ANSWER: usize = 64;
 
 /// What came of a line that was handed to a session.
 #[derive(Drop)]

@@ -137,6 +137,8 @@ impl ZoneState {
     /// Makes `call` on the key set, tells the judge what it changes, and answers the reply with the
     /// moment of the call. A refused call only counts in the record. Only `recorder` and `judge`
     /// change. If there is no memory to note the call, it fails, and this state is of no more use.
+    // Inline, so that no line's call passes through memory.
+    #[inline(always)]
     fn advance(&mut self, alloc: Global, call: Call<'_>) -> Result<TimedReply, AllocError>
         ensures known { IfOk result (λ made.
             (name : List ℕ) (calls : List Call) (entries : List Entry) →

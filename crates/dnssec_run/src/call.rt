@@ -165,6 +165,8 @@ impl<'a> Call<'a> {
     /// # Errors
     ///
     /// If there is no memory for the reference of the key that it adds.
+    // Inline, so that no meaning passes through memory.
+    #[inline(always)]
     pub(crate) fn meaning(&self) -> Result<Meaning<'a>, AllocError>
         ensures moment { IfOk result (λ means. means.moment ≡ call_moment self.now) }
         ensures mark { IfOk result (λ means. means.mark ≡ mark_of self.now) }

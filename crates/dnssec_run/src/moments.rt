@@ -10,6 +10,9 @@ use std::alloc::{AllocError, Global};
 use std::marker::Model;
 use std::time::Duration;
 
+/// The moments of up to this many calls stand in a list without room to spare.
+const FEW: usize = 4;
+
 /// The greatest moment of the calls up to each one: no earlier than that was it when the call was
 /// made. It takes 16 bytes for each call.
 ///
@@ -90,6 +93,7 @@ impl Moments {
         ensures kept { IfErr result (λ _. self.new ≡ self.old) }
     {
         let latest = self.latest().max(moment.unwrap_or(start()));
+        make_room(&mut self.by_call)?;
         self.by_call.push(latest)?;
         Ok(())
     }
@@ -110,4 +114,15 @@ impl Moments {
         let index = position.checked_sub(1)?;
         self.by_call.get(index).copied()
     }
+}
+
+/// Makes room in `list` for one moment more, and for no other while the list is short. If there is
+/// no memory, it fails. The moments stay.
+fn make_room(list: &mut Vec<UnixTime>) -> Result<(), AllocError>
+    ensures { list.new.items ≡ list.old.items }
+{
+    if list.len() < FEW {
+        list.reserve_exact(1)?;
+    }
+    Ok(())
 }

@@ -34,6 +34,7 @@ use std::alloc::{AllocError, Global};
 /// Keeps `added`, what is known of each key by its reference, up to date after the accepted call at
 /// position `at`. `change` is which key the call added or deleted. Answers whether it added or
 /// deleted one. It fails only if there is no memory, and `added` is then of no more use.
+#[inline(always)]
 fn note(
     alloc: Global,
     added: &mut Adds,

@@ -64,6 +64,8 @@ pub(crate) fn split_once(text: &[u8], byte: u8) -> (&[u8], Option<&[u8]>)
 
 /// Whether the text has the form of a key's reference: one or more visible ASCII characters, except
 /// the comma, and not a single `-`.
+// Out of line: inline, each byte would set anew what the other words of a line leave empty.
+#[inline(never)]
 #[tactic(auto, unfolding(crate::specs::Script::is_reference))]
 fn is_reference(text: &[u8]) -> bool
     ensures { result ≡ is_reference text.now }

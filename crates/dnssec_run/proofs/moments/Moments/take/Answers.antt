@@ -12,4 +12,4 @@ returns-clause-ok c = λ entries entry old at.
     let latest : c.max-latest.result
     ≡ max (time_at entries (length entries)) (unwrap_or entry.moment 0) =
     grind (arith, common_steps, c.latest.ensures entries old, at) in
-    c.in_ok-push.ensures.items ∙ (λ i. before i ++ latest i ∷ []) ∙ sym (moments-more entries entry)
+    c.in_ok-push.ensures.items ∙ (λ i. (c.in_ok-make_room.ensures ∙ before) i ++ latest i ∷ []) ∙ sym (moments-more entries entry)
