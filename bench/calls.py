@@ -13,11 +13,8 @@ It prints the calls of a round. For one call it prints the instructions, if valg
 count them; the processor's nanoseconds, the least of some runs; and the ratios of ours to the
 original's. Whatever else the machine does makes the nanoseconds rise.
 
-Ours is built in a copy of the parts of the tree that it needs. The copy is in a temporary folder,
-or in the folder of `--build`, outside the tree, which is kept for the next time. Ours is proved,
-since a program that is built without a proof (`rt try`) checks itself as it runs. What `make build`
-has proved is used again; the rest takes some minutes. The gate wants each file of Rattle to belong
-to a crate that it proves, so the program has another suffix here.
+Ours is built in a copy of the parts of the tree that it needs (`crates.py`). The copy is in a
+temporary folder, or in the folder of `--build`, outside the tree, which is kept for the next time.
 
 The folder of `--original` has a `build.sh OUT`, which makes a program of its `main.rs` and of the
 original's text, and a `stubs.rs` for what that text imports. `calls.rs`, with `calls_sets.rs` in
@@ -33,14 +30,13 @@ import sys
 import tempfile
 from pathlib import Path
 
+from crates import BENCH, Program
 from programs import COUNT
 
-BENCH = Path(__file__).resolve().parent
-TOP = BENCH.parent
-
-# The libraries of the program, and the parts of a crate that are read.
-LIBRARIES = ["dnssec_keyset", "dnssec_base"]
-PARTS = ["src", "specs", "proofs"]
+OURS = Program(
+    "calls", ["dnssec_keyset", "dnssec_base"],
+    {"main.rt": "calls.rt.in", "calls_sets.rt": "calls_sets.rt.in"}, ("adds", "1", "1", "calls"),
+)
 
 # A title, and the course with its number of keys.
 ROWS = [
@@ -78,50 +74,6 @@ RUNS_OF_LONG = 2
 
 # How many times fewer rounds are counted than timed.
 FEWER = 8
-
-
-def crates_below(names, lines):
-    """The lines of crates.txt for these crates and for all crates below them."""
-    below = {}
-    for name in names:
-        if name in lines:
-            below |= crates_below(lines[name].split(":")[1].split(), lines)
-            below[name] = lines[name]
-    return below
-
-
-def copy_tree(folder):
-    """Copies the parts of the tree that the program needs, and adds the program as a crate."""
-    lines = {}
-    for line in (TOP / "crates.txt").read_text().splitlines():
-        if line and not line.startswith("#"):
-            lines[re.match(r"\w+", line)[0]] = line
-    needed = crates_below(LIBRARIES, lines)
-    for name in needed:
-        source, target = TOP / "crates" / name, folder / "crates" / name
-        for part in PARTS:
-            shutil.rmtree(target / part, ignore_errors=True)
-            if (source / part).is_dir():
-                shutil.copytree(source / part, target / part)
-        proved = Path("out", "rlib")
-        if (source / proved).is_dir() and not (target / proved).is_dir():
-            shutil.copytree(source / proved, target / proved)
-    own = folder / "crates" / "calls" / "src"
-    own.mkdir(parents=True, exist_ok=True)
-    shutil.copyfile(BENCH / "calls.rt.in", own / "main.rt")
-    shutil.copyfile(BENCH / "calls_sets.rt.in", own / "calls_sets.rt")
-    text = [*needed.values(), f"calls: {' '.join(LIBRARIES)}"]
-    (folder / "crates.txt").write_text("\n".join(text) + "\n")
-
-
-def build(folder):
-    """Builds our program in this folder."""
-    copy_tree(folder)
-    crate = folder / "crates" / "calls"
-    (crate / "out").mkdir(exist_ok=True)
-    command = ["rt", "run", "--", "adds", "1", "1", "calls"]
-    subprocess.run(command, cwd=crate, stdout=sys.stderr, check=True)
-    return crate / "out" / "calls"
 
 
 def build_original(original, folder):
@@ -233,7 +185,7 @@ def main():
     with tempfile.TemporaryDirectory() as folder:
         ours = given.build or Path(folder, "ours")
         ours.mkdir(parents=True, exist_ok=True)
-        programs = [build(ours.resolve())]
+        programs = [OURS.build(ours.resolve())]
         if given.original:
             theirs = Path(folder, "original")
             theirs.mkdir()

@@ -66,6 +66,13 @@ static void status(struct keyset_session *session)
     expect(keyset_status(session, out, sizeof out).status);
 }
 
+/* The bytes that malloc has handed out: of its heap, and those that it maps for long lists. */
+static size_t handed_out(void)
+{
+    struct mallinfo2 all = mallinfo2();
+    return all.uordblks + all.hblkhd;
+}
+
 /* The least nanoseconds of many calls. */
 static double least(void (*call)(struct keyset_session *), struct keyset_session *session)
 {
@@ -86,10 +93,10 @@ int main(void)
     for (size_t i = 0; i < length; i++)
         lines += script[i] == '\n';
 
-    size_t before = mallinfo2().uordblks;
+    size_t before = handed_out();
     for (size_t i = 0; i < SESSIONS; i++)
         play(&sessions[i]);
-    size_t bytes = (mallinfo2().uordblks - before) / SESSIONS;
+    size_t bytes = (handed_out() - before) / SESSIONS;
 
     double whole = least(answer, NULL), played = least(play_once, NULL);
     double closed = least(closing, sessions), shown = least(status, sessions);

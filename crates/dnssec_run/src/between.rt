@@ -128,10 +128,10 @@ impl AddLists {
     /// The adds of the keys that are in a list only here, or only in `now`, each once.
     fn moved(&self, alloc: Global, now: &AddLists) -> Result<Vec<usize>, AllocError> {
         let mut moved = Vec::new(alloc);
-        moved.extend(self.ds.symmetric_difference(&now.ds).copied())?;
-        moved.extend(self.dnskey.symmetric_difference(&now.dnskey).copied())?;
-        moved.extend(self.signers.symmetric_difference(&now.signers).copied())?;
-        moved.extend(self.zone.symmetric_difference(&now.zone).copied())?;
+        push_others(&mut moved, &self.ds, &now.ds)?;
+        push_others(&mut moved, &self.dnskey, &now.dnskey)?;
+        push_others(&mut moved, &self.signers, &now.signers)?;
+        push_others(&mut moved, &self.zone, &now.zone)?;
         moved.sort_unstable();
         moved.dedup();
         Ok(moved)
@@ -169,6 +169,20 @@ impl AddLists {
             self.zone.contains(&added),
         )
     }
+}
+
+/// Appends to `moved` the adds that only one of the two sets has. It fails only if there is no
+/// memory.
+fn push_others(
+    moved: &mut Vec<usize>,
+    one: &BTreeSet<usize>,
+    other: &BTreeSet<usize>,
+) -> Result<(), AllocError> {
+    // By `push`: after a refusal `extend` asks for less, and goes on.
+    for added in one.symmetric_difference(other) {
+        moved.push(*added)?;
+    }
+    Ok(())
 }
 
 /// The positions at which these keys were added. It fails only if there is no memory.

@@ -12,4 +12,5 @@ returns-clause-ok c = λ entries entry old at.
     let latest : c.max-latest.result
     ≡ max (time_at entries (length entries)) (unwrap_or entry.moment 0) =
     grind (arith, common_steps, c.latest.ensures entries old, at) in
-    c.in_ok-push.ensures.items ∙ (λ i. (c.in_ok-make_room.ensures ∙ before) i ++ latest i ∷ []) ∙ sym (moments-more entries entry)
+    let items = c.in_ok-make_room.ensures ∙ before in
+    c.in_ok-push.ensures.items ∙ (λ i. items i ++ latest i ∷ []) ∙ sym (moments-more entries entry)
