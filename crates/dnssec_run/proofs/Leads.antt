@@ -103,16 +103,16 @@ shown-at p lists.Dnskey a = refl
 shown-at p lists.DnskeySigners a = refl
 shown-at p lists.ZoneSigners a = refl
 
--- the changes lead on, if lists stay the same but for what is told
-pub leads-on : (p q : Position) (before now : AddLists) (told : BTreeSet ℕ) (cs : List Change)
+-- the changes lead on, if lists stay the same, except what moves
+pub leads-on : (p q : Position) (before now : AddLists) (named : BTreeSet ℕ) (cs : List Change)
     → ((a : ℕ) → in_lists before a ≡ lists_at p a) → ((a : ℕ) → in_lists now a ≡ lists_at q a)
     → All (IsBetween before now) cs
-    → ((a : ℕ) → contains nat_cmp told a ≡ list_any (λ c. c.added == a) cs)
-    → ((list : Shown) (a : ℕ) → contains nat_cmp told a ≡ false
+    → ((a : ℕ) → contains nat_cmp named a ≡ list_any (λ c. c.added == a) cs)
+    → ((list : Shown) (a : ℕ) → contains nat_cmp named a ≡ false
     → at_list (in_lists now a) list ≡ at_list (in_lists before a) list)
     → ((kind : SetKind) → same_set (set_at kind p) (set_at kind q)
     ≡ not (list_any (moves_in kind) cs)) → LeadTo cs p q
-leads-on p q before now told cs was is are said stays same = record {
+leads-on p q before now named cs was is are said stays same = record {
   stays = λ list n no. sym (shown list n) ∙ stays list n (said n ∙ false_from_ne_true _ (λ e.
       (let s = (changed cs n).0 e in no s.0 s.1 s.2))) ∙ were list n;
   was = λ list c there. sym (were list c.added)

@@ -67,15 +67,15 @@ pub fn changes_after(
     let moved = before.moved(alloc, &now)?;
     let changes = before.changes(alloc, &now, &moved)?;
     let slice = changes.as_slice();
-    let told = told_by(alloc, slice)?;
-    if !lead(entries, n, Shown::Ds, &before.ds, &now.ds, &told)
+    let changed = changed_adds(alloc, slice)?;
+    if !lead(entries, n, Shown::Ds, &before.ds, &now.ds, &changed)
         || !lead(
             entries,
             n,
             Shown::Dnskey,
             &before.dnskey,
             &now.dnskey,
-            &told,
+            &changed,
         )
         || !lead(
             entries,
@@ -83,7 +83,7 @@ pub fn changes_after(
             Shown::DnskeySigners,
             &before.signers,
             &now.signers,
-            &told,
+            &changed,
         )
         || !lead(
             entries,
@@ -91,7 +91,7 @@ pub fn changes_after(
             Shown::ZoneSigners,
             &before.zone,
             &now.zone,
-            &told,
+            &changed,
         )
         || !tell(slice, entries, n, SetKind::Ds)
         || !tell(slice, entries, n, SetKind::Dnskey)
@@ -198,7 +198,7 @@ fn adds(alloc: Global, keys: &[PublishedKey]) -> Result<BTreeSet<usize>, AllocEr
 }
 
 /// The same of the keys of changes.
-fn told_by(alloc: Global, changes: &[Change]) -> Result<BTreeSet<usize>, AllocError>
+fn changed_adds(alloc: Global, changes: &[Change]) -> Result<BTreeSet<usize>, AllocError>
     ensures { IfOk result (λ set. (a : ℕ) →
         contains nat_cmp set a ≡ list_any (λ c. c.added == a) changes.now) }
 {
@@ -209,25 +209,25 @@ fn told_by(alloc: Global, changes: &[Change]) -> Result<BTreeSet<usize>, AllocEr
     Ok(set)
 }
 
-/// Whether a list has the same adds after call `n` as after the next but for those in `told`. They
-/// are `before` and `now`.
+/// Whether a list has the same adds after call `n` as after the next, except those in `changed`.
+/// They are `before` and `now`.
 fn lead(
     entries: &[Entry],
     n: usize,
     list: Shown,
     before: &BTreeSet<usize>,
     now: &BTreeSet<usize>,
-    told: &BTreeSet<usize>,
+    changed: &BTreeSet<usize>,
 ) -> bool
     requires { n < length entries.now }
     ensures { result ≡ true → (a : ℕ) →
         contains nat_cmp before.now a ≡ has_added (list_at list (position_at entries.now n)) a →
         contains nat_cmp now.now a ≡ has_added (list_at list (position_at entries.now (n + 1))) a →
-        contains nat_cmp told.now a ≡ false →
+        contains nat_cmp changed.now a ≡ false →
         contains nat_cmp now.now a ≡ contains nat_cmp before.now a }
 {
-    let left = have(now, told, keys_at(entries, n, list));
-    let came = have(before, told, keys_at(entries, n + 1, list));
+    let left = have(now, changed, keys_at(entries, n, list));
+    let came = have(before, changed, keys_at(entries, n + 1, list));
     left & came
 }
 

@@ -1,5 +1,5 @@
 //! Verdicts on records made at random, also on ones that no run leaves: those of `audit_window`,
-//! and of a judge that is told what changes, against `audit`, which is the definition made to run.
+//! and of a judge that gets what changes, against `audit`, which is the definition made to run.
 use Oddity::{NoAdd, OneAdd, Places};
 use RollType::AlgorithmRoll;
 use dnssec_keyset::{Error, RollType, UnixTime};
@@ -223,7 +223,7 @@ fn published(
 }
 
 /// A record in which only the last entries may have a DS set. First all keys are drawn, and later a
-/// few, many or all. Unless something is odd, a judge was told what each entry changes.
+/// few, many or all. Unless something is odd, a judge got what each entry changes.
 fn record(
     rng: &mut SmallRng,
     alloc: Global,
@@ -264,7 +264,7 @@ fn record(
     Ok((entries, judge))
 }
 
-/// Whether a judge has this verdict on the entries that it was told, and knows the rolls' last
+/// Whether a judge has this verdict on the entries that it got, and knows the rolls' last
 /// steps.
 fn has_judged(judge: &Judge, entries: &[Entry], verdict: Option<Broken>) -> bool {
     let (steps, wanted) = (judge.steps(), Steps::of_record(entries));

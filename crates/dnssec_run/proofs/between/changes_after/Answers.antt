@@ -9,13 +9,13 @@ use Rattle.dnssec_run.proofs.between.changes_after.Goals as goal
 
 pub returns : goal.returns
 returns c =
-    let es = c.args.entries.now in let n = c.args.n in let told = c.in_ok-told.told in
+    let es = c.args.entries.now in let n = c.args.n in let changed = c.in_ok-changed.changed in
     let before = c.in_ok-before.before in let now = c.in_ok-now.now in
     let was = c.in_ok-before.ensures in let is = c.in_ok-now.ensures in
     let slice = c.as_slice-slice.ensures.value in
-    rw (← slice) (leads-on (position_at es n) (position_at es (n + 1)) before now told
-    c.as_slice-slice.result.now was is (rw slice c.in_ok-changes.ensures) c.in_ok-told.ensures
-    (λ list. elim list as (λ list. (a : ℕ) → contains nat_cmp told a ≡ false
+    rw (← slice) (leads-on (position_at es n) (position_at es (n + 1)) before now changed
+    c.as_slice-slice.result.now was is (rw slice c.in_ok-changes.ensures) c.in_ok-changed.ensures
+    (λ list. elim list as (λ list. (a : ℕ) → contains nat_cmp changed a ≡ false
     → at_list (in_lists now a) list ≡ at_list (in_lists before a) list) [
       | Ds ↦ λ a. c.lead.ensures c.if-not-lead.false a (ap (λ (l : ByList). l.ds) (was a))
           (ap (λ (l : ByList). l.ds) (is a))

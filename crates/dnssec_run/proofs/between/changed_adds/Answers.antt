@@ -1,7 +1,7 @@
 -- One more add.
 use Rattle.std.proofs.Common.{arith}
 use Rattle.std.proofs.lemmas.{Bool.Decides.nat_tests, List.drop_more}
-use Rattle.dnssec_run.proofs.between.told_by.Goals as goal
+use Rattle.dnssec_run.proofs.between.changed_adds.Goals as goal
 
 pub loop-change-preserved : goal.loop-change-preserved
 loop-change-preserved c a =

@@ -2,7 +2,7 @@
 use Rattle.std.proofs.Common.{◌≡◌, ◌||◌, ◌==◌, ℕ, drop}
 use Rattle.std.specs.{BTreeSet.contains, List.list_any, Ordering.nat_cmp}
 use Rattle.dnssec_run.specs.declared.lists.Change.{Change}
-use Rattle.dnssec_run.proofs.between.told_by.Given as goal
+use Rattle.dnssec_run.proofs.between.changed_adds.Given as goal
 
 abbrev pub invariant-loop-change : goal.invariant-loop-change
 invariant-loop-change l = (a : ℕ) →
