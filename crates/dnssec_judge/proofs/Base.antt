@@ -28,7 +28,7 @@ pub use Rattle.dnssec_judge.specs.declared.windows.Windows.{Windows}
 pub use Rattle.dnssec_run.proofs.Leads.{any-key}
 pub use Rattle.dnssec_run.proofs.OneMore.{count, more, position-kept, position-new, steps, time-new}
 pub use Rattle.dnssec_run.proofs.Since.{same-id, same-set}
-pub use Rattle.dnssec_run.specs.Changes.{AddsApart, LeadTo, has_after, list_at}
+pub use Rattle.dnssec_run.specs.Changes.{LeadTo, TellsApart, add_of, has_after, list_at}
 pub use Rattle.dnssec_run.specs.Lists.{at_list}
 pub use Rattle.dnssec_run.specs.Origins.{CachedSet, same_id, set_at}
 unfoldable pub use Rattle.dnssec_run.specs.Origins.{origin}

@@ -1,10 +1,11 @@
 -- A record that is read as that of a run.
-use Rattle.dnssec_judge.proofs.Base.{[], ℕ, ◌++◌, ◌+◌, ◌<◌, ◌∙◌, ◌∷◌, ◌≡◌, ◌≤◌, AddsApart, ap}
+use Rattle.dnssec_judge.proofs.Base.{[], ℕ, ◌++◌, ◌+◌, ◌<◌, ◌∙◌, ◌∷◌, ◌≡◌, ◌≤◌, add_of, ap}
 use Rattle.dnssec_judge.proofs.Base.{AreTold, arith, cases_lt, Change, Contains, Entry, false, get}
 use Rattle.dnssec_judge.proofs.Base.{get_or, Id, id_of, inl, inr, is_told, LeadTo, length, List}
 use Rattle.dnssec_judge.proofs.Base.{list_all, list_at, more, nat_cmp, None, Option, position-new}
 use Rattle.dnssec_judge.proofs.Base.{position_at, position_of, refl, same-id, same_id, Shown, Some}
-use Rattle.dnssec_judge.proofs.Base.{subst, suc, sym, take, take_more, true, true≢false, zero}
+use Rattle.dnssec_judge.proofs.Base.{subst, suc, sym, take, take_more, TellsApart, true, true≢false}
+use Rattle.dnssec_judge.proofs.Base.{zero}
 use Rattle.dnssec_judge.specs.Reading.{Keys}
 use Rattle.dnssec_run.proofs.OneMore.{front-at, past-end}
 use Rattle.dnssec_run.specs.Safe.{blank}
@@ -45,7 +46,7 @@ same-told (Some r) a b x y = sym ((same-id (id_of r.now) a).0 x) ∙ (same-id (i
 
 -- so a key is told by its add
 pub apart : (keys : Keys) (es : List Entry) (n : ℕ) → n ≤ length es → AreTold keys es n
-    → AddsApart (take n es)
+    → TellsApart add_of (take n es)
 apart keys es n le told list other m o a b x y same = same-told (get nat_cmp keys a.1) a b
     (at list m a x) (rw same (at other o b y))
   where
@@ -74,7 +75,7 @@ module _ (es : List Entry) (n : ℕ) (e : Entry) (lt : n < length es) (is : e �
       ∙ ap (position_at (more (take n es) e)) (omega (arith, lt, length-take-le n es))
       ∙ position-new (take n es) e
 
-  pub leads-next : (cs : List Change) → LeadTo cs (position_at es n) (position_at es (n + 1))
-      → LeadTo cs (position_at (take n es) (length (take n es))) (position_of e)
+  pub leads-next : (cs : List Change) → LeadTo add_of cs (position_at es n) (position_at es (n + 1))
+      → LeadTo add_of cs (position_at (take n es) (length (take n es))) (position_of e)
   leads-next cs h =
       rw (length-take-le n es (omega (arith, lt)), front-at es n n (omega arith), ← next-at) h

@@ -12,18 +12,19 @@ IsShown entries k =
     (list : Shown) × (m : ℕ) × (m ≤ length entries)
     × Contains (list_at list (position_at entries m)) k
 
--- a number stands for a key that was added at its position
-pub record IsKeyOf (entries : List Entry) (t : Table) (n : ℕ) (k : Id) : Type 0 where
+-- a number stands for a key with the add that the table has there
+pub record IsKeyOf (entries : List Entry) (t : Table) (add : Id → ℕ) (n : ℕ) (k : Id)
+    : Type 0 where
   pub counts : 0 < add_at t n
-  pub added : k.1 ≡ add_at t n
+  pub added : add k ≡ add_at t n
   pub shown : IsShown entries k
 
--- keys of a record, by the adds that have numbers
+-- keys of a record, by the adds that have numbers, if this is each key's add
 abbrev pub Keys : Type 0
-Keys = List Entry × Table
+Keys = List Entry × Table × (Id → ℕ)
 
 abbrev pub Stands : Keys → ℕ → Id → Type 0
-Stands key n k = IsKeyOf key.0 key.1 n k
+Stands key n k = IsKeyOf key.0 key.1 key.2 n k
 
 -- no two numbers are of one key, and a number is of one key
 pub record AreApart (key : Keys) : Type 0 where

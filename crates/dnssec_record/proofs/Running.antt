@@ -11,7 +11,8 @@ use Rattle.dnssec_run.specs.Safe.{blank, position_at, position_of}
 use Rattle.dnssec_run.specs.declared.{call.Call.Call, record.Entry.Entry, record.Outcome.Outcome}
 use Rattle.dnssec_run.specs.declared.record.{Published.Published, PublishedKey.PublishedKey}
 use Rattle.dnssec_run.specs.declared.{record.Reply.Reply, running.Recorder.Recorder}
-use Rattle.dnssec_run.specs.{Changes.AddsApart, Changes.LeadTo, Published.Id, Published.id_of}
+use Rattle.dnssec_run.specs.{Changes.LeadTo, Changes.TellsApart, Changes.add_of, Published.Id}
+use Rattle.dnssec_run.specs.Published.{id_of}
 use Rattle.dnssec_run.specs.Recorder.{AreShown, Records, SaysOutcome}
 use Rattle.dnssec_run.proofs.{Apart.adds-apart, Grow.at_end, Recorded.last-list}
 use Rattle.dnssec_run.proofs.Recorded.{shown-sets}
@@ -106,8 +107,8 @@ folded_more f none calls entries call e same =
 
 -- before the first call nothing is published
 pub none_follows : (name : List ℕ) (zone : ZoneState) → Records name [] [] zone.recorder
-    → Knows [] zone.judge → zone.courses.listed.items ≡ [] → zone.courses.ended.items ≡ []
-    → IsZoneAfter name [] [] zone
+    → Knows add_of [] zone.judge → zone.courses.listed.items ≡ []
+    → zone.courses.ended.items ≡ [] → IsZoneAfter name [] [] zone
 none_follows name zone records knows listed ended = record {
   follows = record { records = records; knows = knows };
   listed = ap (map as_listed) listed;
@@ -131,11 +132,13 @@ pub goes_on : (name : List ℕ) (calls : List Call) (entries : List Entry) (old 
     → SaysOutcome e outcome → AreShown e.published next.recorder
     → Records name calls entries old.recorder
     → Records name (calls ++ call ∷ []) (entries ++ e ∷ []) next.recorder
-    × LeadTo next.recorder.changes.items (position_at entries (length entries)) (position_of e))
+    × LeadTo add_of next.recorder.changes.items (position_at entries (length entries))
+    (position_of e))
     → ((entries : List Entry) (e : Entry) → e.mark ≡ outcome.mark → e.moment ≡ outcome.moment
-    → LeadTo next.recorder.changes.items (position_at entries (length entries)) (position_of e)
-    → AddsApart (entries ++ e ∷ []) → Knows entries old.judge
-    → Knows (entries ++ e ∷ []) next.judge)
+    → LeadTo add_of next.recorder.changes.items (position_at entries (length entries))
+    (position_of e)
+    → TellsApart add_of (entries ++ e ∷ []) → Knows add_of entries old.judge
+    → Knows add_of (entries ++ e ∷ []) next.judge)
     → Comes Follows name calls entries call next
     (record { reply = outcome.reply; moment = outcome.moment })
 goes_on name calls entries old next call outcome so records judged =

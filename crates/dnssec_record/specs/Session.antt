@@ -6,7 +6,7 @@ use Rattle.dnssec_run.specs.declared.call.Call.{Call}
 use Rattle.dnssec_run.specs.declared.record.Entry.{Entry}
 use Rattle.dnssec_run.specs.declared.record.Reply.{Reply}
 use Rattle.dnssec_run.specs.declared.record.Reply.TheVariants.{Refused}
-use Rattle.dnssec_run.specs.Moments.{moments_of}
+use Rattle.dnssec_run.specs.{Changes.add_of, Moments.moments_of}
 use Rattle.dnssec_run.specs.Record.{is_accepted}
 use Rattle.dnssec_run.specs.Recorder.{Records}
 use Rattle.dnssec_judge.specs.declared.verdict.Broken.{Broken}
@@ -32,7 +32,7 @@ use Rattle.dnssec_record.specs.declared.session.Attempt.TheVariants as attempt
 pub record Follows (name : List ℕ) (calls : List Call) (entries : List Entry) (zone : ZoneState)
     : Type 0 where
   pub records : Records name calls entries zone.recorder
-  pub knows : Knows entries zone.judge
+  pub knows : Knows add_of entries zone.judge
 
 -- the session stands after the last of them
 pub record StandsAfter (name : List ℕ) (calls : List Call) (entries : List Entry) (s : Session)

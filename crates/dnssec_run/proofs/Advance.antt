@@ -8,7 +8,7 @@ use Rattle.std.proofs.lemmas.Bool.{cases_Bool, true≢false}
 use Rattle.dnssec_keyset.specs.KeySet.{KeySetParts}
 use Rattle.dnssec_keyset.proofs.After.{step-after}
 use Rattle.dnssec_run.specs.Adds.{AreListed, IsInOrder, listing_in}
-use Rattle.dnssec_run.specs.{Changes.LeadTo, Lists.lists_with}
+use Rattle.dnssec_run.specs.{Changes.LeadTo, Changes.add_of, Lists.lists_with}
 use Rattle.dnssec_run.specs.{Lists.any_list, Lists.same_lists, Lists.shows}
 use Rattle.dnssec_run.specs.declared.{adds.Kept.Kept, call.Call.Call, record.Entry.Entry}
 use Rattle.dnssec_run.specs.declared.{record.Outcome.Outcome, running.Recorder.Recorder}
@@ -85,7 +85,7 @@ module _ (name : List ℕ) (calls : List Call) (entries : List Entry) (r s : Rec
   -- the record goes on, and the changes lead to its next position
   abbrev Goes : Type 0
   Goes = Records name (calls ++ x ∷ []) (entries ++ e ∷ []) s
-      × LeadTo s.changes.items (position_at entries (length entries)) (position_of e)
+      × LeadTo add_of s.changes.items (position_at entries (length entries)) (position_of e)
 
   -- the step, between the worlds of the record
   made : s.keyset ≡ after.set → keyset.Step before.set (call_of x) (reply_of o.reply) after.set

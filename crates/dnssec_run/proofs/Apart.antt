@@ -10,7 +10,7 @@ use Rattle.std.proofs.lemmas.Option.{none-some, same_Some, slice_get_cases}
 use Rattle.dnssec_key.specs.Key.{KeyParts}
 use Rattle.dnssec_keyset.specs.KeySet.{KeySetParts}
 use Rattle.dnssec_run.specs.declared.{call.Call.Call, record.Entry.Entry, lists.Shown.Shown}
-use Rattle.dnssec_run.specs.{Changes.AddsApart, Changes.list_at, Lists.shows}
+use Rattle.dnssec_run.specs.{Changes.TellsApart, Changes.add_of, Changes.list_at, Lists.shows}
 use Rattle.dnssec_run.specs.Published.{Id, World, keys_where}
 use Rattle.dnssec_run.specs.Record.{IsRun, call_of, world_at}
 use Rattle.dnssec_run.specs.Safe.{blank, position_at, position_of}
@@ -104,7 +104,7 @@ module _ {name : List ℕ} {calls : List Call} {entries : List Entry}
             absurd (omega (arith, c.1))
       ]
 
-  pub adds-apart : AddsApart entries
+  pub adds-apart : TellsApart add_of entries
   adds-apart list other m n a b in_a in_b same =
       let x = in-list list m a in_a in
       let y = in-list other n b in_b in

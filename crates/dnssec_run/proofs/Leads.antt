@@ -12,7 +12,8 @@ use Rattle.dnssec_run.specs.declared.between.AddLists.{AddLists}
 use Rattle.dnssec_run.specs.declared.lists.{Change.Change, Shown.Shown}
 use Rattle.dnssec_run.specs.declared.lists.Shown.TheVariants as lists
 use Rattle.dnssec_run.specs.Between.{IsBetween, in_lists, lists_at}
-use Rattle.dnssec_run.specs.Changes.{LeadTo, has_added, has_after, list_at, moves, moves_in}
+use Rattle.dnssec_run.specs.Changes.{LeadTo, add_of, has_added, has_after, has_add, list_at}
+use Rattle.dnssec_run.specs.Changes.{moves, moves_in}
 use Rattle.dnssec_run.specs.{Lists.at_list, Origins.same_set, Origins.set_at, Published.Id}
 use Rattle.dnssec_run.specs.Safe.{Position, SetKind, Ds, Dnskey, ZoneSigners}
 
@@ -31,10 +32,11 @@ of-each P d k z ZoneSigners = z
 
 -- ---- one key
 
--- a list has a key of an add, or not
-pub added : (ids : List Id) (a : ℕ)
-    → Decides (has_added ids a) ((k : Id) × Contains ids k × (k.1 ≡ a))
-added ids a = any-key (λ id. id.1 == a) (λ id. id.1 ≡ a) (λ id. Decides-eqb id.1 a) ids
+-- a list has a key with an add, or not
+pub has-add : (add : Id → ℕ) (ids : List Id) (a : ℕ)
+    → Decides (has_add add ids a) ((k : Id) × Contains ids k × (add k ≡ a))
+has-add add ids a =
+    any-key (λ id. add id == a) (λ id. add id ≡ a) (λ id. Decides-eqb (add id) a) ids
 
 -- what changes of a key say of a list, if all of them say so, or none is there and it was so
 after-is : (list : Shown) (cs : List Change) (a : ℕ) (was is : Bool)
@@ -77,20 +79,24 @@ pub changed : (cs : List Change) (a : ℕ)
     → Decides (list_any (λ c. c.added == a) cs) ((c : Change) × Contains cs c × (c.added ≡ a))
 changed cs a = any-key (λ c. c.added == a) (λ c. c.added ≡ a) (λ c. Decides-eqb c.added a) cs
 
-module _ (cs : List Change) (p q : Position) (lead : LeadTo cs p q) (list : Shown) (a : ℕ) where
-  pub leads : has_after list cs a (has_added (list_at list p) a) ≡ has_added (list_at list q) a
+module _ (add : Id → ℕ) (cs : List Change) (p q : Position) (lead : LeadTo add cs p q)
+    (list : Shown) (a : ℕ) where
+  abbrev has : List Id → ℕ → Bool
+  has = has_add add
+
+  pub leads : has_after list cs a (has (list_at list p) a) ≡ has (list_at list q) a
   leads = after-is list cs a _ _
-      (λ c there e moved. sym (lead.is list c there) ∙ ap (has_added (list_at list q)) e)
+      (λ c there e moved. sym (lead.is list c there) ∙ ap (has (list_at list q)) e)
       (λ none. by none (list_any (λ c. c.added == a) cs) refl)
     where
       by : ((c : Change) → Contains cs c → c.added ≡ a → moves list c ≡ true → ⊥) → (b : Bool)
           → list_any (λ c. c.added == a) cs ≡ b
-          → has_added (list_at list p) a ≡ has_added (list_at list q) a
+          → has (list_at list p) a ≡ has (list_at list q) a
       by none true e =
           let s = (changed cs a).0 e in let c = s.0 in
-          ap (has_added (list_at list p)) (sym s.2) ∙ lead.was list c s.1
+          ap (has (list_at list p)) (sym s.2) ∙ lead.was list c s.1
           ∙ unmoved _ _ (false_from_ne_true (moves list c) (none c s.1 s.2))
-          ∙ sym (lead.is list c s.1) ∙ ap (has_added (list_at list q)) s.2
+          ∙ sym (lead.is list c s.1) ∙ ap (has (list_at list q)) s.2
       by none false e = sym (lead.stays list a (λ c there is.
           not_from_Decides _ (changed cs a) e (c, there, is)))
 
@@ -111,7 +117,7 @@ pub leads-on : (p q : Position) (before now : AddLists) (named : BTreeSet ℕ) (
     → ((list : Shown) (a : ℕ) → contains nat_cmp named a ≡ false
     → at_list (in_lists now a) list ≡ at_list (in_lists before a) list)
     → ((kind : SetKind) → same_set (set_at kind p) (set_at kind q)
-    ≡ not (list_any (moves_in kind) cs)) → LeadTo cs p q
+    ≡ not (list_any (moves_in kind) cs)) → LeadTo add_of cs p q
 leads-on p q before now named cs was is are said stays same = record {
   stays = λ list n no. sym (shown list n) ∙ stays list n (said n ∙ false_from_ne_true _ (λ e.
       (let s = (changed cs n).0 e in no s.0 s.1 s.2))) ∙ were list n;

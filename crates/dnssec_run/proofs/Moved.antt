@@ -14,8 +14,8 @@ use Rattle.dnssec_zone.proofs.Quantified.{same_key}
 use Rattle.dnssec_run.specs.{ByList.ByList, declared.lists.Change.Change}
 use Rattle.dnssec_run.specs.declared.lists.{Shown.Shown}
 use Rattle.dnssec_run.specs.declared.lists.Shown.TheVariants as lists
-use Rattle.dnssec_run.specs.{Changes.LeadTo, Changes.has_added, Changes.list_at, Changes.moves}
-use Rattle.dnssec_run.specs.{Changes.moves_in, Origins.CachedSet, Origins.same_set}
+use Rattle.dnssec_run.specs.Changes.{LeadTo, add_of, has_added, list_at, moves, moves_in}
+use Rattle.dnssec_run.specs.{Origins.CachedSet, Origins.same_set}
 use Rattle.dnssec_run.specs.Origins.{set_at}
 use Rattle.dnssec_run.specs.Lists.{at_list, lists_with, passing, same_lists, shows}
 use Rattle.dnssec_run.specs.Published.{Id, World, keys_where}
@@ -271,7 +271,7 @@ module _ (v w : World) (changes : List Change) (told : Told v w changes)
         (λ some same. list-other lists.ZoneSigners some (ap (λ (set : CachedSet). set.0) same))
         (λ none i. (list-same lists.ZoneSigners none i, []))
 
-    pub leads : LeadTo changes p q
+    pub leads : LeadTo add_of changes p q
     leads = record {
       stays = λ s n none. rw (old s, new s) (stays s n none);
       was = λ s c c_in. rw (old s) (was s c c_in);

@@ -1,4 +1,4 @@
--- What a call changes in the published lists, key by key. A key is known by where it was added.
+-- What a call changes in the published lists, key by key. A key is known by its add.
 use Rattle.std.specs.Prelude.{◌≡◌, ℕ, ◌==◌, ◌&&◌, ◌||◌, ◌∷◌, [], Bool, not, List}
 use Rattle.std.specs.Prelude.{if◌then◌else◌}
 use Rattle.std.specs.List.{Contains, list_any}
@@ -15,9 +15,16 @@ list_at shown.Dnskey p = p.dnskey
 list_at shown.DnskeySigners p = p.signers
 list_at shown.ZoneSigners p = p.zone
 
--- the list has a key that was added at this position
+-- the list has a key with this add
+abbrev pub has_add : (Id → ℕ) → List Id → ℕ → Bool
+has_add add ids n = list_any (λ (id : Id). add id == n) ids
+
+-- in a run that is the position of the call that added it
+abbrev pub add_of : Id → ℕ
+add_of id = id.1
+
 abbrev pub has_added : List Id → ℕ → Bool
-has_added ids n = list_any (λ (id : Id). id.1 == n) ids
+has_added = has_add add_of
 
 -- a key comes into a list, or leaves it
 abbrev pub moves : Shown → Change → Bool
@@ -35,19 +42,20 @@ has_after list [] added was = was
 has_after list (c ∷ cs) added was = has_after list cs added
     (if moves list c && (c.added == added) then at_list c.shown list else was)
 
--- the changes lead from what is published at one position to what is published at another
-pub record LeadTo (changes : List Change) (p q : Position) : Type 0 where
+-- the changes lead from what is published at one position to what is published at another, if this
+-- is each key's add
+pub record LeadTo (add : Id → ℕ) (changes : List Change) (p q : Position) : Type 0 where
   pub stays : (list : Shown) (n : ℕ) → ((c : Change) → Contains changes c → c.added ≡ n → ⊥) →
-      has_added (list_at list q) n ≡ has_added (list_at list p) n
+      has_add add (list_at list q) n ≡ has_add add (list_at list p) n
   pub was : (list : Shown) (c : Change) → Contains changes c →
-      has_added (list_at list p) c.added ≡ at_list c.was list
+      has_add add (list_at list p) c.added ≡ at_list c.was list
   pub is : (list : Shown) (c : Change) → Contains changes c →
-      has_added (list_at list q) c.added ≡ at_list c.shown list
+      has_add add (list_at list q) c.added ≡ at_list c.shown list
   pub same : (kind : SetKind) →
       same_set (set_at kind p) (set_at kind q) ≡ not (list_any (moves_in kind) changes)
 
--- keys that are published at any positions are one key if they were added at one position
-abbrev pub AddsApart : List Entry → Type 0
-AddsApart entries = (list other : Shown) (m n : ℕ) (a b : Id) →
+-- keys that are published at any positions are one key if they have one add
+abbrev pub TellsApart : (Id → ℕ) → List Entry → Type 0
+TellsApart add entries = (list other : Shown) (m n : ℕ) (a b : Id) →
     Contains (list_at list (position_at entries m)) a →
-    Contains (list_at other (position_at entries n)) b → a.1 ≡ b.1 → a ≡ b
+    Contains (list_at other (position_at entries n)) b → add a ≡ add b → a ≡ b

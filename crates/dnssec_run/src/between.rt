@@ -4,7 +4,7 @@ ghost use Rattle.std.specs.Prelude.{◌==◌, IfOk, IfSome};
 ghost use Rattle.std.specs.Option.{option_copied, option_map_or};
 ghost use Rattle.std.specs.{BTreeSet.contains, List.All, List.list_any, Ordering.nat_cmp};
 ghost use Rattle.dnssec_run.specs.Between.{IsBetween, in_lists, lists_at};
-ghost use Rattle.dnssec_run.specs.Changes.{LeadTo, has_added, list_at, moves, moves_in};
+ghost use Rattle.dnssec_run.specs.Changes.{LeadTo, add_of, has_added, list_at, moves, moves_in};
 ghost use Rattle.dnssec_run.specs.Origins.{same_ids, same_set, set_at};
 ghost use Rattle.dnssec_run.specs.Published.{id_of};
 ghost use Rattle.dnssec_run.specs.Safe.{blank, kind_of, position_at, position_of};
@@ -59,7 +59,7 @@ pub fn changes_after(
     n: usize,
 ) -> Result<Option<Vec<Change>>, AllocError>
     requires { n < length entries.now }
-    ensures { IfOk result (λ found. IfSome found (λ changes. LeadTo changes.items
+    ensures { IfOk result (λ found. IfSome found (λ changes. LeadTo add_of changes.items
         (position_at entries.now n) (position_at entries.now (n + 1)))) }
 {
     let before = AddLists::at(alloc, entries, n)?;

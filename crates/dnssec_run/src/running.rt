@@ -8,7 +8,7 @@ ghost use Rattle.std.specs.Prelude.{◌≢◌, length};
 ghost use Rattle.dnssec_run.specs.Adds.{listing_in};
 ghost use Rattle.dnssec_run.specs.Asked.{ChangesAsAsked, RetiresAsAsked, asks_to_publish};
 ghost use Rattle.dnssec_run.specs.EarlyEnds.{UndoesStarts};
-ghost use Rattle.dnssec_run.specs.Changes.{LeadTo};
+ghost use Rattle.dnssec_run.specs.Changes.{LeadTo, add_of};
 ghost use Rattle.dnssec_run.specs.Lists.{lists_said};
 ghost use Rattle.dnssec_run.specs.WholeRolls.{GoesOn, NeverMissesStamp, RollsFinish};
 ghost use Rattle.dnssec_run.specs.WholeRolls.{SettlesBetweenRolls, WaitsExactly};
@@ -132,7 +132,7 @@ impl Recorder {
             SaysOutcome entry outcome → AreShown entry.published self.new →
             Records name calls entries self.old →
             Records name (calls ++ call.entry ∷ []) (entries ++ entry ∷ []) self.new
-            × LeadTo self.new.changes.items (position_at entries (length entries))
+            × LeadTo add_of self.new.changes.items (position_at entries (length entries))
             (position_of entry)) }
         ensures kept { IfOk result (λ outcome. outcome.may_publish ≡ false →
             self.new.changes.items ≡ []) }

@@ -81,7 +81,8 @@ const BATCHES: &[Batch] = &[
 /// A key, and which lists have it.
 #[derive(Clone, Copy, Drop)]
 struct DrawnKey {
-    /// Counted from 1. Two keys in turn have one reference.
+    /// Counted from 1. A judge knows the key by it, whatever its add. Two keys in turn have one
+    /// reference.
     number: usize,
     /// The position of its add.
     added: usize,
@@ -161,7 +162,7 @@ fn change(
 ) -> Result<Vec<Change>, AllocError> {
     let mut changes = Vec::new(alloc);
     for key in keys.iter_mut() {
-        let (added, was) = (key.added, key.shown);
+        let (added, was) = (key.number, key.shown);
         let [ds, dnskey, signers, zone] = key.chances;
         let ds = if has_ds { ds } else { 0 };
         let shown = ByList::by_flags(
@@ -223,7 +224,7 @@ fn published(
 }
 
 /// A record in which only the last entries may have a DS set. First all keys are drawn, and later a
-/// few, many or all. Unless something is odd, a judge got what each entry changes.
+/// few, many or all. Unless keys change places, a judge got what each entry changes.
 fn record(
     rng: &mut SmallRng,
     alloc: Global,
@@ -236,8 +237,8 @@ fn record(
     let mut keys = keys_of(alloc, batch)?;
     let mut entries = Vec::new(alloc);
     let mut judge = match oddity {
-        Some(_) => None,
-        None => Some(Judge::new(alloc)?),
+        Some(Places) => None,
+        _ => Some(Judge::new(alloc)?),
     };
     for at in 0..length {
         let chance = match rng.random_range(0u32..8) {

@@ -20,45 +20,45 @@ shown-more es e k (list, m, le, there) = (
 )
 
 -- what the windows know they know by the adds of the longer record, if keys in use keep numbers
-known-more : (es : List Entry) (e : Entry) (t u : Table) (w : Windows)
+known-more : (add : Id → ℕ) (es : List Entry) (e : Entry) (t u : Table) (w : Windows)
     → ((n : ℕ) → is_in_use w n ≡ true → 0 < add_at t n → add_at u n ≡ add_at t n)
-    → KnowsBy es (es, t) w → KnowsBy es (more es e, u) w
-known-more es e t u w kept = knows-on es (es, t) (more es e, u) w (λ n k used is.
-    (let same = kept n used is.counts in record {
+    → KnowsBy es (es, t, add) w → KnowsBy es (more es e, u, add) w
+known-more add es e t u w kept = knows-on es (es, t, add) (more es e, u, add) w
+    (λ n k used is. (let same = kept n used is.counts in record {
       counts = omega (arith, same, is.counts);
       added = is.added ∙ sym same;
       shown = shown-more es e k is.shown;
     }))
 
-none-moves : (cs : List Change) (p q : Position) → length cs ≡ 0 → LeadTo cs p q → (kind : SetKind)
-    → set_at kind q ≡ set_at kind p
+none-moves : {add : Id → ℕ} (cs : List Change) (p q : Position) → length cs ≡ 0
+    → LeadTo add cs p q → (kind : SetKind) → set_at kind q ≡ set_at kind p
 none-moves [] p q none lead kind =
     sym ((same-set (set_at kind p) (set_at kind q)).0 (lead.same kind))
 none-moves (c ∷ cs) p q none lead kind = absurd (omega (arith, none))
 
 pub returns-in-None-Other-clause-ok : goal.returns-in-None-Other-clause-ok
-returns-in-None-Other-clause-ok c es e mark moment lead apart h =
+returns-in-None-Other-clause-ok c add es e mark moment lead apart h =
     let j = c.args.self.now in record {
       table = h.table;
-      windows = c.pass.ensures es e (more es e, j.numbers) (record {
+      windows = c.pass.ensures es e (more es e, j.numbers, add) (record {
         has_mark = mark ∙ c.in-None-Other.is-1;
         has_moment = moment ∙ c.in-None-Other.is-0;
         here = omega (arith, c.in_ok-at.ensures, h.windows.follows.at);
       }) (none-moves c.args.changes.now _ _
           (eqb-true (length c.args.changes.now) 0 (sym c.if-is_empty.ensures)) lead)
-          (known-more es e j.numbers j.numbers j.windows (λ n _ _. refl) h.windows);
+          (known-more add es e j.numbers j.numbers j.windows (λ n _ _. refl) h.windows);
     }
 
 pub returns-clause-ok : goal.returns-clause-ok
-returns-clause-ok c es e mark moment lead apart h =
+returns-clause-ok c add es e mark moment lead apart h =
     let j = c.args.self.now in let taken = c.in_ok-is_other.ensures in
     let t = c.take.new.self.numbers in let new = c.take.new.self.windows in
     let cs = c.args.changes.now in let given = taken.given (taken.table h.table) in
-    let key : Keys = (more es e, t) in
-    let known = known-more es e j.numbers t j.windows (λ n used counts.
+    let key : Keys = (more es e, t, add) in
+    let known = known-more add es e j.numbers t j.windows (λ n used counts.
     (let same = taken.used n used in
     given.1 n (omega (arith, same, counts)) ∙ same)) h.windows in
-    let f = known.follows in let takes = takes-changes es e cs lead t given.0 given.2 in
+    let f = known.follows in let takes = takes-changes add es e cs lead t given.0 given.2 in
     let ds = takes Ds c.in_ok-at.at j.windows.ds new.ds taken.others.0 taken.ds f.ds in
     let keys = takes Dnskey c.in_ok-at.at j.windows.dnskey new.dnskey taken.others.1 taken.dnskey
     f.dnskey in

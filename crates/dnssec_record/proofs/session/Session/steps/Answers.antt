@@ -1,4 +1,5 @@
+use Rattle.dnssec_run.specs.Changes.{add_of}
 use Rattle.dnssec_record.proofs.session.Session.steps.Goals as goal
 
 pub returns : goal.returns
-returns c name calls entries stands = c.steps.ensures entries stands.follows.knows
+returns c name calls entries stands = c.steps.ensures add_of entries stands.follows.knows

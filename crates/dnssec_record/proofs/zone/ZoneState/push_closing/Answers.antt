@@ -1,5 +1,6 @@
 -- The sets, and then the verdict.
 use Rattle.std.proofs.Common.{◌++◌, ◌∙◌, ap, append_assoc, string_bytes}
+use Rattle.dnssec_run.specs.Changes.{add_of}
 use Rattle.dnssec_record.specs.Output.{chain_line, published_text}
 use Rattle.dnssec_record.proofs.Running.{shown_line}
 use Rattle.dnssec_record.proofs.zone.ZoneState.push_closing.Goals as goal
@@ -11,7 +12,7 @@ returns c name calls entries so =
       published_text sets ++ line,
       record {
         verdict = verdict;
-        is_verdict = c.verdict.ensures entries so.knows;
+        is_verdict = c.verdict.ensures add_of entries so.knows;
         is_closing = ap (λ t. t ++ line) (shown_line name calls entries _ so.records sets
             c.in-Ok.ensures.ok);
       },
