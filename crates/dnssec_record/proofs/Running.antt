@@ -1,9 +1,9 @@
 -- A run that goes on call by call: for the zones of scripts and of sessions.
 use Rattle.std.proofs.Common.{◌≡◌, ℕ, ◌-◌, List, [], ◌∷◌, ◌++◌, length, map, Option, None}
-use Rattle.std.proofs.Common.{Some, refl, sym, ◌∙◌, ap, subst, arith, append_assoc, length-append}
+use Rattle.std.proofs.Common.{Some, refl, sym, ◌∙◌, ap, arith, append_assoc}
 use Rattle.std.proofs.Common.{fold, inl, inr}
 use Rattle.std.proofs.lemmas.List.{flat_map_more, Folds.flat_map-map, Sums.fold-append}
-use Rattle.std.specs.Prelude.{codes, slice_get, string_bytes, if◌then◌else◌}
+use Rattle.std.specs.Prelude.{codes, slice_get, string_bytes}
 use Rattle.std.specs.{List.flat_map, Option.option_map_or}
 use Rattle.std.proofs.lemmas.Option.{slice_get_cases}
 use Rattle.dnssec_key.specs.declared.roll.RollType.{RollType}
@@ -14,7 +14,7 @@ use Rattle.dnssec_run.specs.declared.{record.Reply.Reply, running.Recorder.Recor
 use Rattle.dnssec_run.specs.{Changes.LeadTo, Changes.TellsApart, Changes.add_of, Published.Id}
 use Rattle.dnssec_run.specs.Published.{id_of}
 use Rattle.dnssec_run.specs.Recorder.{AreShown, Records, SaysOutcome}
-use Rattle.dnssec_run.proofs.{Apart.adds-apart, Grow.at_end, Recorded.last-list}
+use Rattle.dnssec_run.proofs.{Apart.adds-apart, Recorded.last-list}
 use Rattle.dnssec_run.proofs.Recorded.{shown-sets}
 use Rattle.dnssec_run.specs.declared.lists.Shown.TheVariants as lists
 use Rattle.dnssec_judge.specs.Judge.{Knows}

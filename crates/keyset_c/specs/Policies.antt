@@ -1,5 +1,5 @@
 -- What a policy says, as C gets it.
-use Rattle.std.specs.Prelude.{◌≡◌, ◌⊎◌, ℕ, List, length}
+use Rattle.std.specs.Prelude.{◌≡◌, ◌⊎◌, ℕ, List}
 use Rattle.dnssec_policy.specs.Automatic.Answer.{AnswersNext}
 use Rattle.dnssec_policy.specs.Automatic.Faults.{next_fault_text}
 use Rattle.dnssec_policy.specs.declared.automatic.fault.NextFault.{NextFault}

@@ -1,5 +1,5 @@
 -- The recorder's copy has recorded the same, and publishes the same keys.
-use Rattle.std.proofs.Common.{◌∙◌, refl}
+use Rattle.std.proofs.Common.{refl}
 use Rattle.dnssec_record.proofs.zone.ZoneState.fit.Goals as goal
 
 pub returns-in-Ok : goal.returns-in-Ok

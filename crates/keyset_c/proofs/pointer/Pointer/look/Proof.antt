@@ -1,5 +1,5 @@
 -- `look` reads the pointer, and lends what it points to: `Pointer` follows that.
-use Rattle.std.proofs.Common.{IsSome, List, Option, Some, [], ap, refl, sym, ◌++◌, ◌∙◌, ◌∷◌, ◌≡◌}
+use Rattle.std.proofs.Common.{IsSome, List, Option, [], ap, refl, sym, ◌++◌, ◌∙◌, ◌∷◌, ◌≡◌}
 use Rattle.std.proofs.Common.{ℕ}
 use Rattle.std.proofs.raw_atomic.Walks.{proved}
 use Rattle.std.specs.Box.Ownership.{box_owns}
@@ -15,7 +15,7 @@ use seplogic.Ra.Ura.{Ura}
 use base.Fml.{Fml, GName, Lft, Share, flft, fsep, ftrue}
 use base.{Fraction.full_share, Logic.SProp, Logic.ent, Logic.fst∗, Logic.never, Logic.sep}
 use contract.{Monad.fact, Running.tables}
-use denote.{Builtin.RawPtr, Exit.no, RattleType.RattleType, RattleType.Valss, RattleType.owns}
+use denote.{Builtin.RawPtr, Exit.no, RattleType.Valss, RattleType.owns}
 use denote.Memory.{cell_at, lone, mem, part_at, part_of}
 use denote.RawPtr.{Ptr, block_ptr, in_a_block, null_ptr, ptr_val}
 use denote.Ref.{MutRef, mut_Tells, mut_vals}
