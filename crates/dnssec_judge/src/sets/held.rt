@@ -27,9 +27,9 @@ pub(crate) fn is_in_word(word: u64, number: usize) -> bool
 #[derive(Debug, Drop)]
 pub(crate) struct Bits {
     /// The numbers below 64.
-    pub(super) first: u64,
+    pub(crate) first: u64,
     /// The others, in words of 64 numbers. None if no such number was ever in the set.
-    pub(super) rest: Option<ArcSlice<u64>>,
+    pub(crate) rest: Option<ArcSlice<u64>>,
 }
 
 /// The words of a set from 64 on, shared. It fails only if they are shared too often.
@@ -148,7 +148,7 @@ impl Bits {
 
 /// The first word of a set with this `number`, which is below 64, if `is_in`, or else without it.
 #[inline(always)]
-pub(super) fn put(first: u64, number: usize, is_in: bool) -> u64
+pub(crate) fn put(first: u64, number: usize, is_in: bool) -> u64
     requires { number < 64 }
     ensures { (n : ℕ) (rest : List ℕ) → has_bit (result ∷ rest) n
         ≡ (if nat_eq number n then is_in else has_bit (first ∷ rest) n) }
@@ -160,47 +160,16 @@ pub(super) fn put(first: u64, number: usize, is_in: bool) -> u64
 /// A set while it is written over another one, its base: numbers are put in or taken out.
 #[derive(Debug, Drop)]
 pub(crate) struct BitsDraft {
-    first: u64,
+    pub(crate) first: u64,
     /// The words from 64 on. None as long as they are those of the base.
-    rest: Option<Vec<u64>>,
+    pub(crate) rest: Option<Vec<u64>>,
 }
 
 impl BitsDraft {
-    /// The set `base`, of which nothing is written yet.
-    #[inline(always)]
-    pub(crate) fn of(base: &Bits) -> Self
-        ensures { drafted base.now result ≡ words_of base.now }
-    {
-        BitsDraft {
-            first: base.first,
-            rest: None,
-        }
-    }
-
-    /// Puts `number` into the set if `is_in`, or else takes it out. It fails only if there is no
-    /// memory.
-    #[inline(always)]
-    pub(crate) fn put(
-        &mut self,
-        alloc: Global,
-        base: &Bits,
-        number: usize,
-        is_in: bool,
-    ) -> Result<(), AllocError>
-        ensures { OnOk result ((n : ℕ) → has_bit (drafted base.now self.new) n
-            ≡ (if nat_eq number n then is_in else has_bit (drafted base.now self.old) n)) }
-    {
-        if number >= WORD {
-            self.put_far(alloc, number, is_in, base)?;
-            return Ok(());
-        }
-        self.first = put(self.first, number, is_in);
-        Ok(())
-    }
-
-    /// The same for a `number` from 64 on, with words of its own.
+    /// Puts `number`, which is from 64 on, into the set if `is_in`, or else takes it out. The words
+    /// from 64 on are then the draft's own. It fails only if there is no memory.
     #[inline(never)]
-    fn put_far(
+    pub(crate) fn put_far(
         &mut self,
         alloc: Global,
         number: usize,

@@ -66,15 +66,17 @@ returns-then-not-is_other c es e key old comes apart taken stays h =
     g.within g.tested (λ none. rw none (stays-safe es e (stays c.if-not-is_other.true)
     ((rw (sym same ∙ none) at h.verdict) (length es) (omega arith))))
 
-pub returns-then-are_old : goal.returns-then-are_old
-returns-then-are_old c es e key old comes apart taken stays h =
+pub returns-then-are_old-3 : goal.returns-then-are_old-3
+returns-then-are_old-3 c es e key old comes apart taken stays h =
     let f = c.in_ok-follow.ensures in let g = f.follows es e key old comes taken h.follows in
     let same = f.found ∙ ap (λ (w : Windows). w.found) taken.kept in let w = c.follow.new.self in
-    let so = c.are_old.ensures c.if-are_old.true g.ds.numbered g.dnskey.numbered g.zone.numbered _
-    g.ds.spans g.dnskey.spans g.zone.spans in
+    let ds = c.are_old.ensures c.if-are_old.true g.ds.numbered _ g.ds.spans in
+    let zone = c.are_old-then-are_old.ensures c.if-are_old-2.true g.zone.numbered _ g.zone.spans in
+    let keys = c.are_old-then-are_old-2.ensures c.if-are_old-3.true g.dnskey.numbered _
+    g.dnskey.spans in
     fit-on es e key old w _ _ h g c.is_some.ensures c.if-is_some.false same
     (omega (arith, g.at, c.saturating_add-self.ensures)) apart
-    (old-fit _ _ _ _ g.tested.keys so.0 so.1) (old-fit _ _ _ _ g.tested.zones so.1 so.2)
+    (old-fit _ _ _ _ g.tested.keys ds keys) (old-fit _ _ _ _ g.tested.zones keys zone)
 
 pub returns-then-have_no_keys : goal.returns-then-have_no_keys
 returns-then-have_no_keys c es e key old comes apart taken stays h =
