@@ -1,9 +1,11 @@
 -- Keys of a run and their numbers.
 use Rattle.dnssec_judge.proofs.Base.{ℕ, ◌&&◌, ◌<◌, ◌==◌, ◌∙◌, ◌≡◌, ◌≤◌, add_at, ap, arith, at_list}
 use Rattle.dnssec_judge.proofs.Base.{Bool, Change, FEW, get, if◌then◌else◌, IsTable, nat_cmp}
-use Rattle.dnssec_judge.proofs.Base.{nat_eq, nat_le, nat_tests, Shown, Some, sym, true}
+use Rattle.dnssec_judge.proofs.Base.{false, nat_eq, nat_le, nat_tests, None, refl, Shown, Some, sym}
+use Rattle.dnssec_judge.proofs.Base.{true}
 use Rattle.dnssec_judge.specs.{Adds.Extends, declared.sets.adds.Table.Table}
 use Rattle.dnssec_run.specs.Changes.{moves}
+use Rattle.std.proofs.lemmas.Option.{none-some, same_Some}
 
 -- a table with the same keys, which are known too
 pub table-from : (old new : Table) → ((n : ℕ) → add_at new n ≡ add_at old n)
@@ -48,3 +50,9 @@ pub moved-bit : (t : Table) → IsTable t → (list : Shown) (c : Change) (numbe
     → is ≡ (if moves list c && (c.added == add_at t n) then at_list c.shown list else was)
 moved-bit t table list c number n was is counts at moved e =
     let apart = table.apart number n in grind (arith, nat_tests, apart, counts, at, moved, e)
+
+-- a key that moves comes into a list if the list has it now
+pub moves-as : (moves is comes : Bool) → (if moves then Some is else None) ≡ Some comes
+    → (moves ≡ true) × (is ≡ comes)
+moves-as true is comes e = (refl, same_Some is comes e)
+moves-as false is comes e = absurd (none-some comes e)

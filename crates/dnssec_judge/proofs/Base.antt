@@ -24,7 +24,7 @@ pub use Rattle.dnssec_judge.specs.declared.window.Window.{Window}
 pub use Rattle.dnssec_judge.specs.declared.window.pairs.Link.TheVariants.{Named, Signed}
 pub use Rattle.dnssec_judge.specs.declared.window.pairs.Link.{Link}
 pub use Rattle.dnssec_judge.specs.declared.window.spans.Span.{Span}
-pub use Rattle.dnssec_judge.specs.declared.windows.Windows.{Windows}
+pub use Rattle.dnssec_judge.specs.declared.judging.Windows.{Windows}
 pub use Rattle.dnssec_run.proofs.Leads.{any-key}
 pub use Rattle.dnssec_run.proofs.OneMore.{count, more, position-kept, position-new, steps, time-new}
 pub use Rattle.dnssec_run.proofs.Since.{same-id, same-set}

@@ -2,8 +2,7 @@
 //! a chain of trust.
 
 mod adds;
-mod changed;
 mod held;
 
 pub(crate) use adds::Table;
-pub(crate) use held::{OpenSet, WORD, is_in_word};
+pub(crate) use held::{Bits, BitsDraft, OpenSet, WORD, is_in_word, put};

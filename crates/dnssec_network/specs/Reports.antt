@@ -8,7 +8,7 @@ use Rattle.dnssec_key.specs.declared.roll.RollState.{RollState}
 use Rattle.dnssec_key.specs.declared.roll.RollState.TheVariants.{Propagation1, Propagation2}
 use Rattle.dnssec_key.specs.declared.roll.RollType.{RollType}
 use Rattle.dnssec_run.specs.{Moments.moment_of_call, declared.record.Entry.Entry}
-use Rattle.dnssec_run.specs.{declared.record.LastStep.LastStep, Origins.origin}
+use Rattle.dnssec_run.specs.{declared.running.LastStep.LastStep, Origins.origin}
 use Rattle.dnssec_run.specs.declared.caches.SetKind.TheVariants.{Ds, Dnskey, ZoneSigners}
 use Rattle.dnssec_run.specs.{Safe.SetKind, Safe.kind_of, Safe.retires, Steps.origin_in}
 use Rattle.dnssec_run.specs.declared.caches.SetKind.{SetKind as Kind}

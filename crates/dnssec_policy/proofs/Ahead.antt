@@ -16,7 +16,7 @@ use Rattle.dnssec_zone.specs.{Keys.some_key, Rolls.all_rolls, Rolls.phase_of}
 use Rattle.dnssec_keyset.specs.Step as keyset
 use Rattle.dnssec_keyset.specs.declared.wait.WaitEnd.{WaitEnd, TheVariants.At, TheVariants.PastTime}
 use Rattle.dnssec_run.specs.declared.caches.SetKind.{SetKind}
-use Rattle.dnssec_run.specs.{declared.record.LastStep.LastStep, Safe.kind_of}
+use Rattle.dnssec_run.specs.{declared.running.LastStep.LastStep, Safe.kind_of}
 use Rattle.dnssec_run.specs.Steps.{Origins, origin_in}
 use Rattle.dnssec_network.specs.declared.spread.Reach.{Reach}
 use Rattle.dnssec_network.specs.declared.spread.Reach.TheVariants.{Unpublished, Spreading}

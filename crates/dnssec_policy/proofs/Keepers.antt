@@ -5,7 +5,7 @@ use Rattle.std.specs.Prelude.{if◌then◌else◌}
 use Rattle.dnssec_key.specs.declared.roll.RollType.{RollType}
 use Rattle.dnssec_keyset.specs.Step as keyset
 use Rattle.dnssec_run.specs.declared.{call.Call.Call, record.Entry.Entry}
-use Rattle.dnssec_run.specs.declared.{record.Mark.TheVariants.Report, record.LastStep.LastStep}
+use Rattle.dnssec_run.specs.declared.{record.Mark.TheVariants.Report, running.LastStep.LastStep}
 use Rattle.dnssec_run.specs.{Steps.origin_in, Record.call_of}
 use Rattle.dnssec_run.specs.Safe.{SetKind, Ds, Dnskey, ZoneSigners, retires}
 use Rattle.dnssec_run.proofs.Chain.Trust.{mark, moment}

@@ -7,7 +7,7 @@ use Rattle.dnssec_key.specs.RollTable.{cache_expire, is_second}
 use Rattle.dnssec_zone.specs.{Keys.some_key, Rolls.phase_of}
 use Rattle.dnssec_keyset.specs.Step as keyset
 use Rattle.dnssec_keyset.specs.declared.wait.WaitEnd.TheVariants.{At}
-use Rattle.dnssec_run.specs.declared.{caches.SetKind.SetKind, record.LastStep.LastStep}
+use Rattle.dnssec_run.specs.declared.{caches.SetKind.SetKind, running.LastStep.LastStep}
 use Rattle.dnssec_run.specs.{Steps.origin_in, WholeRolls.propagation}
 use Rattle.dnssec_network.specs.{declared.spread.Reach.TheVariants.Everywhere, Reports.due}
 use Rattle.dnssec_policy.specs.{declared.policy.Policy.Policy, InProgress.ends_with}

@@ -10,7 +10,7 @@ use Rattle.dnssec_key.specs.RollTable.{is_second}
 use Rattle.dnssec_keyset.specs.Step as keyset
 use Rattle.dnssec_run.specs.declared.{call.Call.Call, record.Entry.Entry}
 use Rattle.dnssec_run.specs.declared.record.Mark.TheVariants.{Other, Report}
-use Rattle.dnssec_run.specs.declared.record.LastStep.{LastStep}
+use Rattle.dnssec_run.specs.declared.running.LastStep.{LastStep}
 use Rattle.dnssec_run.specs.{Origins.origin, Steps.last_step, Steps.origin_in, Steps.step_at}
 use Rattle.dnssec_run.specs.Record.{IsRun, call_moment, call_of}
 use Rattle.dnssec_run.specs.Safe.{SetKind, Ds, ZoneSigners, base_below, position_at, retires}

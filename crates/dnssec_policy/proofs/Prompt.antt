@@ -19,7 +19,7 @@ use Rattle.dnssec_keyset.specs.Step as keyset
 use Rattle.dnssec_run.specs.declared.{call.Call.Call, caches.SetKind.SetKind}
 use Rattle.dnssec_run.specs.declared.caches.SetKind.TheVariants.{Ds, Dnskey, ZoneSigners}
 use Rattle.dnssec_run.specs.declared.record.Entry.{Entry}
-use Rattle.dnssec_run.specs.declared.record.LastStep.{LastStep}
+use Rattle.dnssec_run.specs.declared.running.LastStep.{LastStep}
 use Rattle.dnssec_run.specs.Record.{IsRun, world_at}
 use Rattle.dnssec_run.specs.{Safe.kind_of, Steps.Origins, Steps.origin_in, Steps.step_at}
 use Rattle.dnssec_run.proofs.Premise.{sets-nothing}

@@ -21,7 +21,7 @@ use Rattle.dnssec_keyset.specs.declared.wait.WaitEnd.{WaitEnd, TheVariants.At, T
 use Rattle.dnssec_keyset.specs.Step as keyset
 use Rattle.dnssec_run.specs.declared.caches.SetKind.{SetKind}
 use Rattle.dnssec_run.specs.declared.caches.SetKind.TheVariants.{Ds, Dnskey, ZoneSigners}
-use Rattle.dnssec_run.specs.{declared.record.LastStep.LastStep, Safe.kind_of, Steps.origin_in}
+use Rattle.dnssec_run.specs.{declared.running.LastStep.LastStep, Safe.kind_of, Steps.origin_in}
 use Rattle.dnssec_run.specs.WholeRolls.{propagation}
 use Rattle.dnssec_network.specs.declared.spread.Reach.{Reach}
 use Rattle.dnssec_network.specs.declared.spread.Reach.TheVariants.{Unpublished, Spreading}

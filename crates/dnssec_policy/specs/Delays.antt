@@ -10,7 +10,7 @@ use Rattle.dnssec_key.specs.RollTable.{is_second}
 use Rattle.dnssec_zone.specs.{Keys.some_key, Rolls.phase_of, Rolls.same_roll}
 use Rattle.dnssec_keyset.specs.Step as keyset
 use Rattle.dnssec_run.specs.declared.{call.Call.Call, record.Entry.Entry, caches.SetKind.SetKind}
-use Rattle.dnssec_run.specs.{declared.record.LastStep.LastStep, Plain.DoesAt, Plain.start_of}
+use Rattle.dnssec_run.specs.{declared.running.LastStep.LastStep, Plain.DoesAt, Plain.start_of}
 use Rattle.dnssec_run.specs.{Record.IsRun, Record.call_of, Record.world_at, Steps.origin_in}
 use Rattle.dnssec_run.specs.WholeRolls.{HasLeft, IsAccepted, end_of, propagation}
 use Rattle.dnssec_run.specs.Safe.{SetKind as AnyKind, kind_of, retires}

@@ -15,7 +15,7 @@ use Rattle.dnssec_keyset.specs.declared.wait.WaitEnd.{WaitEnd}
 use Rattle.dnssec_keyset.specs.declared.wait.WaitEnd.TheVariants as end
 use Rattle.dnssec_run.specs.declared.caches.SetKind.{SetKind}
 use Rattle.dnssec_run.specs.declared.caches.SetKind.TheVariants.{Ds, Dnskey, ZoneSigners}
-use Rattle.dnssec_run.specs.{declared.record.LastStep.LastStep, Safe.kind_of}
+use Rattle.dnssec_run.specs.{declared.running.LastStep.LastStep, Safe.kind_of}
 use Rattle.dnssec_run.specs.Steps.{Origins, origin_in}
 use Rattle.dnssec_network.specs.declared.spread.Reach.{Reach}
 use Rattle.dnssec_network.specs.declared.spread.Reach.TheVariants.{Unpublished, Spreading}

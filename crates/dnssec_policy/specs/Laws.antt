@@ -14,7 +14,7 @@ use Rattle.dnssec_keyset.specs.declared.wait.WaitEnd.{WaitEnd, TheVariants.At, T
 use Rattle.dnssec_run.specs.declared.{call.Call.Call, record.Entry.Entry, record.Reply.Reply}
 use Rattle.dnssec_run.specs.{declared.caches.SetKind.SetKind, ByAlgorithm.KeepsWhole, Plain.IsPlain}
 use Rattle.dnssec_run.specs.Record.{IsRun, call_of, world_at}
-use Rattle.dnssec_run.specs.{declared.record.LastStep.LastStep, Steps.origin_in}
+use Rattle.dnssec_run.specs.{declared.running.LastStep.LastStep, Steps.origin_in}
 use Rattle.dnssec_run.specs.{WholeRolls.propagation, Steps.AreStepsOf}
 use Rattle.dnssec_run.specs.Safe.{SetKind as AnyKind, kind_of, retires}
 use Rattle.dnssec_network.specs.ByAlgorithm.{FindChainByEach}

@@ -2,7 +2,7 @@
 use Rattle.std.specs.Prelude.{ℕ, Option, List}
 use Rattle.dnssec_key.specs.declared.roll.RollType.{RollType}
 use Rattle.dnssec_keyset.specs.{KeySet.KeySetParts, declared.wait.WaitEnd.WaitEnd}
-use Rattle.dnssec_run.specs.declared.{caches.SetKind.SetKind, record.LastStep.LastStep}
+use Rattle.dnssec_run.specs.declared.{caches.SetKind.SetKind, running.LastStep.LastStep}
 use Rattle.dnssec_run.specs.Safe.{SetKind as SafeKind, kind_of}
 use Rattle.dnssec_network.specs.declared.{fact.Fact.Fact, spread.Reach.Reach}
 use Rattle.dnssec_network.specs.Facts.{Before, news_of, ttl_before}

@@ -7,7 +7,7 @@ use Rattle.dnssec_zone.proofs.Quantified.{first}
 use Rattle.dnssec_run.specs.Adds.{AreListed, IsInOrder, entries_in, ids_shown, listing_in}
 use Rattle.dnssec_run.specs.Adds.{listing_of}
 use Rattle.dnssec_run.specs.declared.{adds.Kept.Kept, lists.Shown.Shown}
-use Rattle.dnssec_run.specs.declared.listing.KeyListing.{KeyListing}
+use Rattle.dnssec_run.specs.declared.lists.KeyListing.{KeyListing}
 use Rattle.dnssec_run.specs.declared.adds.Kept.TheVariants.{Few, Many}
 use Rattle.dnssec_run.specs.declared.lists.Shown.TheVariants as lists
 use Rattle.dnssec_run.specs.declared.record.Published.{Published}

@@ -9,7 +9,7 @@ use Rattle.std.specs.{Prelude.Option, Prelude.T, Str.bytes_eq, Ordering.is_eq}
 use Rattle.std.specs.{FinMap.Entries.below_all, Option.option_map, declared.string.String.String}
 use Rattle.dnssec_key.specs.Key.{KeyParts}
 use Rattle.dnssec_zone.proofs.Quantified.{first, same_key, second}
-use Rattle.dnssec_run.specs.declared.listing.{Known.Known, KeyListing.KeyListing}
+use Rattle.dnssec_run.specs.declared.lists.{Known.Known, KeyListing.KeyListing}
 use Rattle.dnssec_run.specs.{ByList.ByList, declared.lists.Change.Change}
 use Rattle.dnssec_run.specs.Adds.{IsAscending, Listed, change_read, listing_of, reread, reread_at}
 use Rattle.dnssec_run.specs.Adds.{listed_of, set_shown}

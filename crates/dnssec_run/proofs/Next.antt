@@ -13,7 +13,7 @@ use Rattle.dnssec_keyset.specs.Step.{Set, after, after_reply}
 use Rattle.dnssec_keyset.proofs.After.{after-changes}
 use Rattle.dnssec_run.specs.Adds.{listing_in, reread, set_listing}
 use Rattle.dnssec_run.specs.declared.{call.Call.Call, record.Entry.Entry, record.Outcome.Outcome}
-use Rattle.dnssec_run.specs.{ByList.ByList, declared.listing.KeyListing.KeyListing}
+use Rattle.dnssec_run.specs.{ByList.ByList, declared.lists.KeyListing.KeyListing}
 use Rattle.dnssec_run.specs.declared.{lists.Shown.Shown}
 use Rattle.dnssec_run.specs.declared.record.{Reply.Reply, Reply.TheVariants.Refused}
 use Rattle.dnssec_run.specs.declared.record.{Mark.TheVariants.Other}

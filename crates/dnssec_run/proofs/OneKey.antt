@@ -14,7 +14,7 @@ use Rattle.std.specs.List.{remove, Sorted.IsNonDecreasingBy, Sorted.IsPartitionP
 use Rattle.std.{specs.Str.bytes_eq, proofs.lemmas.List.Sorted.searchable_from_sorted}
 use Rattle.std.proofs.lemmas.{Map.Text.is_eq-slice_cmp, Bool.cases_lt}
 use Rattle.dnssec_zone.proofs.Quantified.{first, second}
-use Rattle.dnssec_run.specs.declared.listing.{Known.Known, KeyListing.KeyListing}
+use Rattle.dnssec_run.specs.declared.lists.{Known.Known, KeyListing.KeyListing}
 use Rattle.dnssec_run.specs.Adds.{IsAscending, IsAt, Listed, listed_of, listing_of}
 use Rattle.dnssec_run.proofs.Positions.{equal-keys, order}
 

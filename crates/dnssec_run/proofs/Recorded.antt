@@ -9,7 +9,7 @@ use Rattle.dnssec_run.specs.Adds.{IsInOrder, Listed, by_text, entries_in, id_lis
 use Rattle.dnssec_run.specs.Adds.{ids_shown, listed_of}
 use Rattle.dnssec_run.specs.declared.{adds.Kept.Kept, call.Call.Call, record.Entry.Entry}
 use Rattle.dnssec_run.specs.declared.adds.Kept.TheVariants.{Few, Many}
-use Rattle.dnssec_run.specs.declared.{listing.Known.Known, listing.KeyListing.KeyListing}
+use Rattle.dnssec_run.specs.declared.{lists.Known.Known, lists.KeyListing.KeyListing}
 use Rattle.dnssec_run.specs.declared.{lists.Shown.Shown, record.Published.Published}
 use Rattle.dnssec_run.specs.declared.record.PublishedKey.{PublishedKey}
 use Rattle.dnssec_run.specs.declared.running.Recorder.{Recorder}

@@ -8,8 +8,8 @@ use Rattle.std.specs.Bool.{Decides}
 use Rattle.std.specs.Option.{option_map}
 use Rattle.std.specs.Prelude.{if◌then◌else◌, slice_get}
 use Rattle.dnssec_key.specs.declared.roll.RollType.{RollType}
-use Rattle.dnssec_run.specs.declared.{record.Entry.Entry, record.LastStep.LastStep}
-use Rattle.dnssec_run.specs.{declared.record.Steps.Steps, Steps.Origins}
+use Rattle.dnssec_run.specs.declared.{record.Entry.Entry, running.LastStep.LastStep}
+use Rattle.dnssec_run.specs.{declared.running.Steps.Steps, Steps.Origins}
 use Rattle.dnssec_run.specs.Origins.{CachedSet, origin, same_id, same_ids, same_set, set_at}
 use Rattle.dnssec_run.specs.Origins.{set_in}
 use Rattle.dnssec_run.specs.Published.{Id}

@@ -13,7 +13,7 @@ use Rattle.dnssec_keyset.specs.KeySet.{KeySetParts}
 use Rattle.dnssec_keyset.proofs.Changes.{Changes}
 use Rattle.dnssec_run.specs.Adds.{IsInOrder, Listed, all_changes, change_read, change_to}
 use Rattle.dnssec_run.specs.Adds.{changed_by, entries_in, listing_in, with_change}
-use Rattle.dnssec_run.specs.declared.{adds.Kept.Kept, listing.KeyListing.KeyListing}
+use Rattle.dnssec_run.specs.declared.{adds.Kept.Kept, lists.KeyListing.KeyListing}
 use Rattle.dnssec_run.specs.{ByList.ByList, declared.lists.Change.Change}
 use Rattle.dnssec_run.specs.declared.lists.{Shown.Shown}
 use Rattle.dnssec_run.specs.Lists.{any_list, choose, lists_of, lists_said, lists_with, passing}

@@ -11,7 +11,7 @@ use Rattle.std.specs.{FinMap.Entries.below_all, Ordering.is_lt, String.string_cm
 use Rattle.std.specs.List.{AllByRecursion, Sorted.IsStrictlySortedBy}
 use Rattle.std.specs.declared.cmp.Ordering.TheVariants.{Less}
 use Rattle.dnssec_zone.proofs.Quantified.{first}
-use Rattle.dnssec_run.specs.declared.listing.{Known.Known, KeyListing.KeyListing}
+use Rattle.dnssec_run.specs.declared.lists.{Known.Known, KeyListing.KeyListing}
 use Rattle.dnssec_run.specs.Adds.{IsAscending, by_text, fits_in_order, listed_of, listing_of}
 use Rattle.dnssec_run.proofs.{OneKey.same-test, Positions.none-below, Positions.order}
 use Rattle.dnssec_run.proofs.Positions.{both}

@@ -10,7 +10,7 @@ use Rattle.std.specs.declared.string.String.{String}
 use Rattle.dnssec_key.specs.{Key.KeyParts}
 use Rattle.dnssec_run.specs.declared.adds.Kept.{Kept}
 use Rattle.dnssec_run.specs.declared.adds.Kept.TheVariants.{Few, Many}
-use Rattle.dnssec_run.specs.declared.listing.{Known.Known, KeyListing.KeyListing}
+use Rattle.dnssec_run.specs.declared.lists.{Known.Known, KeyListing.KeyListing}
 use Rattle.dnssec_run.specs.{ByList.ByList, declared.lists.Change.Change}
 use Rattle.dnssec_run.specs.declared.lists.{Shown.Shown}
 use Rattle.dnssec_run.specs.declared.record.Published.{Published}

@@ -20,7 +20,7 @@ use Rattle.dnssec_run.specs.declared.record.Entry.{Entry}
 use Rattle.dnssec_run.specs.declared.record.{Outcome.Outcome, Published.Published}
 use Rattle.dnssec_run.specs.declared.running.Recorder.{Recorder}
 use Rattle.dnssec_run.specs.declared.adds.Kept.{Kept}
-use Rattle.dnssec_run.specs.declared.listing.KeyListing.{KeyListing}
+use Rattle.dnssec_run.specs.declared.lists.KeyListing.{KeyListing}
 use Rattle.dnssec_run.specs.{ByList.ByList, declared.lists.Change.Change}
 use Rattle.dnssec_run.specs.declared.lists.{Shown.Shown}
 use Rattle.dnssec_run.specs.Lists.{any_list, at_list, lists_of, lists_said, passing, shows}

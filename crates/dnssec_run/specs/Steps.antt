@@ -4,8 +4,8 @@ use Rattle.std.specs.Option.{option_map}
 use Rattle.dnssec_key.specs.declared.roll.RollType.{RollType}
 use Rattle.dnssec_zone.specs.Rolls.{roll_number}
 use Rattle.dnssec_run.specs.declared.record.Entry.{Entry}
-use Rattle.dnssec_run.specs.declared.record.LastStep.{LastStep}
-use Rattle.dnssec_run.specs.declared.record.Steps.{Steps}
+use Rattle.dnssec_run.specs.declared.running.LastStep.{LastStep}
+use Rattle.dnssec_run.specs.declared.running.Steps.{Steps}
 use Rattle.dnssec_run.specs.declared.caches.ByKind.{ByKind}
 use Rattle.dnssec_run.specs.ByKind.{at_kind}
 use Rattle.dnssec_run.specs.Origins.{origin}

@@ -4,51 +4,16 @@ ghost use Rattle.std.specs.Prelude.{◌==◌, IfOk, IfSome};
 ghost use Rattle.std.specs.Option.{option_copied, option_map_or};
 ghost use Rattle.std.specs.{BTreeSet.contains, List.All, List.list_any, Ordering.nat_cmp};
 ghost use Rattle.dnssec_run.specs.Between.{IsBetween, in_lists, lists_at};
-ghost use Rattle.dnssec_run.specs.Changes.{LeadTo, add_of, has_added, list_at, moves, moves_in};
+ghost use Rattle.dnssec_run.specs.Changes.{LeadTo, add_of, has_added, list_at, moves_in};
 ghost use Rattle.dnssec_run.specs.Origins.{same_ids, same_set, set_at};
 ghost use Rattle.dnssec_run.specs.Published.{id_of};
 ghost use Rattle.dnssec_run.specs.Safe.{blank, kind_of, position_at, position_of};
 
 use crate::caches::SetKind;
-use crate::lists::{ByList, Change, Shown};
+use crate::lists::{ByList, Change, Shown, is_other};
 use crate::record::{Entry, PublishedKey};
 use std::alloc::{AllocError, Global};
 use std::collections::BTreeSet;
-
-impl Change {
-    /// Whether this key comes into the list, or leaves it.
-    #[inline(always)]
-    pub fn moves(&self, list: Shown) -> bool
-        ensures { result ≡ moves list self.now }
-    {
-        self.was.of(list) != self.shown.of(list)
-    }
-
-    /// Whether this key comes into a set of the kind, or leaves it.
-    #[inline(always)]
-    fn moves_in(&self, kind: SetKind) -> bool
-        ensures { result ≡ moves_in (kind_of kind) self.now }
-    {
-        match kind {
-            SetKind::Ds => self.moves(Shown::Ds),
-            SetKind::Dnskey => self.moves(Shown::Dnskey) | self.moves(Shown::DnskeySigners),
-            SetKind::ZoneSigners => self.moves(Shown::ZoneSigners),
-        }
-    }
-}
-
-/// Whether a key comes into the set of this kind, or leaves it.
-#[inline(always)]
-pub fn is_other(changes: &[Change], kind: SetKind) -> bool
-    ensures { result ≡ list_any (moves_in (kind_of kind)) changes.now }
-{
-    for change in changes {
-        if change.moves_in(kind) {
-            return true;
-        }
-    }
-    false
-}
 
 /// The changes that lead from what is published after call `n` to what is after the next, one for
 /// each key that comes into a list or leaves it. `None` if no such changes do, as when keys change

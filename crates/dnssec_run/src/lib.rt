@@ -8,26 +8,25 @@ mod adds;
 mod between;
 mod caches;
 mod call;
-mod few;
 mod in_order;
-mod listing;
 mod lists;
 mod many;
 mod moments;
 mod plain;
 mod record;
 mod running;
+mod runs;
 mod sets;
+mod steps;
 mod walk_order;
 
-pub use between::{changes_after, entry_at, is_other, keys_at};
+pub use between::{changes_after, entry_at, keys_at};
 pub use caches::{ByKind, SetKind, retires};
 pub use call::Call;
 pub use in_order::keys_in_order;
-pub use lists::{ByList, Change, Shown};
+pub use lists::{ByList, Change, Shown, is_other};
 pub use moments::Moments;
 pub use plain::{each_chain_is_one, starts_suffice, whole_runs_stay_safe};
-pub use record::{
-    Entry, LastStep, Mark, Origins, Outcome, Published, PublishedKey, Reply, Run, Steps,
-};
-pub use running::{Recorder, run};
+pub use record::{Entry, Mark, Outcome, Published, PublishedKey, Reply, Run};
+pub use running::{LastStep, Origins, Recorder, Steps};
+pub use runs::run;

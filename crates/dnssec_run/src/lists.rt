@@ -1,10 +1,17 @@
 //! The four lists of what is published, and which of them have a key.
-ghost use Rattle.std.specs.Prelude.{◌≡◌, ◌<◌, ◌++◌, ◌∷◌, [], OnOk, if◌then◌else◌, not};
-ghost use Rattle.dnssec_run.specs.Lists.{any_list, at_list, choose, either, lists_of};
+ghost use Rattle.std.specs.Prelude.{◌≡◌, ◌<◌, ◌++◌, ◌∷◌, ◌||◌, [], None, OnOk, Some, not};
+ghost use Rattle.std.specs.Prelude.{if◌then◌else◌};
+ghost use Rattle.std.specs.List.{list_any};
+ghost use Rattle.dnssec_run.specs.Adds.{change_to};
+ghost use Rattle.dnssec_run.specs.Changes.{moves, moves_in};
+ghost use Rattle.dnssec_run.specs.Safe.{kind_of};
+ghost use Rattle.dnssec_run.specs.Lists.{at_list, choose, either, lists_of};
 
+use crate::caches::SetKind;
 use dnssec_keyset::KeyType;
 use std::alloc::AllocError;
 use std::marker::Model;
+use std::mem;
 
 /// The four lists of what is published.
 #[derive(Clone, Copy, Debug, PartialEq, Eq)]
@@ -113,14 +120,6 @@ impl ByList {
         }
     }
 
-    /// Whether this says no of every list.
-    #[inline(always)]
-    pub(crate) fn is_none(self) -> bool
-        ensures { result ≡ not (any_list self) }
-    {
-        self.bits == 0
-    }
-
     /// What is said of this list.
     #[inline(always)]
     pub fn of(self, list: Shown) -> bool
@@ -147,6 +146,42 @@ pub struct Change {
     pub shown: ByList,
 }
 
+impl Change {
+    /// Whether this key comes into the list. `None` if it neither comes into it nor leaves it.
+    #[inline(always)]
+    pub fn moves(&self, list: Shown) -> Option<bool>
+        ensures { result
+            ≡ (if moves list self.now then Some (at_list self.now.shown list) else None) }
+    {
+        let is = self.shown.of(list);
+        if self.was.of(list) == is {
+            return None;
+        }
+        Some(is)
+    }
+}
+
+/// Whether a key comes into the set of this kind, or leaves it.
+#[inline(always)]
+pub fn is_other(changes: &[Change], kind: SetKind) -> bool
+    ensures { result ≡ list_any (moves_in (kind_of kind)) changes.now }
+{
+    for change in changes {
+        let moves = match kind {
+            SetKind::Ds => change.moves(Shown::Ds).is_some(),
+            SetKind::Dnskey => {
+                change.moves(Shown::Dnskey).is_some()
+                    || change.moves(Shown::DnskeySigners).is_some()
+            }
+            SetKind::ZoneSigners => change.moves(Shown::ZoneSigners).is_some(),
+        };
+        if moves {
+            return true;
+        }
+    }
+    false
+}
+
 /// Appends `change` to `changes`. It fails only if there is no memory, and changes nothing then.
 // Inline, so that it makes no call while there is room.
 #[inline(always)]
@@ -158,4 +193,36 @@ pub(crate) fn note_change(changes: &mut Vec<Change>, change: Change) -> Result<(
     }
     changes.push_reserved(change);
     Ok(())
+}
+
+/// When a key was added, and which lists have it.
+#[derive(Clone, Copy, Debug, Drop, PartialEq, Eq)]
+pub(crate) struct KeyListing {
+    /// The position of its add, counted from 1.
+    pub(crate) added: usize,
+    pub(crate) shown: ByList,
+}
+
+impl KeyListing {
+    /// Notes that the lists in `shown` have the key, and no other list. Answers what this changes,
+    /// or `None` if it changes nothing.
+    #[inline(always)]
+    pub(crate) fn show(&mut self, shown: ByList) -> Option<Change>
+        ensures now { self.new ≡ record { added = self.old.added; shown = shown } }
+        ensures change { result ≡ change_to shown self.old }
+    {
+        let was = mem::replace(&mut self.shown, shown);
+        if was == shown {
+            return None;
+        }
+        let added = self.added;
+        Some(Change { added, was, shown })
+    }
+}
+
+/// A key with what is known of it.
+#[derive(Debug, Drop)]
+pub(crate) struct Known {
+    pub(crate) listing: KeyListing,
+    pub(crate) reference: String,
 }

@@ -6,8 +6,7 @@ ghost use Rattle.std.specs.{BTreeMap.get_by_text, Option.option_map, Str.bytes_e
 ghost use Rattle.dnssec_run.specs.Adds.{IsAscending, all_changes, by_text, changed_by, listed_of};
 ghost use Rattle.dnssec_run.specs.Adds.{fits_in_order, listing_of, reread, set_listing};
 
-use crate::listing::{KeyListing, Known};
-use crate::lists::{ByList, Change, note_change};
+use crate::lists::{ByList, Change, KeyListing, Known, note_change};
 use crate::walk_order::{WalkOrder, entry_at};
 use dnssec_keyset::Key;
 use std::alloc::{AllocError, Global};

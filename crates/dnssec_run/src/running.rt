@@ -1,35 +1,117 @@
-//! Runs of lists of calls, with their records.
-ghost use Rattle.std.specs.Prelude.{◌≡◌, ◌++◌, ◌∷◌, ℕ, List, [], vec_len, IfOk, IfErr, OnOk};
+//! A run that goes on call by call, and what the next report of each roll counts from.
+ghost use Rattle.std.specs.Prelude.{◌≡◌, ◌||◌, ◌++◌, ◌∷◌, ℕ, List, [], IfOk, IfErr, OnOk};
 ghost use Rattle.std.specs.Option.{option_map};
 ghost use Rattle.std.specs.Prelude.{true, false, IsSome, Some, None, if◌then◌else◌};
 ghost use Rattle.dnssec_base.specs.declared.error.Error.TheVariants.{OutOfMemory};
-ghost use Rattle.std.specs.FinMap.{get};
+ghost use Rattle.dnssec_key.specs.declared.roll.RollType.{RollType};
+ghost use Rattle.std.specs.{FinMap.get, List.list_any};
 ghost use Rattle.std.specs.Prelude.{◌≢◌, length};
 ghost use Rattle.dnssec_run.specs.Adds.{listing_in};
-ghost use Rattle.dnssec_run.specs.Asked.{ChangesAsAsked, RetiresAsAsked, asks_to_publish};
-ghost use Rattle.dnssec_run.specs.EarlyEnds.{UndoesStarts};
+ghost use Rattle.dnssec_run.specs.Asked.{asked_by, asks_to_publish, kind_shown, updates};
 ghost use Rattle.dnssec_run.specs.Changes.{LeadTo, add_of};
-ghost use Rattle.dnssec_run.specs.Lists.{lists_said};
-ghost use Rattle.dnssec_run.specs.WholeRolls.{GoesOn, NeverMissesStamp, RollsFinish};
-ghost use Rattle.dnssec_run.specs.WholeRolls.{SettlesBetweenRolls, WaitsExactly};
-ghost use Rattle.dnssec_run.specs.Plain.{StaysSafe};
-ghost use Rattle.dnssec_run.specs.ByAlgorithm.{StaysSafeByEach};
-ghost use Rattle.dnssec_run.specs.Record.{IsRun, KeepsSidesApart};
-ghost use Rattle.dnssec_run.specs.Record.{NeighboursMayBeExchanged, StaysSound, call_of, world_at};
+ghost use Rattle.dnssec_run.specs.Lists.{at_list, lists_said};
+ghost use Rattle.dnssec_run.specs.Record.{call_of};
 ghost use Rattle.dnssec_run.specs.Recorder.{AreShown, IsCopyOf, Records, Renews, SaysOutcome};
 ghost use Rattle.dnssec_run.specs.Recorder.{listing_after, put_by, reference_set, taken_by};
-ghost use Rattle.dnssec_run.specs.Safe.{position_at, position_of};
+ghost use Rattle.dnssec_run.specs.Safe.{is_step, position_at, position_of};
+ghost use Rattle.dnssec_run.specs.Steps.{step_of};
 ghost use Rattle.dnssec_run.specs.declared.call.Call.{Call};
+ghost use Rattle.dnssec_run.specs.declared.lists.Shown.{Shown};
 ghost use Rattle.dnssec_run.specs.declared.record.Entry.{Entry};
 
 use crate::adds::Adds;
+use crate::caches::ByKind;
 use crate::call::{Call, KeyChange};
 use crate::lists::{ByList, Change, note_change};
-use crate::record::{Entry, Mark, Outcome, Published, Reply, Run};
+use crate::record::{Entry, Mark, Outcome, Published, Reply};
 use crate::walk_order::WalkOrder;
 use dnssec_base::Name;
-use dnssec_keyset::{Error, KeySet};
+use dnssec_keyset::{Action, Error, KeySet, RollType};
 use std::alloc::{AllocError, Global};
+
+/// For each kind of sets the position at which the set came that is published at some position: no
+/// call between the two has changed it. A set that comes back comes anew.
+pub type Origins = ByKind<usize>;
+
+/// The last step of each roll so far: what the roll's next report counts from.
+///
+/// ```rust
+/// let outcome = recorder.advance(alloc, call)?;
+/// at += 1;
+/// steps.note(outcome.mark, at, origins);
+/// ```
+#[derive(Clone, Copy, Debug)]
+pub struct Steps {
+    /// One for each roll, in their order in `RollType`.
+    by_roll: [Option<LastStep>; 6],
+}
+
+/// The last step of a roll: its last accepted start or end of its first wait.
+#[derive(Clone, Copy, Debug)]
+pub struct LastStep {
+    /// Its position.
+    pub at: usize,
+    /// The origins of the sets that are published after it. A set that it has changed has its
+    /// position.
+    pub origins: Origins,
+}
+
+impl Steps {
+    /// The steps before the first call: no roll has one.
+    pub fn new() -> Self
+        ensures { (roll : RollType) → step_of result roll ≡ None }
+    {
+        Steps { by_roll: [None; 6] }
+    }
+
+    /// The last accepted start of the roll or end of its first wait, which its next report counts
+    /// from. `None` if the roll has made none.
+    pub fn of(&self, roll: RollType) -> Option<LastStep>
+        ensures { result ≡ step_of self.now roll }
+    {
+        self.by_roll[roll as usize]
+    }
+
+    /// Takes the next call, which stands at position `at` and has this mark. `origins` has for each
+    /// set that is published after it the position of the call that brought the set. If the mark is
+    /// that of an accepted start or end of a first wait, the call becomes the last step of its
+    /// roll. Any other call changes nothing.
+    // Inline, so that another call makes no call here.
+    #[inline(always)]
+    pub fn note(&mut self, mark: Mark, at: usize, origins: Origins)
+        ensures { (roll : RollType) → step_of self.new roll ≡ (if is_step roll mark
+            then Some (record { at = at; origins = origins }) else step_of self.old roll) }
+    {
+        if let Mark::Step(roll) = mark {
+            self.by_roll[roll as usize] = Some(LastStep { at, origins });
+        }
+    }
+}
+
+impl Reply {
+    /// Which of the four published lists the call with this reply may have changed: those in
+    /// `by_hand`, which show what it set by hand, and those that the actions of the reply ask to
+    /// publish. With the DNSKEY set come the keys that sign it.
+    pub(crate) fn touched(&self, by_hand: ByList) -> ByList
+        ensures { (list : Shown) → at_list result list
+            ≡ (at_list by_hand list || list_any (updates (kind_shown list)) (asked_by self.now)) }
+    {
+        let mut ds = false;
+        let mut dnskey = false;
+        let mut zone = false;
+        if let Reply::Actions(actions) = self {
+            for action in actions {
+                match action {
+                    Action::UpdateDsRrset => ds = true,
+                    Action::UpdateDnskeyRrset => dnskey = true,
+                    Action::UpdateRrsig => zone = true,
+                    _ => {}
+                }
+            }
+        }
+        by_hand.with(ByList::by_flags(ds, dnskey, dnskey, zone))
+    }
+}
 
 /// Keeps `added`, what is known of each key by its reference, up to date after the accepted call at
 /// position `at`. `change` is which key the call added or deleted. Answers whether it added or
@@ -192,7 +274,7 @@ impl Recorder {
             Renews (option_map (λ r. r.now) only.entry) touched says self.old.keyset
             self.old.added.kept self.new.added.kept self.new.changes.items changed) }
     {
-        if touched.is_none() {
+        if touched == ByList::NONE {
             return Ok(false);
         }
         let Some(reference) = only else {
@@ -289,82 +371,4 @@ impl Recorder {
     {
         self.keyset
     }
-}
-
-/// Makes the calls in turn on a new key set for the zone of this name, and records each.
-///
-/// The key set and the record take their memory from `alloc`. A refused call is recorded too, also
-/// one that ran out of memory, and the run goes on.
-///
-/// A list is plain if it sets no flag and no time by hand, and the first wait of an algorithm roll
-/// is over before the first roll of KSKs or CSKs. Another signer's key may be published and taken
-/// out by hand at any time. In a plain list every position of the record is safe. That is: take any
-/// DS set, DNSKEY set and zone signers that were published up to there, and that no report has
-/// retired whose TTL has passed. Either there is no DS, or a key that the DS names is in that
-/// DNSKEY set and signs it, and a key of that set signs the zone (RFC 4035, section 5).
-///
-/// A plain list keeps the sets whole if after each accepted start the algorithms of its KSKs are
-/// among those of its ZSKs, and only an algorithm roll gives the KSKs a new one. Keys count that
-/// aren't old and are in a set; a CSK counts as both. Then each algorithm of the DS set has such a
-/// chain by its keys alone, for validators that ask for it (RFC 4035, section 2.2).
-///
-/// If nothing is set by hand but other signers' keys, no wait lacks a stamp. While no roll is in
-/// progress, each role of a key is future (in no set, and not old), active (present, signing, not
-/// old, and as a KSK with a DS) or stale (in no set, and old). A report, and the end of a roll, is
-/// accepted in its phase. After that end each key that the roll listed as old is stale or was
-/// deleted, and each that it listed as new is active. If also the moments never fall, a wait is
-/// over once the TTL of its report has passed since that report. Both waits of a
-/// `ZskDoubleSignatureRoll` count from its first report (RFC 7583, section 3).
-///
-/// An early end of a roll gives each key that the roll's start listed the flags that it had before
-/// that start. Only a key that was deleted, or had a flag set by hand since, is left as it is. The
-/// early end changes no other key, no stamp and no other roll.
-///
-/// Unless a flag is set by hand, what is published changes only if the reply asks to publish it.
-///
-/// # Errors
-///
-/// Only `OutOfMemory`, if there is no memory for the record. Then no part of the run is answered.
-///
-/// ```rust
-/// let now = UnixTime::from(Timestamp::from(1_700_000_000));
-/// let mut calls = Vec::new(alloc);
-/// calls.push(Call::SetPresent { pubref: "Z1", value: true, now })?;
-/// let run = run(alloc, name, calls)?;
-/// if let Reply::Refused(cause) = &run.entries[0].reply {
-///     // No key `Z1` was added before, so nothing was changed.
-/// }
-/// ```
-pub fn run<'a>(alloc: Global, name: Name<Vec<u8>>, calls: Vec<Call<'a>>) -> Result<Run, Error>
-    ensures run { IfOk result (λ run. IsRun name calls.entry.items run.entries.items) }
-    ensures keyset { IfOk result (λ run. run.keyset
-        ≡ (world_at name calls.entry.items run.entries.items (vec_len run.entries)).set) }
-    ensures sound { IfOk result (λ run. StaysSound name calls.entry.items run.entries.items) }
-    ensures sides { IfOk result (λ run. KeepsSidesApart name calls.entry.items run.entries.items) }
-    ensures exchange { IfOk result (λ run. NeighboursMayBeExchanged name calls.entry.items
-        run.entries.items) }
-    ensures stamps { IfOk result (λ run. NeverMissesStamp name calls.entry.items
-        run.entries.items) }
-    ensures settled { IfOk result (λ run. SettlesBetweenRolls name calls.entry.items
-        run.entries.items) }
-    ensures waits { IfOk result (λ run. WaitsExactly name calls.entry.items run.entries.items) }
-    ensures goes_on { IfOk result (λ run. GoesOn name calls.entry.items run.entries.items) }
-    ensures finishes { IfOk result (λ run. RollsFinish name calls.entry.items run.entries.items) }
-    ensures undoes { IfOk result (λ run. UndoesStarts name calls.entry.items run.entries.items) }
-    ensures changes { IfOk result (λ run. ChangesAsAsked calls.entry.items run.entries.items) }
-    ensures retires { IfOk result (λ run. RetiresAsAsked run.entries.items) }
-    ensures chain { IfOk result (λ run. StaysSafe name calls.entry.items run.entries.items) }
-    ensures each_chain { IfOk result (λ run. StaysSafeByEach name calls.entry.items
-        run.entries.items) }
-    ensures err { IfErr result (λ e. e ≡ OutOfMemory) }
-{
-    let mut entries = Vec::with_capacity(alloc, calls.len())?;
-    let mut recorder = Recorder::new(alloc, name);
-    for call in calls {
-        entries.push_reserved(recorder.make(alloc, call)?);
-    }
-    Ok(Run {
-        keyset: recorder.into_keyset(),
-        entries,
-    })
 }

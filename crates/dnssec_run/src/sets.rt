@@ -4,8 +4,7 @@ ghost use Rattle.dnssec_run.specs.Adds.{AreListed, ids_shown, shown_one};
 ghost use Rattle.dnssec_run.specs.Published.{id_of};
 
 use crate::adds::{Adds, Kept};
-use crate::listing::KeyListing;
-use crate::lists::Shown;
+use crate::lists::{KeyListing, Shown};
 use crate::record::{Published, PublishedKey};
 use std::alloc::{AllocError, Global};
 

@@ -12,7 +12,7 @@ use Rattle.dnssec_judge.specs.Inner.{Floor.over_by, Window.in_window, Window.spa
 use Rattle.dnssec_judge.specs.{Inner.Spans.AreOld, Inner.Spans.Tiles, Sets.Numbered}
 use Rattle.dnssec_judge.specs.Numbers.{Keys}
 use Rattle.dnssec_judge.specs.declared.window.Window.{Window}
-use Rattle.dnssec_judge.specs.declared.windows.Windows.{Windows}
+use Rattle.dnssec_judge.specs.declared.judging.Windows.{Windows}
 use Rattle.dnssec_judge.specs.Verdict.{IsVerdict}
 
 -- a key with this number is in a set of a window

@@ -69,25 +69,14 @@ impl Table {
             × AreNumbered self.new changes.now) }
     {
         for change in changes {
-            self.give_one(change.added)?;
+            if change.added == 0 {
+                return Err(AllocError);
+            }
+            self.latest = match self.find(change.added) {
+                Some(number) => number,
+                None => self.give(change.added)?,
+            };
         }
-        Ok(())
-    }
-
-    /// Gives the key that was added at this position a number, if it has none.
-    #[inline(always)]
-    fn give_one(&mut self, added: usize) -> Result<(), AllocError>
-        ensures extends { OnOk result (Extends self.old self.new) }
-        ensures counts { OnOk result (0 < added) }
-        ensures number { OnOk result ((n : ℕ) × (add_at self.new n ≡ added)) }
-    {
-        if added == 0 {
-            return Err(AllocError);
-        }
-        self.latest = match self.find(added) {
-            Some(number) => number,
-            None => self.give(added)?,
-        };
         Ok(())
     }
 
@@ -98,21 +87,9 @@ impl Table {
         ensures none { result ≡ None → IsTable self.now → (n : ℕ) →
             add_at self.now n ≡ added → 0 < added → ⊥ }
     {
-        if self.is(self.latest, added) {
-            return Some(self.latest);
-        }
-        self.search(added)
-    }
-
-    /// Whether this is the `number` of the key that was added at this position, which isn't 0.
-    #[inline(always)]
-    fn is(&self, number: usize, added: usize) -> bool
-        ensures yes { result ≡ true → add_at self.now number ≡ added }
-        ensures no { result ≡ false → add_at self.now number ≡ added → 0 < added → ⊥ }
-    {
-        match self.adds.get(number) {
-            Some(other) => *other == added,
-            None => false,
+        match self.adds.get(self.latest) {
+            Some(other) if *other == added => Some(self.latest),
+            _ => self.search(added),
         }
     }
 
@@ -128,10 +105,10 @@ impl Table {
             }
         }
         let number = self.by_added.get(&added).copied()?;
-        if self.is(number, added) {
-            return Some(number);
+        match self.adds.get(number) {
+            Some(other) if *other == added => Some(number),
+            _ => None,
         }
-        None
     }
 
     /// Gives the key that was added at this position a number. All others keep theirs. After an

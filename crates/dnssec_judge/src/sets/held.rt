@@ -27,20 +27,9 @@ pub(crate) fn is_in_word(word: u64, number: usize) -> bool
 #[derive(Debug, Drop)]
 pub(crate) struct Bits {
     /// The numbers below 64.
-    pub(super) first: u64,
+    pub(crate) first: u64,
     /// The others, in words of 64 numbers. None if no such number was ever in the set.
-    pub(super) rest: Option<ArcSlice<u64>>,
-}
-
-/// The words of a set from 64 on, shared. It fails only if they are shared too often.
-#[inline(always)]
-pub(super) fn share(rest: &Option<ArcSlice<u64>>) -> Result<Option<ArcSlice<u64>>, AllocError>
-    ensures { IfOk result (λ shared. rest_of shared ≡ rest_of rest.now) }
-{
-    match rest {
-        Some(rest) => Ok(Some(rest.clone()?)),
-        None => Ok(None),
-    }
+    pub(crate) rest: Option<ArcSlice<u64>>,
 }
 
 impl Clone for Bits {
@@ -148,7 +137,7 @@ impl Bits {
 
 /// The first word of a set with this `number`, which is below 64, if `is_in`, or else without it.
 #[inline(always)]
-pub(super) fn put(first: u64, number: usize, is_in: bool) -> u64
+pub(crate) fn put(first: u64, number: usize, is_in: bool) -> u64
     requires { number < 64 }
     ensures { (n : ℕ) (rest : List ℕ) → has_bit (result ∷ rest) n
         ≡ (if nat_eq number n then is_in else has_bit (first ∷ rest) n) }
@@ -160,47 +149,16 @@ pub(super) fn put(first: u64, number: usize, is_in: bool) -> u64
 /// A set while it is written over another one, its base: numbers are put in or taken out.
 #[derive(Debug, Drop)]
 pub(crate) struct BitsDraft {
-    first: u64,
+    pub(crate) first: u64,
     /// The words from 64 on. None as long as they are those of the base.
-    rest: Option<Vec<u64>>,
+    pub(crate) rest: Option<Vec<u64>>,
 }
 
 impl BitsDraft {
-    /// The set `base`, of which nothing is written yet.
-    #[inline(always)]
-    pub(crate) fn of(base: &Bits) -> Self
-        ensures { drafted base.now result ≡ words_of base.now }
-    {
-        BitsDraft {
-            first: base.first,
-            rest: None,
-        }
-    }
-
-    /// Puts `number` into the set if `is_in`, or else takes it out. It fails only if there is no
-    /// memory.
-    #[inline(always)]
-    pub(crate) fn put(
-        &mut self,
-        alloc: Global,
-        base: &Bits,
-        number: usize,
-        is_in: bool,
-    ) -> Result<(), AllocError>
-        ensures { OnOk result ((n : ℕ) → has_bit (drafted base.now self.new) n
-            ≡ (if nat_eq number n then is_in else has_bit (drafted base.now self.old) n)) }
-    {
-        if number >= WORD {
-            self.put_far(alloc, number, is_in, base)?;
-            return Ok(());
-        }
-        self.first = put(self.first, number, is_in);
-        Ok(())
-    }
-
-    /// The same for a `number` from 64 on, with words of its own.
+    /// Puts `number`, which is from 64 on, into the set if `is_in`, or else takes it out. The words
+    /// from 64 on are then the draft's own. It fails only if there is no memory.
     #[inline(never)]
-    fn put_far(
+    pub(crate) fn put_far(
         &mut self,
         alloc: Global,
         number: usize,
@@ -234,15 +192,18 @@ impl BitsDraft {
         ensures { IfOk result (λ bits. words_of bits ≡ drafted base.now self) }
     {
         let first = self.first;
-        let Some(words) = self.rest else {
-            let rest = share(&base.rest)?;
-            return Ok(Bits { first, rest });
+        let words = match self.rest {
+            Some(words) => Some(ArcSlice::from_vec(words)?),
+            None => None,
         };
-        let rest = Some(ArcSlice::from_vec(words)?);
-        if rest == older.rest {
-            let rest = share(&older.rest)?;
-            return Ok(Bits { first, rest });
+        if words.is_some() && words != older.rest {
+            return Ok(Bits { first, rest: words });
         }
+        let like = if words.is_some() { older } else { base };
+        let rest = match &like.rest {
+            Some(words) => Some(words.clone()?),
+            None => None,
+        };
         Ok(Bits { first, rest })
     }
 }

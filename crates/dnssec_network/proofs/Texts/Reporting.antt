@@ -4,7 +4,7 @@ use Rattle.dnssec_keyset.specs.KeySet.{KeySetParts}
 use Rattle.dnssec_network.specs.Notes.{NotesParts}
 use Rattle.dnssec_record.specs.{Session.Stands, declared.session.Session.Session}
 use Rattle.dnssec_run.specs.{Moments.moments_of, Record.world_at, Steps.AreStepsOf, Steps.step_of}
-use Rattle.dnssec_run.specs.declared.{record.Entry.Entry, record.Steps.Steps}
+use Rattle.dnssec_run.specs.declared.{record.Entry.Entry, running.Steps.Steps}
 use Rattle.dnssec_network.specs.Text.{Due.IsDueAfter, Due.due_text, Reading.AreNotes}
 
 pub is_due_after : (lines notes : List (List ℕ)) (entries : List Entry) (session : Session)

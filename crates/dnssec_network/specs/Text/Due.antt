@@ -5,7 +5,7 @@ use Rattle.std.specs.List.{flat_map}
 use Rattle.dnssec_key.specs.{declared.roll.RollType.RollType, RollTable.is_second, Texts.roll_name}
 use Rattle.dnssec_zone.specs.Rolls.{Rolls, all_rolls, phase_of}
 use Rattle.dnssec_run.specs.declared.{call.Call.Call, record.Entry.Entry}
-use Rattle.dnssec_run.specs.{Moments.moments_of, declared.record.LastStep.LastStep}
+use Rattle.dnssec_run.specs.{Moments.moments_of, declared.running.LastStep.LastStep}
 use Rattle.dnssec_run.specs.{Record.IsRun, Record.world_at, Steps.last_step}
 use Rattle.dnssec_network.specs.declared.due.{DueReport.DueReport, NotYet.NotYet}
 use Rattle.dnssec_network.specs.declared.due.NotYet.TheVariants.{WaitsFor, WaitsUntil}

@@ -1,6 +1,6 @@
 -- By the TTL that is due.
 use Rattle.std.proofs.Common.{◌∙◌, ap, ℕ, Option, Result}
-use Rattle.dnssec_run.specs.declared.{caches.SetKind.SetKind, record.LastStep.LastStep}
+use Rattle.dnssec_run.specs.declared.{caches.SetKind.SetKind, running.LastStep.LastStep}
 use Rattle.dnssec_policy.specs.{Code.view_of, InProgress.report_next, InProgress.report_or}
 use Rattle.dnssec_policy.proofs.in_progress.report_next.Goals as goal
 

@@ -7,7 +7,7 @@ use Rattle.std.specs.{BTreeMap.get_by_text, Option.option_map, Str.bytes_eq}
 use Rattle.std.specs.HashMap as hash
 use Rattle.dnssec_run.specs.Adds.{by_text, reread}
 use Rattle.dnssec_run.specs.Lists.{lists_of}
-use Rattle.dnssec_run.specs.declared.listing.KeyListing.{KeyListing}
+use Rattle.dnssec_run.specs.declared.lists.KeyListing.{KeyListing}
 use Rattle.dnssec_run.proofs.Moves.{all-moved, move_lent, moved_to, moves-next, moves_of}
 use Rattle.dnssec_run.proofs.OneKey.{sets-none, sets-some}
 use Rattle.dnssec_run.proofs.Trees.{ascending-by_text, find-by_text}

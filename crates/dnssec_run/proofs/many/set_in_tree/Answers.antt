@@ -3,7 +3,7 @@ use Rattle.std.proofs.Common.{◌∙◌, Some, ap, cond, rules, sym}
 use Rattle.std.proofs.lemmas.Map.Text.{btree_map_updates_text}
 use Rattle.std.specs.{BTreeMap.get_by_text, Str.bytes_eq}
 use Rattle.dnssec_run.specs.Adds.{set_listing, set_shown}
-use Rattle.dnssec_run.specs.declared.listing.KeyListing.{KeyListing}
+use Rattle.dnssec_run.specs.declared.lists.KeyListing.{KeyListing}
 use Rattle.dnssec_run.proofs.OneKey.{sets-some}
 use Rattle.dnssec_run.proofs.many.set_in_tree.Goals as goal
 

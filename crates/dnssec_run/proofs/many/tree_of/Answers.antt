@@ -4,7 +4,7 @@ use Rattle.std.proofs.lemmas.Map.Text.{btree_map_updates_text}
 use Rattle.std.specs.{BTreeMap.get_by_text, Vec.Iter.into_iter_items}
 use Rattle.dnssec_zone.proofs.Quantified.{second}
 use Rattle.dnssec_run.specs.Adds.{IsAscending, listed_of, listing_of}
-use Rattle.dnssec_run.specs.declared.listing.Known.{Known}
+use Rattle.dnssec_run.specs.declared.lists.Known.{Known}
 use Rattle.dnssec_run.proofs.Trees.{either, one-over}
 use Rattle.dnssec_run.proofs.many.tree_of.Goals as goal
 
