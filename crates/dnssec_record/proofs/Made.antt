@@ -3,7 +3,7 @@ use Rattle.std.proofs.Common.{◌≡◌, ℕ, List, [], ◌∷◌, ◌++◌, Opt
 use Rattle.std.proofs.Common.{Result, IfErr, IfOk}
 use Rattle.std.specs.Prelude.{IsErrAnd}
 use Rattle.std.proofs.lemmas.Result.{IfOk-weaker, err_from_is_err_and}
-use Rattle.dnssec_run.specs.declared.{call.Call.Call, record.Entry.Entry}
+use Rattle.dnssec_run.specs.declared.{call.Call.Call, record.Entry.Entry, record.Reply.Reply}
 use Rattle.dnssec_script.specs.Inner.{Reading.HasRead, Reading.IsReadFault, Reading.ReadsOn}
 use Rattle.dnssec_script.specs.Inner.Statement.{statement_says}
 use Rattle.dnssec_script.specs.Script.{IsScript, call_says}
@@ -13,7 +13,7 @@ use Rattle.dnssec_script.specs.declared.statement.Statement.{Statement}
 use Rattle.dnssec_record.specs.{Answer.AnswerFault, Fault.fault_of_reading}
 use Rattle.dnssec_record.specs.declared.fault.ScriptFault.{ScriptFault, TheVariants.OutOfMemory}
 use Rattle.dnssec_record.specs.Inner.Zone.{Comes, Known, TakesOn}
-use Rattle.dnssec_record.specs.declared.{zone.TimedReply.TimedReply, zone.ZoneState.ZoneState}
+use Rattle.dnssec_record.specs.declared.{zone.ZoneState.ZoneState}
 use Rattle.dnssec_record.proofs.Answering.{answer_fault}
 
 -- these are left of the lines of a script, and this holds of the calls of the others and of their
@@ -84,9 +84,9 @@ memory_made h r gives = let p = err_from_is_err_and r gives in rw (p.1, p.2) (be
 
 -- if this is the statement's call, what came of it came of the statement
 pub takes_on : {E : Type 0} (After : Known) (old next : ZoneState) (statement : Statement)
-    (call : Call) → call_says call ≡ statement_says statement → (r : Result TimedReply E)
-    → IfOk r (λ made. (name : List ℕ) (calls : List Call) (entries : List Entry)
-    → After name calls entries old → Comes After name calls entries call next made)
+    (call : Call) → call_says call ≡ statement_says statement → (r : Result Reply E)
+    → IfOk r (λ reply. (name : List ℕ) (calls : List Call) (entries : List Entry)
+    → After name calls entries old → Comes After name calls entries call next reply)
     → IfOk r (TakesOn After statement old next)
 takes_on After old next statement call is r comes = IfOk-weaker r _ _
-    (λ made so. record { call = call; is_call = is; comes = so }) comes
+    (λ reply so. record { call = call; is_call = is; comes = so }) comes

@@ -28,7 +28,7 @@ use Rattle.dnssec_record.specs.Output.{answers, chain_line, published_text, repl
 use Rattle.dnssec_record.specs.Output.{set_text, sets_text}
 use Rattle.dnssec_record.specs.Session.{Closes, Follows}
 use Rattle.dnssec_record.specs.declared.courses.{Courses.Courses, Turn.Turn}
-use Rattle.dnssec_record.specs.declared.{zone.TimedReply.TimedReply, zone.ZoneState.ZoneState}
+use Rattle.dnssec_record.specs.declared.{zone.ZoneState.ZoneState}
 
 -- ---- the text of sets says no more than which keys they have
 
@@ -113,7 +113,6 @@ none_follows name zone records knows listed ended = record {
   follows = record { records = records; knows = knows };
   listed = ap (map as_listed) listed;
   ended = ended;
-  moments = refl;
 }
 
 -- the entry of an outcome, with what is then published
@@ -139,8 +138,7 @@ pub goes_on : (name : List ℕ) (calls : List Call) (entries : List Entry) (old 
     (position_of e)
     → TellsApart add_of (entries ++ e ∷ []) → Knows add_of entries old.judge
     → Knows add_of (entries ++ e ∷ []) next.judge)
-    → Comes Follows name calls entries call next
-    (record { reply = outcome.reply; moment = outcome.moment })
+    → Comes Follows name calls entries call next outcome.reply
 goes_on name calls entries old next call outcome so records judged =
     let sets = shown-sets next.recorder in
     let e = entry_of outcome sets.0 in
@@ -153,19 +151,18 @@ goes_on name calls entries old next call outcome so records judged =
         knows = judged entries e refl refl went.1 (adds-apart went.0.run) so.knows;
       };
       is_reply = refl;
-      is_moment = refl;
     }
 
 -- and what its rolls listed, by the turn of the call
 pub lists_on : {name : List ℕ} {calls : List Call} {entries : List Entry} {old zone : ZoneState}
-    (next : ZoneState) {call : Call} {made : TimedReply} → IsZoneAfter name calls entries old
-    → Comes Follows name calls entries call zone made → zone.courses ≡ old.courses
+    (next : ZoneState) {call : Call} {reply : Reply} → IsZoneAfter name calls entries old
+    → Comes Follows name calls entries call zone reply → zone.courses ≡ old.courses
     → next.recorder ≡ zone.recorder → next.judge ≡ zone.judge
-    → (turn : Turn) → turn ≡ turn_after (turn_of call) made.reply
+    → (turn : Turn) → turn ≡ turn_after (turn_of call) reply
     → map as_listed next.courses.listed.items
     ≡ listed_after (map as_listed zone.courses.listed.items) turn
     → next.courses.ended.items ≡ ended_after zone.courses.ended.items turn
-    → Comes IsZoneAfter name calls entries call next made
+    → Comes IsZoneAfter name calls entries call next reply
 lists_on {calls = calls} {entries = entries} next {call = call} so came same recorder judge turn is
     listed ended =
     let e = came.entry in let its = is ∙ ap (turn_after (turn_of call)) (sym came.is_reply) in
@@ -186,10 +183,8 @@ lists_on {calls = calls} {entries = entries} next {call = call} so came same rec
             ∙ ap (λ (rs : List RollType). ended_after rs turn) so.ended
             ∙ ap (ended_after (ended_by calls entries)) its
             ∙ sym (folded_more ended_after [] calls entries call e so.follows.records.run.count);
-        moments = refl;
       };
       is_reply = came.is_reply;
-      is_moment = came.is_moment;
     }
 
 -- ---- answers
@@ -201,17 +196,17 @@ Answered text zone name calls entries =
 
 -- one more call, of the next line
 pub one_more : {script : List ℕ} {old new : Lines} {found : Option Statement} {s : Statement}
-    (text after : List ℕ) (zone next : ZoneState) (made : TimedReply)
+    (text after : List ℕ) (zone next : ZoneState) (reply : Reply)
     → HasMade script old (Answered text zone) → Finds old new found → found ≡ Some s
-    → TakesOn Follows s zone next made → after ≡ text ++ reply_text made.reply ++ codes "\n"
+    → TakesOn Follows s zone next reply → after ≡ text ++ reply_text reply ++ codes "\n"
     → HasMade script new (Answered after next)
-one_more text after zone next made h finds some takes wrote =
+one_more text after zone next reply h finds some takes wrote =
     let came = takes.comes h.name h.calls h.entries h.so.0 in let e = came.entry in
     let line = λ (e : Entry). reply_text e.reply ++ codes "\n" in
     let more : answers h.entries ++ line e ≡ answers (h.entries ++ e ∷ []) =
     flat_map_more line [] h.entries e in
     let said : after ≡ answers h.entries ++ line e =
-    wrote ∙ append_assoc text (reply_text made.reply) (codes "\n")
+    wrote ∙ append_assoc text (reply_text reply) (codes "\n")
     ∙ ap (λ (r : Reply). text ++ (reply_text r ++ codes "\n")) (sym came.is_reply)
     ∙ ap (λ t. t ++ line e) h.so.1 in
     one_made (Answered text zone) (Answered after next) h takes.call (h.entries ++ e ∷ []) finds

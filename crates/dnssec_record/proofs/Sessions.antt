@@ -1,41 +1,33 @@
 -- A session whose calls are handed in one by one.
-use Rattle.std.proofs.Common.{◌≡◌, ℕ, List, [], ◌∷◌, ◌++◌, Option, Some, refl, sym, ◌∙◌, ap}
+use Rattle.std.proofs.Common.{◌≡◌, ℕ, List, [], ◌∷◌, ◌++◌, Option, Some, sym, ◌∙◌, ap}
 use Rattle.std.proofs.Common.{Bool, IfSome, IsSome, is_some, subst}
 use Rattle.std.specs.Option.{option_map}
 use Rattle.std.specs.Prelude.{codes}
-use Rattle.dnssec_run.specs.{Moments.moments_of, Record.is_accepted}
+use Rattle.dnssec_run.specs.{Record.is_accepted}
 use Rattle.dnssec_run.specs.declared.call.Call.{Call}
 use Rattle.dnssec_run.specs.declared.record.{Entry.Entry, Reply.Reply}
-use Rattle.dnssec_record.specs.Inner.Zone.{IsZoneAfter}
+use Rattle.dnssec_record.specs.Inner.Zone.{Comes, IsZoneAfter}
 use Rattle.dnssec_record.specs.Output.{reply_text}
-use Rattle.dnssec_record.specs.Session.{Advances, Decides, GoesOn, Stands, StandsAfter}
-use Rattle.dnssec_record.specs.declared.session.Session.{Session}
+use Rattle.dnssec_record.specs.Session.{Advances, Decides, GoesOn, Stands}
+use Rattle.dnssec_record.specs.declared.{session.Session.Session, zone.ZoneState.ZoneState}
 use Rattle.dnssec_script.specs.Script.{AreScript, IsLineOf, IsZoneLine, NamesZone, call_says, says}
 use Rattle.dnssec_script.proofs.Judging.{line_more}
 use Rattle.dnssec_script.specs.Inner.Statement.{statement_says}
 use Rattle.dnssec_script.specs.declared.statement.Statement.{Statement}
 
--- ---- zones
+-- ---- calls
 
--- a session stands after what its zone and its moments are after
-pub session_of : {name : List ℕ} {calls : List Call} {entries : List Entry} (s : Session)
-    → IsZoneAfter name calls entries s.zone → s.moments ≡ moments_of entries
-    → StandsAfter name calls entries s
-session_of s so moments = record {
-  follows = so.follows;
-  listed = so.listed;
-  ended = so.ended;
-  moments = moments;
-}
-
--- and its zone is after what the session stands after
-pub zone_of : {name : List ℕ} {calls : List Call} {entries : List Entry} (s : Session)
-    → StandsAfter name calls entries s → IsZoneAfter name calls entries s.zone
-zone_of s so = record {
-  follows = so.follows;
-  listed = so.listed;
-  ended = so.ended;
-  moments = refl;
+-- what a call of the zone came to, whatever the zone then gives back
+pub advances : {name : List ℕ} {calls : List Call} {entries : List Entry} {call : Call}
+    {made : ZoneState} (next : Session) {reply : Reply}
+    → Comes IsZoneAfter name calls entries call made reply
+    → ((name : List ℕ) (calls : List Call) (entries : List Entry)
+    → IsZoneAfter name calls entries made → IsZoneAfter name calls entries next.zone)
+    → Advances name calls entries call next reply
+advances next came fits = record {
+  entry = came.entry;
+  stands = fits _ _ _ came.stands;
+  is_reply = came.is_reply;
 }
 
 -- ---- lines

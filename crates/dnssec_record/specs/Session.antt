@@ -24,6 +24,8 @@ use Rattle.dnssec_record.specs.declared.session.Response.{Response}
 use Rattle.dnssec_record.specs.declared.session.Response.TheVariants as response
 use Rattle.dnssec_record.specs.declared.session.Attempt.{Attempt}
 use Rattle.dnssec_record.specs.declared.session.Attempt.TheVariants as attempt
+use Rattle.dnssec_record.specs.declared.session.Trial.{Trial}
+use Rattle.dnssec_record.specs.declared.session.Trial.TheVariants as trial
 
 -- ---- calls
 
@@ -40,7 +42,6 @@ pub record StandsAfter (name : List ℕ) (calls : List Call) (entries : List Ent
   pub follows : Follows name calls entries s.zone
   pub listed : map as_listed s.zone.courses.listed.items ≡ listed_by calls entries
   pub ended : s.zone.courses.ended.items ≡ ended_by calls entries
-  pub moments : s.moments ≡ moments_of entries
 
 -- one more call of the same run got this reply, and the session stands after it
 pub record Advances (name : List ℕ) (calls : List Call) (entries : List Entry) (call : Call)
@@ -68,6 +69,11 @@ pub record Resumes (script : List ℕ) (s : Session) : Type 0 where
   pub entries : List Entry
   pub stands : Stands (lines_of script) entries s
   pub had_memory : HadMemory entries
+
+-- the same, and these are the moments of its calls
+pub record ResumesWith (script : List ℕ) (s : Session) (kept : List ℕ) : Type 0 where
+  pub resumes : Resumes script s
+  pub moments : kept ≡ moments_of resumes.entries
 
 -- one more line makes one more call of the same run, and the text is the answer to it
 pub record GoesOn (lines : List (List ℕ)) (entries : List Entry) (line : List ℕ) (next : Session)
@@ -112,6 +118,16 @@ Tries old line new (attempt.Refused text) = (new ≡ old) ×
     ((lines : List (List ℕ)) (entries : List Entry) → Stands lines entries old →
     Refuses lines entries line (string_bytes text))
 Tries old line new attempt.Malformed = (new ≡ old) × (says line ≡ None)
+
+-- what would come of it
+abbrev pub IsTrial : Session → List ℕ → Trial → Type 0
+IsTrial old line (trial.Accepted next text) =
+    (lines : List (List ℕ)) (entries : List Entry) → Stands lines entries old →
+    Accepts lines entries line next (string_bytes text)
+IsTrial old line (trial.Refused text) =
+    (lines : List (List ℕ)) (entries : List Entry) → Stands lines entries old →
+    Refuses lines entries line (string_bytes text)
+IsTrial old line trial.Malformed = says line ≡ None
 
 -- ---- the end
 

@@ -22,5 +22,5 @@ pub use dnssec_script::{Fields, all_lines};
 pub use dnssec_zone::Part;
 pub use fault::{CallFault, ScriptFault};
 pub use script::{record_script, run_script};
-pub use session::{Attempt, Response, Session};
+pub use session::{Attempt, Response, Session, Trial};
 pub use zone::action_name;

@@ -12,7 +12,7 @@ ghost use Rattle.dnssec_record.specs.declared.fault.ScriptFault.TheVariants.{Dev
 
 use crate::device::{DeviceFault, Sink, Source};
 use crate::fault::ScriptFault;
-use crate::zone::{TimedReply, ZoneState, push_answer};
+use crate::zone::{ZoneState, push_answer};
 use dnssec_run::{Recorder, Run};
 use dnssec_script::Lines;
 use std::alloc::Global;
@@ -131,7 +131,7 @@ fn answer_to(alloc: Global, script: &[u8]) -> Result<String, ScriptFault>
     let mut zone = ZoneState::new(alloc, name)?;
     let mut text = String::new(alloc);
     while let Some(statement) = lines.next(alloc)? {
-        let Ok(TimedReply { reply, .. }) = zone.run(alloc, statement) else {
+        let Ok(reply) = zone.run(alloc, statement) else {
             return Err(ScriptFault::OutOfMemory);
         };
         push_answer(&mut text, &reply)?;

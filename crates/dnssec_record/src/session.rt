@@ -5,11 +5,11 @@ ghost use Rattle.dnssec_script.specs.Script.{says};
 ghost use Rattle.dnssec_base.specs.declared.error.Error.TheVariants.{OutOfMemory};
 ghost use Rattle.dnssec_judge.specs.Verdict.{IsVerdict};
 ghost use Rattle.dnssec_record.specs.Answer.{AnswerFault};
-ghost use Rattle.dnssec_record.specs.Inner.Zone.{Comes, IsZoneAfter};
 ghost use Rattle.dnssec_record.specs.Courses.{as_listed, ended_by, listed_by};
 ghost use Rattle.dnssec_record.specs.Session.{Advances, Closes, FaultOfZone, Stands, StandsAfter};
-ghost use Rattle.dnssec_record.specs.Session.{Resumes, Takes, Tries};
-ghost use Rattle.dnssec_run.specs.{Moments.moments_of, Recorder.AreShown};
+ghost use Rattle.dnssec_record.specs.Session.{IsTrial, Resumes, ResumesWith, Takes};
+ghost use Rattle.dnssec_record.specs.Session.{Tries};
+ghost use Rattle.dnssec_run.specs.{Moments.latest_of, Recorder.AreShown};
 ghost use Rattle.dnssec_run.specs.Steps.{AreStepsOf};
 ghost use Rattle.dnssec_run.specs.declared.call.Call.{Call};
 ghost use Rattle.dnssec_run.specs.declared.record.Entry.{Entry};
@@ -17,10 +17,10 @@ ghost use Rattle.dnssec_run.specs.declared.record.Reply.TheVariants.{Refused};
 
 use crate::courses::Listing;
 use crate::fault::{CallFault, ScriptFault};
-use crate::zone::{TimedReply, ZoneState, is_accepted, push_answer};
+use crate::zone::{ZoneState, is_accepted, push_answer};
 use dnssec_base::Name;
 use dnssec_judge::Broken;
-use dnssec_keyset::{Error, KeySet, RollType};
+use dnssec_keyset::{Error, KeySet, RollType, UnixTime};
 use dnssec_run::{Call, Moments, Published, Reply, Steps};
 use dnssec_script::{Lines, read_line, read_zone};
 use std::alloc::{AllocError, Global};
@@ -49,9 +49,21 @@ pub enum Attempt {
     Malformed,
 }
 
+/// What would come of a line whose call is made only if it is accepted. A text is the line of the
+/// answer with its line feed.
+#[derive(Drop)]
+pub enum Trial {
+    /// The call is accepted: a session that has made it too, and the answer.
+    Accepted { next: Session, answer: String },
+    /// The call is refused.
+    Refused(String),
+    /// The line makes no call.
+    Malformed,
+}
+
 /// A zone whose calls come one at a time, as a daemon makes them. It keeps the key set, what is
-/// published, what the judge needs, and how late it was at each call: 16 bytes. So a call costs the
-/// same however many came before it.
+/// published, and what the judge needs, but no call. If reports retire what is old, it is as small
+/// and as quick after many calls as after few.
 ///
 /// The lines so far are a script. The answers to the lines, and after them `closing`, are together
 /// what `run_script` writes for that script.
@@ -70,7 +82,6 @@ pub enum Attempt {
 #[derive(Drop)]
 pub struct Session {
     zone: ZoneState,
-    moments: Moments,
 }
 
 impl Session {
@@ -105,14 +116,35 @@ impl Session {
         ensures ok { IfOk result (Resumes script.now) }
         ensures err { IfErr result (AnswerFault script.now) }
     {
+        let (session, _) = Session::resume_with_moments(alloc, script)?;
+        Ok(session)
+    }
+
+    /// What `resume` answers, with the moments of the script's calls, which take 16 bytes a call:
+    /// for a caller who has notes of the zone.
+    ///
+    /// # Errors
+    ///
+    /// Those of `resume`.
+    ///
+    /// ```rust
+    /// let (session, moments) = Session::resume_with_moments(alloc, script.as_bytes())?;
+    /// let notes = read_notes(alloc, &moments, notes.as_bytes())?;
+    /// ```
+    pub fn resume_with_moments(alloc: Global, script: &[u8]) -> Result<(Self, Moments), ScriptFault>
+        ensures ok { IfOk result (λ resumed. ResumesWith script.now resumed.0 resumed.1) }
+        ensures err { IfErr result (AnswerFault script.now) }
+    {
         let (name, mut lines) = Lines::begin(alloc, script)?;
         let mut session = Session::new(alloc, name)?;
+        let mut moments = Moments::new(alloc);
         while let Some(statement) = lines.next(alloc)? {
-            let made = session.zone.take(alloc, statement)?;
-            let reply = session.note(alloc, made)?;
+            let reply = session.zone.take(alloc, statement)?;
+            session.zone.fit(alloc);
+            moments.add(session.latest())?;
             check_memory(reply)?;
         }
-        Ok(session)
+        Ok((session, moments))
     }
 
     /// A session with a new key set for the zone called `name`. No call is made yet.
@@ -123,9 +155,8 @@ impl Session {
     pub fn new(alloc: Global, name: Name<Vec<u8>>) -> Result<Self, AllocError>
         ensures { IfOk result (λ session. StandsAfter name [] [] session) }
     {
-        let moments = Moments::new(alloc);
         let zone = ZoneState::new(alloc, name)?;
-        Ok(Session { zone, moments })
+        Ok(Session { zone })
     }
 
     /// A copy after the same calls, to try a call without committing to it. It takes its memory
@@ -138,9 +169,8 @@ impl Session {
         ensures { IfOk result (λ copy. (name : List ℕ) (calls : List Call) (entries : List Entry) →
             StandsAfter name calls entries self.now → StandsAfter name calls entries copy) }
     {
-        let moments = self.moments.try_clone()?;
         let zone = self.zone.try_clone(alloc)?;
-        Ok(Session { zone, moments })
+        Ok(Session { zone })
     }
 
     /// Makes the call that `line` says, without its line feed, and answers with the line to write.
@@ -162,6 +192,8 @@ impl Session {
         ensures kept { IfErr result (λ fault. fault ≡ CallFault.OutOfMemory →
             self.new ≡ self.old) }
         ensures memory { IfErr result (λ _. IsSome (says line.now)) }
+        ensures spoken { IfOk result (λ response. response ≢ Response.Malformed →
+            IsSome (says line.now)) }
     {
         let Ok(read) = read_line(alloc, line) else {
             return Err(CallFault::OutOfMemory);
@@ -172,12 +204,10 @@ impl Session {
         let Ok(mut answer) = String::with_capacity(alloc, ANSWER) else {
             return Err(CallFault::OutOfMemory);
         };
-        let Ok(made) = self.zone.take(alloc, statement) else {
+        let Ok(reply) = self.zone.take(alloc, statement) else {
             return Err(CallFault::Lost);
         };
-        let Ok(reply) = self.note(alloc, made) else {
-            return Err(CallFault::Lost);
-        };
+        self.zone.fit(alloc);
         let Ok(()) = push_answer(&mut answer, &reply) else {
             return Err(CallFault::Lost);
         };
@@ -189,34 +219,56 @@ impl Session {
     /// was, and nothing counts. So if each call is made this way, the accepted lines are a script
     /// of the session, in which the calls have the same numbers.
     ///
-    /// It tries the call on a copy of the zone's state. So it takes as long as the call and that
-    /// copy. Of the calls before, only what the judge keeps of them costs time.
+    /// It tries the call on a copy of the session. So it takes as long as the call and that copy.
+    /// Of the calls before, only what the judge keeps of them costs time.
     ///
     /// # Errors
     ///
     /// `AllocError` if there is no memory, also if the call is refused for lack of it. The session
     /// is then as it was, and the line is one that makes a call.
-    #[tactic(auto, using(crate::proofs::Sessions::speaks))]
     pub fn accept(&mut self, alloc: Global, line: &[u8]) -> Result<Attempt, AllocError>
         ensures ok { IfOk result (Tries self.old line.now self.new) }
         ensures kept { IfErr result (λ _. self.new ≡ self.old) }
         ensures memory { IfErr result (λ _. IsSome (says line.now)) }
     {
-        let Some(statement) = read_line(alloc, line)? else {
-            return Ok(Attempt::Malformed);
-        };
-        let mut next = self.zone.try_clone(alloc)?;
-        let (tried, answer) = next.answer(alloc, statement)?;
-        if !is_accepted(&tried.reply) {
-            return Ok(Attempt::Refused(answer));
+        match self.attempt(alloc, line)? {
+            Trial::Accepted { next, answer } => {
+                *self = next;
+                Ok(Attempt::Accepted {
+                    number: self.calls(),
+                    answer,
+                })
+            }
+            Trial::Refused(answer) => Ok(Attempt::Refused(answer)),
+            Trial::Malformed => Ok(Attempt::Malformed),
         }
-        self.moments.take(tried.moment)?;
-        next.fit(alloc);
-        self.zone = next;
-        Ok(Attempt::Accepted {
-            number: self.calls(),
-            answer,
-        })
+    }
+
+    /// Says what `accept` would do with `line`, and leaves the session as it is: for a caller who
+    /// keeps more than a session, and goes on with both or with neither. It takes its memory from
+    /// `alloc`.
+    ///
+    /// # Errors
+    ///
+    /// `AllocError` if there is no memory, also if the call is refused for lack of it. The line is
+    /// then one that makes a call.
+    #[tactic(auto, using(crate::proofs::Sessions::speaks))]
+    pub fn attempt(&self, alloc: Global, line: &[u8]) -> Result<Trial, AllocError>
+        ensures ok { IfOk result (IsTrial self.now line.now) }
+        ensures memory { IfErr result (λ _. IsSome (says line.now)) }
+        ensures spoken { IfOk result (λ trial. trial ≢ Trial.Malformed → IsSome (says line.now)) }
+    {
+        let Some(statement) = read_line(alloc, line)? else {
+            return Ok(Trial::Malformed);
+        };
+        let mut zone = self.zone.try_clone(alloc)?;
+        let (reply, answer) = zone.answer(alloc, statement)?;
+        if !is_accepted(&reply) {
+            return Ok(Trial::Refused(answer));
+        }
+        zone.fit(alloc);
+        let next = Session { zone };
+        Ok(Trial::Accepted { next, answer })
     }
 
     /// Makes `call` on the key set of the session, and answers its reply. A refused call changes
@@ -232,23 +284,9 @@ impl Session {
             StandsAfter name calls entries self.old →
             Advances name calls entries call.entry self.new reply) }
     {
-        let made = self.zone.make(alloc, call)?;
-        self.note(alloc, made)
-    }
-
-    /// Finishes a call that `zone` has made: it adds the moment of the call to `moments`, lets
-    /// `zone` give back memory to spare, and answers the reply. If there is no memory for the
-    /// moment, `moments` lacks it, and the session is of no more use.
-    fn note(&mut self, alloc: Global, made: TimedReply) -> Result<Reply, AllocError>
-        ensures { IfOk result (λ reply.
-            (name : List ℕ) (calls : List Call) (entries : List Entry) (call : Call) →
-            Comes IsZoneAfter name calls entries call self.old.zone made →
-            self.old.moments ≡ moments_of entries →
-            Advances name calls entries call self.new reply) }
-    {
-        self.moments.take(made.moment)?;
+        let reply = self.zone.make(alloc, call)?;
         self.zone.fit(alloc);
-        Ok(made.reply)
+        Ok(reply)
     }
 
     /// The two lines that end the answers of `run_script`: the sets that are published after the
@@ -333,15 +371,14 @@ impl Session {
         self.zone.judge.steps()
     }
 
-    /// For each call so far, refused ones included, the greatest moment that it, or a call before
-    /// it, was given as `now`: the start of 1970 if none was. By the callers' clocks the call was
-    /// made at that moment or later.
+    /// The greatest moment that a call so far, refused ones included, was given as `now`: the start
+    /// of 1970 if none was. By the callers' clocks the last call was made at that moment or later.
     #[tactic(auto, using(std::proofs::lemmas::Grind::common_steps))]
-    pub fn moments(&self) -> &Moments
+    pub fn latest(&self) -> UnixTime
         ensures { (name : List ℕ) (calls : List Call) (entries : List Entry) →
-            StandsAfter name calls entries self.now → result.now ≡ moments_of entries }
+            StandsAfter name calls entries self.now → result ≡ latest_of entries }
     {
-        &self.moments
+        self.zone.judge.latest()
     }
 
     /// The verdict on all calls so far: `None` if there was always a chain of trust or no DS,

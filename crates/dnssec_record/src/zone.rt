@@ -14,7 +14,7 @@ ghost use Rattle.dnssec_run.specs.declared.record.Entry.{Entry};
 use crate::courses::{Courses, Turn};
 use dnssec_base::Name;
 use dnssec_judge::{Broken, Judge};
-use dnssec_keyset::{Action, Error, KeySet, UnixTime};
+use dnssec_keyset::{Action, Error, KeySet};
 use dnssec_run::{Call, Published, PublishedKey, Recorder, Reply};
 use dnssec_script::Statement;
 use std::alloc::{AllocError, Global};
@@ -30,14 +30,6 @@ pub(crate) struct ZoneState {
     pub(crate) recorder: Recorder,
     pub(crate) judge: Judge,
     pub(crate) courses: Courses,
-}
-
-/// What a call came to.
-#[derive(Drop)]
-pub(crate) struct TimedReply {
-    pub(crate) reply: Reply,
-    /// The moment that the call was given, if any.
-    pub(crate) moment: Option<UnixTime>,
 }
 
 impl ZoneState {
@@ -78,16 +70,15 @@ impl ZoneState {
         })
     }
 
-    /// Makes the call of `statement`, a line of a script, and answers its reply with the moment
-    /// that it was given. It updates the whole state, also which keys the rolls listed. A refused
-    /// call, also one that ran out of memory, counts in the record, and changes neither keys nor
-    /// what is published. If there is no memory to note the call, it fails, and this state is of no
-    /// more use.
+    /// Makes the call of `statement`, a line of a script, and answers its reply. It updates the
+    /// whole state, also which keys the rolls listed. A refused call, also one that ran out of
+    /// memory, counts in the record, and changes neither keys nor what is published. If there is no
+    /// memory to note the call, it fails, and this state is of no more use.
     pub(crate) fn take(
         &mut self,
         alloc: Global,
         statement: Statement<'_>,
-    ) -> Result<TimedReply, AllocError>
+    ) -> Result<Reply, AllocError>
         ensures { IfOk result (TakesOn IsZoneAfter statement.entry self.old self.new) }
     {
         match statement {
@@ -96,16 +87,15 @@ impl ZoneState {
         }
     }
 
-    /// Makes the call of `statement`, a line of a script, and answers its reply with the moment
-    /// that it was given. It updates the key set, what is published and the judge, but not
-    /// `courses`: it is for a caller who doesn't ask which keys the rolls listed. A refused call
-    /// only counts in the record. If there is no memory to note the call, it fails, and this state
-    /// is of no more use.
+    /// Makes the call of `statement`, a line of a script, and answers its reply. It updates the key
+    /// set, what is published and the judge, but not `courses`: it is for a caller who doesn't ask
+    /// which keys the rolls listed. A refused call only counts in the record. If there is no memory
+    /// to note the call, it fails, and this state is of no more use.
     pub(crate) fn run(
         &mut self,
         alloc: Global,
         statement: Statement<'_>,
-    ) -> Result<TimedReply, AllocError>
+    ) -> Result<Reply, AllocError>
         ensures { IfOk result (TakesOn Follows statement.entry self.old self.new) }
     {
         match statement {
@@ -114,36 +104,35 @@ impl ZoneState {
         }
     }
 
-    /// Makes `call` on the key set, and answers its reply with the moment that it was given. It
-    /// also updates what is published, the judge, and which keys the rolls listed. A refused call
-    /// counts in the record too, also one that ran out of memory, but changes neither keys nor what
-    /// is published.
+    /// Makes `call` on the key set, and answers its reply. It also updates what is published, the
+    /// judge, and which keys the rolls listed. A refused call counts in the record too, also one
+    /// that ran out of memory, but changes neither keys nor what is published.
     ///
     /// # Errors
     ///
     /// If there is no memory to note the call. This state is then of no more use.
-    pub(crate) fn make(&mut self, alloc: Global, call: Call<'_>) -> Result<TimedReply, AllocError>
-        ensures { IfOk result (λ made.
+    pub(crate) fn make(&mut self, alloc: Global, call: Call<'_>) -> Result<Reply, AllocError>
+        ensures { IfOk result (λ reply.
             (name : List ℕ) (calls : List Call) (entries : List Entry) →
             IsZoneAfter name calls entries self.old →
-            Comes IsZoneAfter name calls entries call.entry self.new made) }
+            Comes IsZoneAfter name calls entries call.entry self.new reply) }
     {
         let turn = Turn::of(&call);
-        let made = self.advance(alloc, call)?;
-        self.courses.take(alloc, turn.after(&made.reply))?;
-        Ok(made)
+        let reply = self.advance(alloc, call)?;
+        self.courses.take(alloc, turn.after(&reply))?;
+        Ok(reply)
     }
 
-    /// Makes `call` on the key set, tells the judge what it changes, and answers the reply with the
-    /// moment of the call. A refused call only counts in the record. Only `recorder` and `judge`
-    /// change. If there is no memory to note the call, it fails, and this state is of no more use.
+    /// Makes `call` on the key set, tells the judge what it changes, and answers the reply. A
+    /// refused call only counts in the record. Only `recorder` and `judge` change. If there is no
+    /// memory to note the call, it fails, and this state is of no more use.
     // Inline, so that no line's call passes through memory.
     #[inline(always)]
-    fn advance(&mut self, alloc: Global, call: Call<'_>) -> Result<TimedReply, AllocError>
-        ensures known { IfOk result (λ made.
+    fn advance(&mut self, alloc: Global, call: Call<'_>) -> Result<Reply, AllocError>
+        ensures known { IfOk result (λ reply.
             (name : List ℕ) (calls : List Call) (entries : List Entry) →
             Follows name calls entries self.old →
-            Comes Follows name calls entries call.entry self.new made) }
+            Comes Follows name calls entries call.entry self.new reply) }
         ensures courses { IfOk result (λ _. self.new.courses ≡ self.old.courses) }
     {
         let Ok(outcome) = self.recorder.advance(alloc, call) else {
@@ -156,14 +145,11 @@ impl ZoneState {
         let Ok(()) = noted else {
             return Err(AllocError);
         };
-        Ok(TimedReply {
-            reply: outcome.reply,
-            moment: outcome.moment,
-        })
+        Ok(outcome.reply)
     }
 
     /// Makes the call of `statement`, a line of a script, and updates the whole state. It answers
-    /// the reply with the moment of the call, and the line to write for it, with its line feed.
+    /// the reply, and the line to write for it, with its line feed.
     ///
     /// # Errors
     ///
@@ -173,17 +159,17 @@ impl ZoneState {
         &mut self,
         alloc: Global,
         statement: Statement<'_>,
-    ) -> Result<(TimedReply, String), AllocError>
+    ) -> Result<(Reply, String), AllocError>
         ensures { IfOk result (λ came. TakesOn IsZoneAfter statement.entry self.old self.new came.0
-            × (string_bytes came.1 ≡ reply_text came.0.reply ++ codes "\n")) }
+            × (string_bytes came.1 ≡ reply_text came.0 ++ codes "\n")) }
     {
-        let made = self.take(alloc, statement)?;
-        if let Reply::Refused(Error::OutOfMemory) = &made.reply {
+        let reply = self.take(alloc, statement)?;
+        if let Reply::Refused(Error::OutOfMemory) = &reply {
             return Err(AllocError);
         }
         let mut answer = String::new(alloc);
-        push_answer(&mut answer, &made.reply)?;
-        Ok((made, answer))
+        push_answer(&mut answer, &reply)?;
+        Ok((reply, answer))
     }
 
     /// Gives memory to spare back if the zone has at most `FITTED_KEYS` keys: a copy of the

@@ -5,7 +5,7 @@ use Rattle.std.proofs.Common.{arith, List, [], ◌∷◌, ◌++◌, length, Some
 use Rattle.std.proofs.Common.{append-nil, append_assoc}
 use Rattle.std.proofs.lemmas.{Option.same_Some, Option.slice_get_within, Bool.cases_lt}
 use Rattle.std.specs.{Prelude.max, Prelude.slice_get, Prelude.unwrap_or, Option.option_map_or}
-use Rattle.dnssec_run.specs.Moments.{moment_of_call, moments_of, times_up_to}
+use Rattle.dnssec_run.specs.Moments.{latest_of, moment_of_call, moments_of, times_up_to}
 use Rattle.dnssec_run.specs.Safe.{blank, position_at, position_of, time_at}
 use Rattle.dnssec_run.specs.declared.record.Entry.{Entry}
 use Rattle.dnssec_run.proofs.Grow.{at_end, front}
@@ -54,19 +54,27 @@ moments-outlast es fs =
 
 -- ---- one more call
 
-pub moments-more : (es : List Entry) (e : Entry)
-    → moments_of (es ++ e ∷ [])
-    ≡ moments_of es ++ max (time_at es (length es)) (unwrap_or e.moment 0) ∷ []
-unfolding time_at position_at
-moments-more es e =
+-- the last moment is that of the last call
+pub moments-add : (es : List Entry) (e : Entry)
+    → moments_of (es ++ e ∷ []) ≡ moments_of es ++ latest_of (es ++ e ∷ []) ∷ []
+moments-add es e =
     let count : length (es ++ e ∷ []) ≡ suc (length es) =
     omega (arith, length-append es (e ∷ [])) in
     let before = times-front es (e ∷ []) (length es) (omega arith) in
+    ap (times_up_to (es ++ e ∷ [])) count
+    ∙ (λ i. before i ++ time_at (es ++ e ∷ []) (sym count i) ∷ [])
+
+-- which is its own, or that of those before it
+pub latest-more : (es : List Entry) (e : Entry)
+    → latest_of (es ++ e ∷ []) ≡ max (latest_of es) (unwrap_or e.moment 0)
+unfolding time_at position_at
+latest-more es e =
+    let count : length (es ++ e ∷ []) ≡ suc (length es) =
+    omega (arith, length-append es (e ∷ [])) in
     let time = time-front es (e ∷ []) (length es) (omega arith) in
     let here = at_end es e in
-    ap (times_up_to (es ++ e ∷ [])) count
-    ∙ (λ i. before i ++ max (time i) (unwrap_or (option_map_or position_of (here i) blank).moment 0)
-    ∷ [])
+    ap (time_at (es ++ e ∷ [])) count
+    ∙ (λ i. max (time i) (unwrap_or (option_map_or position_of (here i) blank).moment 0))
 
 -- ---- the time at a call
 
@@ -107,7 +115,7 @@ moment-is es (suc n) moment is =
 
 -- the greatest moment so far
 pub latest-is : (es : List Entry)
-    → unwrap_or (moment_of_call (moments_of es) (length es)) 0 ≡ time_at es (length es)
+    → unwrap_or (moment_of_call (moments_of es) (length es)) 0 ≡ latest_of es
 unfolding time_at
 latest-is es = by (length es) (omega arith)
   where

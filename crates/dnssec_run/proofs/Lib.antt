@@ -20,7 +20,7 @@
 -- | for callers of `Recorder` | `last-ds` and the like        | Recorded                     |
 -- | `changes_after`           | `leads-on`                    | Leads                        |
 -- | for the judge             | `position-new` and the like   | OneMore                      |
--- | `Moments`                 | `moments-more`, `latest-is`   | Latest                       |
+-- | `Moments`                 | `moments-add`, `latest-is`    | Latest                       |
 -- | `keys_in_order`           | `put_in_order`                | InOrder                      |
 pub mod Since
 pub mod Positions

@@ -12,6 +12,10 @@ times_up_to entries (suc n) = times_up_to entries n ++ time_at entries (suc n) �
 abbrev pub moments_of : List Entry → List ℕ
 moments_of entries = times_up_to entries (length entries)
 
+-- the time at the last of them: 0 if there is none
+abbrev pub latest_of : List Entry → ℕ
+latest_of entries = time_at entries (length entries)
+
 -- the time at a call, if it was made; calls count from 1
 abbrev pub moment_of_call : List ℕ → ℕ → Option ℕ
 moment_of_call moments zero = None

@@ -1,7 +1,6 @@
 //! How late it was at each call, by the moments that calls are given.
-ghost use Rattle.std.specs.Prelude.{◌≡◌, ◌∷◌, ◌++◌, List, [], length, IfOk, IfErr, OnOk};
-ghost use Rattle.dnssec_run.specs.Moments.{moment_of_call, moments_of};
-ghost use Rattle.dnssec_run.specs.Safe.{time_at};
+ghost use Rattle.std.specs.Prelude.{◌≡◌, ◌∷◌, ◌++◌, List, [], IfOk, IfErr, OnOk};
+ghost use Rattle.dnssec_run.specs.Moments.{latest_of, moment_of_call, moments_of};
 ghost use Rattle.dnssec_run.specs.declared.record.Entry.{Entry};
 
 use crate::record::Entry;
@@ -93,6 +92,21 @@ impl Moments {
         ensures kept { IfErr result (λ _. self.new ≡ self.old) }
     {
         let latest = self.latest().max(moment.unwrap_or(start()));
+        self.add(latest)
+    }
+
+    /// Adds the next call to the list. `latest` is the greatest moment of the calls up to it, as a
+    /// session says after that call.
+    ///
+    /// # Errors
+    ///
+    /// If there is no memory. Nothing is then added.
+    pub fn add(&mut self, latest: UnixTime) -> Result<(), AllocError>
+        ensures ok { OnOk result ((entries : List Entry) (entry : Entry) →
+            self.old ≡ moments_of entries → latest ≡ latest_of (entries ++ entry ∷ []) →
+            self.new ≡ moments_of (entries ++ entry ∷ [])) }
+        ensures kept { IfErr result (λ _. self.new ≡ self.old) }
+    {
         make_room(&mut self.by_call)?;
         self.by_call.push(latest)?;
         Ok(())
@@ -101,7 +115,7 @@ impl Moments {
     /// The greatest moment of all calls so far. It is the start of 1970 if no call was given one.
     fn latest(&self) -> UnixTime
         ensures { (entries : List Entry) → self.now ≡ moments_of entries →
-            result ≡ time_at entries (length entries) }
+            result ≡ latest_of entries }
     {
         self.of_call(self.by_call.len()).unwrap_or(start())
     }

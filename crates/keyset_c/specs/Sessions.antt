@@ -1,5 +1,6 @@
 -- What a session answers to C. A closed one keeps nothing.
-use Rattle.std.specs.Prelude.{◌≡◌, ℕ, List, [], ◌∷◌, ◌++◌, Option, None, Some, length, string_bytes}
+use Rattle.std.specs.Prelude.{◌≡◌, ◌⊎◌, ℕ, List, [], ◌∷◌, ◌++◌, Option, None, Some, length, is_some}
+use Rattle.std.specs.Prelude.{string_bytes}
 use Rattle.dnssec_network.specs.declared.fact.NoteFault.TheVariants as note
 use Rattle.dnssec_network.specs.declared.fact.NoteFault.TheVariants.{CallNotMade, MomentFalls}
 use Rattle.dnssec_network.specs.declared.fact.NoteFault.TheVariants.{PublishedBeforeCall}
@@ -23,9 +24,21 @@ pub record Opens (new : Option OpenSession) (line : List ℕ) : Type 0 where
   pub kept : OpenSession
   pub is : new ≡ Some kept
   pub stands : Stands (line ∷ []) [] kept.session
+  pub moments : kept.moments ≡ Some []
   pub notes : kept.notes ≡ None
 
 -- ---- a call
+
+-- these are the moments of the entries, if any are kept
+abbrev pub AreOf : Option (List ℕ) → List Entry → Type 0
+AreOf None entries = Unit {0}
+AreOf (Some moments) entries = moments ≡ moments_of entries
+
+-- that of one more call is kept, if those of the calls before it are
+pub record KeepsMoment (before after : Option (List ℕ)) (entries : List Entry) (entry : Entry)
+    : Type 0 where
+  pub are : AreOf before entries → AreOf after (entries ++ entry ∷ [])
+  pub still : is_some after ≡ is_some before
 
 -- what comes of a line, of a session that is open
 pub record IfOpen (Comes : OpenSession → List ℕ → OpenSession → Type 0)
@@ -41,6 +54,9 @@ pub record IfOpen (Comes : OpenSession → List ℕ → OpenSession → Type 0)
 pub record CallsLine (before : OpenSession) (line : List ℕ) (after : OpenSession) : Type 0 where
   pub goes_on : (lines : List (List ℕ)) (entries : List Entry) → Stands lines entries before.session
       → GoesOn lines entries line after.session (string_bytes after.answer)
+  pub moments : (lines : List (List ℕ)) (entries : List Entry)
+      (so : Stands lines entries before.session) →
+      KeepsMoment before.moments after.moments entries (goes_on lines entries so).entry
   pub notes : after.notes ≡ before.notes
 
 -- so it is, and this text is the answer
@@ -55,6 +71,9 @@ pub record Calls (old new : Option OpenSession) (line text : List ℕ) : Type 0 
 pub record AcceptsLine (before : OpenSession) (line : List ℕ) (after : OpenSession) : Type 0 where
   pub accepts : (lines : List (List ℕ)) (entries : List Entry) → Stands lines entries before.session
       → Accepts lines entries line after.session (string_bytes after.answer)
+  pub moments : (lines : List (List ℕ)) (entries : List Entry)
+      (so : Stands lines entries before.session) →
+      KeepsMoment before.moments after.moments entries (accepts lines entries so).goes_on.entry
   pub notes : after.notes ≡ before.notes
 
 -- the call of this line would be refused, and is not made: the text that is given when it is asked
@@ -63,6 +82,7 @@ pub record RefusesCall (before : OpenSession) (line : List ℕ) (after : OpenSes
   pub session : after.session ≡ before.session
   pub refuses : (lines : List (List ℕ)) (entries : List Entry) → Stands lines entries before.session
       → Refuses lines entries line (string_bytes after.answer)
+  pub moments : after.moments ≡ before.moments
   pub notes : after.notes ≡ before.notes
 
 -- ---- questions
@@ -106,8 +126,10 @@ ShowsStatus old text = Keeps (λ kept. IsStatusOf kept.session text) old
 pub record NotesLine (before : OpenSession) (line : List ℕ) (after : OpenSession) : Type 0 where
   pub session : after.session ≡ before.session
   pub answer : after.answer ≡ before.answer
+  pub moments : after.moments ≡ before.moments
   pub takes : (lines notes : List (List ℕ)) (entries : List Entry) →
-      Stands lines entries before.session → HasTaken (moments_of entries) notes before.notes →
+      Stands lines entries before.session → AreOf before.moments entries →
+      HasTaken (moments_of entries) notes before.notes →
       HasTaken (moments_of entries) (notes ++ line ∷ []) after.notes
 
 -- the status for a line that notes don't take
@@ -121,12 +143,20 @@ status_of (Refused note.OutOfMemory) = 3
 status_of OutOfMemory = 3
 
 -- the notes don't take this line, for the cause that the status says
-pub record RefusesLine (kept : OpenSession) (line : List ℕ) (status : ℕ) : Type 0 where
+pub record IsRefused (kept : OpenSession) (line : List ℕ) (status : ℕ) : Type 0 where
   pub fault : LineFault
   pub says : status ≡ status_of fault
   pub is_fault : (name : List ℕ) (calls : List Call) (entries : List Entry) →
-      StandsAfter name calls entries kept.session →
+      StandsAfter name calls entries kept.session → AreOf kept.moments entries →
       IsTakeFault (moments_of entries) kept.notes line fault
+
+-- a session that forgoes notes, and so keeps no moments, takes no line
+abbrev pub RefusesBy : Option (List ℕ) → OpenSession → List ℕ → ℕ → Type 0
+RefusesBy None kept line status = status ≡ 14
+RefusesBy (Some moments) kept line status = IsRefused kept line status
+
+abbrev pub RefusesLine : OpenSession → List ℕ → ℕ → Type 0
+RefusesLine kept = RefusesBy kept.moments kept
 
 abbrev pub RefusesNote : Option OpenSession → List ℕ → ℕ → Type 0
 RefusesNote old line status = Keeps (λ kept. RefusesLine kept line status) old
@@ -135,18 +165,27 @@ RefusesNote old line status = Keeps (λ kept. RefusesLine kept line status) old
 -- session's lines and of its notes
 abbrev pub IsDueOf : ℕ → OpenSession → List ℕ → Type 0
 IsDueOf seconds kept text = (lines notes : List (List ℕ)) (entries : List Entry) →
-    Stands lines entries kept.session → HasTaken (moments_of entries) notes kept.notes →
-    IsDueAfter lines notes entries seconds text
+    Stands lines entries kept.session → AreOf kept.moments entries →
+    HasTaken (moments_of entries) notes kept.notes → IsDueAfter lines notes entries seconds text
 
 abbrev pub ShowsDue : ℕ → Option OpenSession → List ℕ → Type 0
 ShowsDue seconds old text = Keeps (λ kept. IsDueOf seconds kept text) old
 
--- it has no notes
+-- it has no notes, or forgoes them
+abbrev pub HasNoNotes : OpenSession → Type 0
+HasNoNotes kept = (kept.moments ≡ None) ⊎ (kept.notes ≡ None)
+
 abbrev pub LacksNotes : Option OpenSession → Type 0
-LacksNotes = Keeps (λ kept. kept.notes ≡ None)
+LacksNotes = Keeps HasNoNotes
+
+-- it forgoes them from now on, and all else is as it was
+pub record Forgoes (old new : Option OpenSession) : Type 0 where
+  pub before : OpenSession
+  pub is_before : old ≡ Some before
+  pub is_after : new ≡ Some (record before { moments = None; notes = None })
 
 -- the other one stands after the same calls, gives the same answer to the last, and has the same
--- notes
+-- notes and moments
 pub record Copies (old copy : Option OpenSession) : Type 0 where
   pub kept : OpenSession
   pub is : old ≡ Some kept
@@ -155,4 +194,5 @@ pub record Copies (old copy : Option OpenSession) : Type 0 where
   pub stands : (name : List ℕ) (calls : List Call) (entries : List Entry) →
       StandsAfter name calls entries kept.session → StandsAfter name calls entries copied.session
   pub is_said : string_bytes copied.answer ≡ string_bytes kept.answer
+  pub moments : copied.moments ≡ kept.moments
   pub notes : copied.notes ≡ kept.notes

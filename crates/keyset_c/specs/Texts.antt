@@ -16,4 +16,5 @@ status_text status =
     if status == 11 then codes "published before its call" else (
     if status == 12 then codes "out of memory in a call: the session is closed" else (
     if status == 13 then codes "the policy, the script or the notes are refused" else (
-    codes "no such status")))))))))))))
+    if status == 14 then codes "the session forgoes notes" else (
+    codes "no such status"))))))))))))))

@@ -33,6 +33,9 @@ pub(crate) const LOST: u32 = 12;
 /// What a policy says was not said, and the answer is why.
 pub(crate) const NOT_SAID: u32 = 13;
 
+/// The session forgoes notes.
+pub(crate) const NO_NOTES: u32 = 14;
+
 /// How a call of the library was answered.
 #[repr(C)]
 #[derive(Drop)]

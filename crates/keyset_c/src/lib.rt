@@ -12,7 +12,7 @@ ghost use Rattle.dnssec_script.specs.Script.{IsFirstMalformed, IsScript, NamesZo
 ghost use Rattle.dnssec_run.specs.declared.call.Call.{Call};
 ghost use Rattle.keyset_c.specs.Answered.{AtLength, StaysSafeIfPlain, TextEndsSafe};
 ghost use Rattle.keyset_c.specs.Handles.{IsWhole, kept_by};
-ghost use Rattle.keyset_c.specs.Sessions.{AcceptsLine, Calls, IfOpen, NotesLine, Opens};
+ghost use Rattle.keyset_c.specs.Sessions.{AcceptsLine, Calls, Forgoes, IfOpen, NotesLine, Opens};
 ghost use Rattle.keyset_c.specs.Sessions.{RefusesCall, RefusesNote};
 
 mod answered;
@@ -33,10 +33,11 @@ pub use crate::policies::keyset_next;
 pub use crate::questions::{
     keyset_calls, keyset_closing, keyset_copy, keyset_due, keyset_status, keyset_told,
 };
-use crate::sessions::{accept, call, note};
+use crate::sessions::{accept, call, forgo_notes, note};
 pub use crate::texts::{keyset_status_text, keyset_version_text};
 use dnssec_network::SessionNotes;
 use dnssec_record::{ScriptFault, Session, Std, run_script};
+use dnssec_run::Moments;
 use std::alloc::Global;
 
 /// The version of what is exported here: of the calls, of their structs and of the statuses.
@@ -129,6 +130,7 @@ pub extern "C" fn keyset_open(alloc: Global, line: &[u8], session: &mut Handle) 
             let kept = OpenSession {
                 session: opened,
                 answer: String::new(alloc),
+                moments: Some(Moments::new(alloc)),
                 notes: SessionNotes::new(),
             };
             match Box::new(alloc, kept) {
@@ -244,7 +246,7 @@ pub extern "C" fn keyset_accept(alloc: Global, session: &mut Handle, line: &[u8]
 /// 0 if it is added. Else the session is as it was: 1 for a malformed line, 3 for lack of memory, 5
 /// if the session is closed; 7 if its call isn't made yet, 8 if all servers gave a set before it
 /// was published, 9 for a moment before the last one, 11 if a set was published before its call was
-/// made.
+/// made, 14 if the session forgoes notes.
 #[unsafe(no_mangle)]
 pub extern "C" fn keyset_note(alloc: Global, session: &mut Handle, line: &[u8]) -> u32
     requires { IsWhole session.old }
@@ -258,6 +260,29 @@ pub extern "C" fn keyset_note(alloc: Global, session: &mut Handle, line: &[u8]) 
 {
     match session.look() {
         Some(kept) => note(alloc, kept, line),
+        None => CLOSED,
+    }
+}
+
+/// Gives up the notes of a session, and what is kept for them, which grows by 16 bytes with each
+/// call. From then on the session keeps neither, so that it is as small after many calls as after
+/// few. The calls stay.
+///
+/// 0 if it forgoes them now, also if it did before. 5 if it is closed.
+#[unsafe(no_mangle)]
+pub extern "C" fn keyset_forgo_notes(session: &mut Handle) -> u32
+    requires { IsWhole session.old }
+    ensures whole { IsWhole session.new }
+    ensures forgone { result ≡ 0 → Forgoes (kept_by session.old) (kept_by session.new) }
+    ensures closed { (result ≡ 5) ↔ (kept_by session.old ≡ None) }
+    ensures unchanged { result ≡ 5 → kept_by session.new ≡ kept_by session.old }
+    ensures status { (result ≡ 0) ⊎ (result ≡ 5) }
+{
+    match session.look() {
+        Some(kept) => {
+            forgo_notes(kept);
+            ANSWERED
+        }
         None => CLOSED,
     }
 }

@@ -4,8 +4,8 @@ ghost use Rattle.keyset_c.specs.Answered.{AtLength, Hands};
 ghost use Rattle.keyset_c.specs.Texts.{status_text};
 
 use crate::answered::{
-    ANSWERED, Answered, CLOSED, IS_OPEN, LOST, MALFORMED, MOMENT_FALLS, NO_SUCH_CALL, NOT_SAID,
-    OUT_OF_MEMORY, PUBLISHED_EARLY, REFUSED, SEEN_EARLY, SHORT, hand_out,
+    ANSWERED, Answered, CLOSED, IS_OPEN, LOST, MALFORMED, MOMENT_FALLS, NO_NOTES, NO_SUCH_CALL,
+    NOT_SAID, OUT_OF_MEMORY, PUBLISHED_EARLY, REFUSED, SEEN_EARLY, SHORT, hand_out,
 };
 
 /// The release that this library is of.
@@ -62,6 +62,7 @@ fn text_of(status: u32) -> &'static str
         PUBLISHED_EARLY => "published before its call",
         LOST => "out of memory in a call: the session is closed",
         NOT_SAID => "the policy, the script or the notes are refused",
+        NO_NOTES => "the session forgoes notes",
         _ => "no such status",
     }
 }

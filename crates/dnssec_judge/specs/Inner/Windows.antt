@@ -4,12 +4,11 @@ use Rattle.std.specs.Prelude.{◌≡◌, ◌≤◌, ◌<◌, ◌||◌, ℕ, suc,
 use Rattle.dnssec_run.specs.declared.record.{Entry.Entry, Mark.Mark}
 use Rattle.dnssec_run.specs.Origins.{CachedSet, set_at}
 use Rattle.dnssec_run.specs.Safe.{SetKind, Ds, Dnskey, ZoneSigners, position_at, position_of}
-use Rattle.dnssec_run.specs.Safe.{time_at}
+use Rattle.dnssec_run.specs.Moments.{latest_of}
 use Rattle.dnssec_run.specs.Steps.{AreStepsOf, base_of}
 use Rattle.dnssec_judge.specs.Inner.Reports.{IsNoneBefore, most}
 use Rattle.dnssec_judge.specs.Inner.Window.{IsSame, IsTaken, Lifts, Tested, Watches}
-use Rattle.dnssec_judge.specs.Inner.{Floor.over_by, Window.in_window, Window.spans_of}
-use Rattle.dnssec_judge.specs.{Inner.Spans.AreOld, Inner.Spans.Tiles, Sets.Numbered}
+use Rattle.dnssec_judge.specs.Inner.{Floor.over_by, Window.in_window}
 use Rattle.dnssec_judge.specs.Numbers.{Keys}
 use Rattle.dnssec_judge.specs.declared.window.Window.{Window}
 use Rattle.dnssec_judge.specs.declared.judging.Windows.{Windows}
@@ -28,7 +27,7 @@ NoneBefore time w = IsNoneBefore time w.dues.list.items
 pub record Follows (entries : List Entry) (key : Keys) (w : Windows) : Type 0 where
   pub at : w.at ≡ length entries
   pub steps : AreStepsOf entries w.steps
-  pub time : w.time ≡ time_at entries (length entries)
+  pub time : w.time ≡ latest_of entries
   pub fits : w.time < most
   pub ds : Watches entries Ds (length entries) key w.ds
   pub dnskey : Watches entries Dnskey (length entries) key w.dnskey
@@ -41,13 +40,6 @@ pub record Follows (entries : List Entry) (key : Keys) (w : Windows) : Type 0 wh
 pub record KnowsBy (entries : List Entry) (key : Keys) (w : Windows) : Type 0 where
   pub verdict : IsVerdict entries w.found
   pub follows : Follows entries key w
-
--- each set of the windows came before what isn't tested yet, if the spans follow each other
-abbrev pub AreOldIn : Windows → Type 0
-AreOldIn w = (ds dnskey zone : ℕ → Numbered) (n : ℕ) → Tiles ds n (spans_of w.ds) →
-    Tiles dnskey n (spans_of w.dnskey) → Tiles zone n (spans_of w.zone) →
-    AreOld w.tested (spans_of w.ds) × AreOld w.tested (spans_of w.dnskey)
-    × AreOld w.tested (spans_of w.zone)
 
 -- what is published last, and what an entry publishes
 abbrev pub last_set : List Entry → SetKind → CachedSet

@@ -176,11 +176,11 @@ joined_bytes f between (x ∷ xs) =
 -- ---- faults
 
 -- lines that are not answered are those of notes that are not
-pub unanswered : (session : Session) (lines : List (List ℕ)) (notes : List ℕ) (fault : NotesFault)
-    → lines ≡ lines_of notes → IsAnswersFault session lines fault
-    → IsUnanswered session notes fault
-unanswered session lines notes (Malformed n) same is =
-    subst (λ (ls : List (List ℕ)). IsAnswersFault session ls (Malformed n)) same is
-unanswered session lines notes (Refused n cause) same is =
-    subst (λ (ls : List (List ℕ)). IsAnswersFault session ls (Refused n cause)) same is
-unanswered session lines notes OutOfMemory same is = tt
+pub unanswered : (session : Session) (moments : List ℕ) (lines : List (List ℕ)) (notes : List ℕ)
+    (fault : NotesFault) → lines ≡ lines_of notes → IsAnswersFault session moments lines fault
+    → IsUnanswered session moments notes fault
+unanswered session moments lines notes (Malformed n) same is =
+    subst (λ (ls : List (List ℕ)). IsAnswersFault session moments ls (Malformed n)) same is
+unanswered session moments lines notes (Refused n cause) same is =
+    subst (λ (ls : List (List ℕ)). IsAnswersFault session moments ls (Refused n cause)) same is
+unanswered session moments lines notes OutOfMemory same is = tt

@@ -94,10 +94,12 @@ IsDueAnswer script notes seconds text =
 
 -- ---- of a session with its notes
 
--- whatever lines the session had, and whatever lines its notes took: the text is that of a run of
--- the ones by the others; there is none as long as there are no notes
-abbrev pub AnswersDue : Session → Option NotesParts → ℕ → Option (List ℕ) → Type 0
-AnswersDue session noted seconds None = noted ≡ None
-AnswersDue session noted seconds (Some text) =
+-- whatever lines the session had, if these are the moments of its calls, and whatever lines its
+-- notes took: the text is that of a run of the ones by the others; there is none as long as there
+-- are no notes
+abbrev pub AnswersDue : Session → List ℕ → Option NotesParts → ℕ → Option (List ℕ) → Type 0
+AnswersDue session moments noted seconds None = noted ≡ None
+AnswersDue session moments noted seconds (Some text) =
     (lines notes : List (List ℕ)) (entries : List Entry) → Stands lines entries session →
-    HasTaken (moments_of entries) notes noted → IsDueAfter lines notes entries seconds text
+    moments ≡ moments_of entries → HasTaken (moments_of entries) notes noted →
+    IsDueAfter lines notes entries seconds text

@@ -59,10 +59,10 @@ pub record HasAnswered (script : List (List ℕ)) (entries : List Entry) (lines 
   pub answers : AllZip (λ question text.
       IsDueAfter script question.notes entries question.seconds text) (questions_among lines) texts
 
--- whatever lines the session had
-abbrev pub AnswersAll : Session → List (List ℕ) → List (List ℕ) → Type 0
-AnswersAll session lines texts = (script : List (List ℕ)) (entries : List Entry) →
-    Stands script entries session →
+-- whatever lines the session had, if these are the moments of its calls
+abbrev pub AnswersAll : Session → List ℕ → List (List ℕ) → List (List ℕ) → Type 0
+AnswersAll session moments lines texts = (script : List (List ℕ)) (entries : List Entry) →
+    Stands script entries session → moments ≡ moments_of entries →
     (noted : Option NotesParts) × HasAnswered script entries lines noted texts
 
 -- the texts answer the questions among the lines of these notes, one each, in their order
@@ -121,7 +121,7 @@ pub record IsUnasked (lines : List (List ℕ)) (fault : NotesFault) : Type 0 whe
   pub is : fault ≡ notes.Malformed (length lines + 1)
 
 -- why lines are not answered
-abbrev pub IsAnswersFault : Session → List (List ℕ) → NotesFault → Type 0
-IsAnswersFault session lines fault = (script : List (List ℕ)) (entries : List Entry) →
-    Stands script entries session →
+abbrev pub IsAnswersFault : Session → List ℕ → List (List ℕ) → NotesFault → Type 0
+IsAnswersFault session moments lines fault = (script : List (List ℕ)) (entries : List Entry) →
+    Stands script entries session → moments ≡ moments_of entries →
     IsFirstFaulty script entries lines fault ⊎ IsUnasked lines fault

@@ -2,7 +2,7 @@
 use Rattle.std.specs.Prelude.{◌≡◌, ◌⊎◌, ◌==◌, ◌&&◌, ◌||◌, ℕ, ◌<◌, ◌++◌, Bool, true, false, not}
 use Rattle.std.specs.Prelude.{List, [], ◌∷◌, length, take, codes, if◌then◌else◌, slice_index_or}
 use Rattle.std.specs.List.{AllZip, flat_map, join_by}
-use Rattle.dnssec_record.specs.{Answer.AnswerFault, Session.Resumes}
+use Rattle.dnssec_record.specs.{Answer.AnswerFault, Session.ResumesWith}
 use Rattle.dnssec_record.specs.declared.session.Session.{Session}
 use Rattle.dnssec_script.specs.Script.{lines_of}
 use Rattle.dnssec_network.specs.Text.Questions.{AreAnswers, IsAnswersFault}
@@ -71,20 +71,22 @@ pub record AnswersText (text said : List ℕ) : Type 0 where
 
 -- ---- faults
 
--- why notes are not answered after the calls of a session; the list of their lines takes memory
--- before the first is read
-abbrev pub IsUnanswered : Session → List ℕ → NotesFault → Type 0
-IsUnanswered session notes (Malformed n) = IsAnswersFault session (lines_of notes) (Malformed n)
-IsUnanswered session notes (Refused n cause) =
-    IsAnswersFault session (lines_of notes) (Refused n cause)
-IsUnanswered session notes OutOfMemory = Unit {0}
+-- why notes are not answered after the calls of a session, at these moments; the list of their
+-- lines takes memory before the first is read
+abbrev pub IsUnanswered : Session → List ℕ → List ℕ → NotesFault → Type 0
+IsUnanswered session moments notes (Malformed n) =
+    IsAnswersFault session moments (lines_of notes) (Malformed n)
+IsUnanswered session moments notes (Refused n cause) =
+    IsAnswersFault session moments (lines_of notes) (Refused n cause)
+IsUnanswered session moments notes OutOfMemory = Unit {0}
 
 -- why a script and its notes are not answered: it is no script, or its notes are not answered after
 -- its calls
 abbrev pub IsFaultBeside : List ℕ → List ℕ → DueFault → Type 0
 IsFaultBeside script notes (due.Script fault) = AnswerFault script fault
 IsFaultBeside script notes (due.Notes fault) =
-    (session : Session) × Resumes script session × IsUnanswered session notes fault
+    (session : Session) × (moments : List ℕ) × ResumesWith script session moments
+    × IsUnanswered session moments notes fault
 
 -- the fault of one of the scripts
 abbrev pub IsFaultOfOne : ScriptWithNotes → DueFault → Type 0

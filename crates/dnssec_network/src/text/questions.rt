@@ -21,12 +21,14 @@ use super::reading::read_notes;
 use super::reports::due_lines;
 use super::session::SessionNotes;
 use dnssec_record::{Fields, Session, all_lines};
+use dnssec_run::Moments;
 use std::alloc::{AllocError, Global};
 
 /// Answers the questions among `lines`, those of the notes of the session's zone. A question is
 /// `due` with a second since 1970: it asks which reports are due then, by the lines above it, after
-/// the calls that the session has made. Each answer is a text with a line for each roll that waits
-/// for a report, as `report1 ksk-roll 3600 130`, or `not yet: ` and what it waits for.
+/// the session's calls, of which `moments` are the moments. Each answer is a text with a line for
+/// each roll that waits for a report, as `report1 ksk-roll 3600 130`, or `not yet: ` and what it
+/// waits for.
 ///
 /// The answers come in the order of the questions. At least one line must ask. The lines are read
 /// once, and the session isn't run again.
@@ -41,24 +43,25 @@ use std::alloc::{AllocError, Global};
 /// - `OutOfMemory` if memory runs out for a line that could be taken or answered.
 ///
 /// ```rust
-/// let session = Session::resume(alloc, script.as_bytes())?;
+/// let (session, moments) = Session::resume_with_moments(alloc, script.as_bytes())?;
 /// let text = b"before 3600 3600 3600\ndue 100\npublished dnskey 12 3600 110\ndue 120\n";
-/// let answers = answer_lines(alloc, &session, &all_lines(alloc, text)?)?;
+/// let answers = answer_lines(alloc, &session, &moments, &all_lines(alloc, text)?)?;
 /// ```
 pub fn answer_lines(
     alloc: Global,
     session: &Session,
+    moments: &Moments,
     lines: &[&[u8]],
 ) -> Result<Vec<String>, NotesFault>
     ensures ok { IfOk result (λ texts.
-        AnswersAll session.now (map now lines.now) (map string_bytes texts.items)) }
+        AnswersAll session.now moments.now (map now lines.now) (map string_bytes texts.items)) }
     ensures asked { IfOk result (λ texts. 0 < vec_len texts) }
-    ensures err { IfErr result (IsAnswersFault session.now (map now lines.now)) }
+    ensures err { IfErr result (IsAnswersFault session.now moments.now (map now lines.now)) }
 {
     let mut notes = SessionNotes::new();
     let mut answers = Vec::new(alloc);
     for (index, line) in lines.iter().enumerate() {
-        match read_on(&mut notes, &mut answers, alloc, session, line) {
+        match read_on(&mut notes, &mut answers, alloc, session, moments, line) {
             Ok(()) => {}
             Err(fault) => return Err(fault.at(index + 1)),
         }
@@ -77,18 +80,19 @@ fn read_on(
     answers: &mut Vec<String>,
     alloc: Global,
     session: &Session,
+    moments: &Moments,
     line: &[u8],
 ) -> Result<(), LineFault>
     ensures ok { OnOk result ((script lines : List (List ℕ)) (entries : List Entry) →
-        Stands script entries session.now →
+        Stands script entries session.now → moments.now ≡ moments_of entries →
         HasAnswered script entries lines notes.old (map string_bytes answers.old.items) →
         HasAnswered script entries (lines ++ line.now ∷ []) notes.new
         (map string_bytes answers.new.items)) }
     ensures err { IfErr result (λ fault. (script : List (List ℕ)) (entries : List Entry) →
-        Stands script entries session.now →
+        Stands script entries session.now → moments.now ≡ moments_of entries →
         IsAnswerFault (moments_of entries) notes.old (as_question line.now) line.now fault) }
 {
-    match notes.answer_line(alloc, session, line)? {
+    match notes.answer_line(alloc, session, moments, line)? {
         None => Ok(()),
         Some(text) => match answers.push(text) {
             Ok(()) => Ok(()),
@@ -118,10 +122,10 @@ pub fn answer_due(
     ensures { IfOk result (λ text.
         IsDueAnswer script.now notes.now seconds (string_bytes text)) }
 {
-    let ran = Session::resume(alloc, script)?;
-    let noted = read_notes(alloc, ran.moments(), notes)?;
+    let (ran, moments) = Session::resume_with_moments(alloc, script)?;
+    let noted = read_notes(alloc, &moments, notes)?;
     let (keyset, steps) = (ran.keyset(), ran.steps());
-    let lines = due_lines(alloc, keyset, steps, ran.moments(), &noted, seconds)?;
+    let lines = due_lines(alloc, keyset, steps, &moments, &noted, seconds)?;
     Ok(lines)
 }
 
@@ -146,11 +150,11 @@ pub fn answer_questions(alloc: Global, script: &[u8], notes: &[u8]) -> Result<Ve
     ensures asked { IfOk result (λ texts. 0 < vec_len texts) }
     ensures err { IfErr result (IsFaultBeside script.now notes.now) }
 {
-    let session = Session::resume(alloc, script)?;
+    let (session, moments) = Session::resume_with_moments(alloc, script)?;
     let Ok(lines) = all_lines(alloc, notes) else {
         return Err(DueFault::Notes(NotesFault::OutOfMemory));
     };
-    let answers = answer_lines(alloc, &session, &lines)?;
+    let answers = answer_lines(alloc, &session, &moments, &lines)?;
     Ok(answers)
 }
 
@@ -158,7 +162,8 @@ impl SessionNotes {
     /// Takes the next line of notes among which questions stand. A question is `due` with a second
     /// since 1970: it asks which reports are due then, by the lines so far. Its answer is returned,
     /// with a line for each roll that waits for a report, as `report1 ksk-roll 3600 130`, and the
-    /// notes stay. Any other line is added to the notes, and `None` is returned.
+    /// notes stay. Any other line is added to the notes, and `None` is returned. `moments` has those
+    /// of the calls.
     ///
     /// # Errors
     ///
@@ -172,42 +177,50 @@ impl SessionNotes {
         &mut self,
         alloc: Global,
         session: &Session,
+        moments: &Moments,
         line: &[u8],
     ) -> Result<Option<String>, LineFault>
         ensures answer { IfOk result (λ text.
             (script notes : List (List ℕ)) (entries : List Entry) →
-            Stands script entries session.now → HasTaken (moments_of entries) notes self.old →
+            Stands script entries session.now → moments.now ≡ moments_of entries →
+            HasTaken (moments_of entries) notes self.old →
             ComesOf script entries notes line.now (option_map string_bytes text) self.new) }
         ensures question { IfOk result (λ text. is_some text ≡ is_some (as_question line.now)) }
         ensures begun { IfOk result (λ text. IsSome text → IsSome self.old) }
         ensures err { IfErr result (λ fault. (script : List (List ℕ)) (entries : List Entry) →
-            Stands script entries session.now →
+            Stands script entries session.now → moments.now ≡ moments_of entries →
             IsAnswerFault (moments_of entries) self.old (as_question line.now) line.now fault) }
         ensures kept { IfErr result (λ _. self.new ≡ self.old) }
     {
         match read_question(b"due", line) {
-            Some(seconds) => Ok(Some(self.answer(alloc, session, seconds)?)),
+            Some(seconds) => Ok(Some(self.answer(alloc, session, moments, seconds)?)),
             None => {
-                self.take_line(alloc, session, line)?;
+                self.take_line(alloc, moments, line)?;
                 Ok(None)
             }
         }
     }
 
     /// Answers which reports are due at `seconds` since 1970, by the notes so far, after the calls
-    /// of the session. The text has a line for each roll that waits for a report, as
-    /// `report1 ksk-roll 3600 130`, or `not yet: ` and what it waits for.
+    /// of the session, at these moments. The text has a line for each roll that waits for a report,
+    /// as `report1 ksk-roll 3600 130`, or `not yet: ` and what it waits for.
     ///
     /// # Errors
     ///
     /// `Malformed` before the first line of the notes. `OutOfMemory` if memory runs out.
-    fn answer(&self, alloc: Global, session: &Session, seconds: u64) -> Result<String, LineFault>
+    fn answer(
+        &self,
+        alloc: Global,
+        session: &Session,
+        moments: &Moments,
+        seconds: u64,
+    ) -> Result<String, LineFault>
         ensures text { IfOk result (λ text.
-            AnswersDue session.now self.now seconds (Some (string_bytes text))) }
+            AnswersDue session.now moments.now self.now seconds (Some (string_bytes text))) }
         ensures begun { IfOk result (λ _. IsSome self.now) }
         ensures err { IfErr result (IsQuestionFault self.now) }
     {
-        match self.due_now(alloc, session, seconds) {
+        match self.due_now(alloc, session, moments, seconds) {
             Ok(Some(text)) => Ok(text),
             Ok(None) => Err(LineFault::Malformed),
             Err(AllocError) => Err(LineFault::OutOfMemory),

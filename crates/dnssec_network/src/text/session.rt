@@ -2,10 +2,6 @@
 ghost use Rattle.std.specs.Prelude.{◌≡◌, ◌∷◌, ◌++◌, ℕ, List, [], None, Some, IfOk, IfErr, Ok, OnOk};
 ghost use Rattle.std.specs.Option.{option_map};
 ghost use Rattle.std.specs.Prelude.{string_bytes};
-ghost use Rattle.dnssec_run.specs.Moments.{moments_of};
-ghost use Rattle.dnssec_record.specs.Session.{Stands, StandsAfter};
-ghost use Rattle.dnssec_run.specs.declared.call.Call.{Call};
-ghost use Rattle.dnssec_run.specs.declared.record.Entry.{Entry};
 ghost use Rattle.dnssec_network.specs.Text.Due.{AnswersDue};
 ghost use Rattle.dnssec_network.specs.Text.Reading.{HasTaken, IsFirstFault, IsFirstLine};
 ghost use Rattle.dnssec_network.specs.Text.Reading.{IsTakeFault, NotesOutlastCalls};
@@ -16,6 +12,7 @@ use super::reading::take_fact;
 use super::reports::due_lines;
 use crate::notes::Notes;
 use dnssec_record::Session;
+use dnssec_run::Moments;
 use std::alloc::{AllocError, Global};
 use std::marker::Model;
 
@@ -24,10 +21,12 @@ use std::marker::Model;
 ///
 /// ```rust
 /// let mut notes = SessionNotes::new();
-/// notes.take_line(alloc, &session, b"before 3600 3600 3600")?;
+/// notes.take_line(alloc, &moments, b"before 3600 3600 3600")?;
 /// // The session goes on, and so do the notes.
-/// notes.take_line(alloc, &session, b"published dnskey 12 3600 100")?;
-/// let lines = notes.due_now(alloc, &session, 130)?;
+/// let said = session.call(alloc, line)?;
+/// moments.add(session.latest())?;
+/// notes.take_line(alloc, &moments, b"published dnskey 12 3600 100")?;
+/// let lines = notes.due_now(alloc, &session, &moments, 130)?;
 /// ```
 #[derive(Drop)]
 pub struct SessionNotes {
@@ -76,9 +75,10 @@ impl SessionNotes {
         Ok(SessionNotes { notes: Some(notes) })
     }
 
-    /// Takes the next line of the notes, after the calls that the session has made so far. The
-    /// first line has the TTLs from before the first call, as `before 3600 3600 3600`. Each later
-    /// one states a fact, as `published dnskey 12 3600 100` or `everywhere dnskey 130`.
+    /// Takes the next line of the notes, after the calls that the session has made so far, of which
+    /// `moments` are the moments. The first line has the TTLs from before the first call, as
+    /// `before 3600 3600 3600`. Each later one states a fact, as `published dnskey 12 3600 100` or
+    /// `everywhere dnskey 130`.
     ///
     /// # Errors
     ///
@@ -90,21 +90,17 @@ impl SessionNotes {
     pub fn take_line(
         &mut self,
         alloc: Global,
-        session: &Session,
+        moments: &Moments,
         line: &[u8],
     ) -> Result<(), LineFault>
-        ensures ok { OnOk result ((name : List ℕ) (calls : List Call) (entries : List Entry)
-            (lines : List (List ℕ)) → StandsAfter name calls entries session.now →
-            HasTaken (moments_of entries) lines self.old →
-            HasTaken (moments_of entries) (lines ++ line.now ∷ []) self.new) }
-        ensures err { IfErr result (λ fault.
-            (name : List ℕ) (calls : List Call) (entries : List Entry) →
-            StandsAfter name calls entries session.now →
-            IsTakeFault (moments_of entries) self.old line.now fault) }
+        ensures ok { OnOk result ((lines : List (List ℕ)) →
+            HasTaken moments.now lines self.old →
+            HasTaken moments.now (lines ++ line.now ∷ []) self.new) }
+        ensures err { IfErr result (IsTakeFault moments.now self.old line.now) }
         ensures kept { IfErr result (λ _. self.new ≡ self.old) }
     {
         match &mut self.notes {
-            Some(notes) => take_fact(&mut **notes, session.moments(), line),
+            Some(notes) => take_fact(&mut **notes, moments, line),
             None => {
                 *self = SessionNotes::begin(alloc, line)?;
                 Ok(())
@@ -133,7 +129,8 @@ impl SessionNotes {
     /// a line such as `not yet: report1 ksk-roll waits for dnskey`. The text is empty if no roll
     /// waits for a report. `None` before the first line of the notes.
     ///
-    /// It is what `answer_due` answers for the lines of the session and of the notes.
+    /// `moments` are those of the session's calls. It is then what `answer_due` answers for the
+    /// lines of the session and of the notes.
     ///
     /// # Errors
     ///
@@ -142,17 +139,17 @@ impl SessionNotes {
         &self,
         alloc: Global,
         session: &Session,
+        moments: &Moments,
         seconds: u64,
     ) -> Result<Option<String>, AllocError>
-        ensures text { IfOk result (λ text.
-            AnswersDue session.now self.now seconds (option_map string_bytes text)) }
+        ensures text { IfOk result (λ text. AnswersDue session.now moments.now self.now seconds
+            (option_map string_bytes text)) }
         ensures none { self.now ≡ None → result ≡ Ok None }
     {
         match &self.notes {
             None => Ok(None),
             Some(notes) => {
                 let (keyset, steps) = (session.keyset(), session.steps());
-                let moments = session.moments();
                 Ok(Some(due_lines(alloc, keyset, steps, moments, &**notes, seconds)?))
             }
         }

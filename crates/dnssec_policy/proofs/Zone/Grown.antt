@@ -5,7 +5,7 @@ use Rattle.std.proofs.Common.{filter, inl, inr, length, length-append, map, subs
 use Rattle.std.proofs.Math.Seq.{get_or-append_seam}
 use Rattle.std.proofs.lemmas.List.{get_or_append_left, map-append, Elements.filter-append}
 use Rattle.dnssec_run.specs.declared.{call.Call.Call, record.Entry.Entry, record.Reply.Reply}
-use Rattle.dnssec_run.specs.{Record.call_of, Safe.kind_of}
+use Rattle.dnssec_run.specs.{Moments.moments_of, Record.call_of, Safe.kind_of}
 use Rattle.dnssec_network.specs.Facts.{Before, AreTrue, AreTrueFrom, news_of, same_kind}
 use Rattle.dnssec_network.specs.{Network.Network, declared.fact.Fact.Fact}
 use Rattle.dnssec_network.proofs.Noted.{true-parts}
@@ -44,7 +44,9 @@ in_time-last asked moment n network is so =
 module _ (name : List ℕ) (calls : List Call) (entries : List Entry) (asked : List ℕ) (call : Call)
     (moment : ℕ) (old new : AutomaticZone) (reply : Reply)
     (so : IsAutomaticAfter name calls entries asked old)
-    (on : GoesOn name calls entries call new.calls reply) (same : new.noted ≡ old.noted) where
+    (on : GoesOn name calls entries call new.calls reply)
+    (times : new.moments ≡ moments_of (entries ++ on.entry ∷ []))
+    (same : new.noted ≡ old.noted) where
   made : ((network : Network) (time : ℕ)
       → AreTrue old.noted.notes.before old.noted.notes.facts network time
       → moment ≤ network.made (suc (length entries))
@@ -54,6 +56,7 @@ module _ (name : List ℕ) (calls : List Call) (entries : List Entry) (asked : L
     entry = on.entry;
     after = record {
       after = on.after;
+      moments = times;
       highest = rw same so.highest;
       count = length-append asked (moment ∷ []) ∙ ap (λ n. n + 1) so.count
           ∙ sym (length-append entries (on.entry ∷ []));
@@ -104,12 +107,13 @@ fewer-true before facts more network time are kind =
 
 pub one-noted : (name : List ℕ) (calls : List Call) (entries : List Entry) (asked : List ℕ)
     (fact : Fact) (old new : AutomaticZone) → IsAutomaticAfter name calls entries asked old
-    → new.calls ≡ old.calls
+    → new.calls ≡ old.calls → new.moments ≡ old.moments
     → new.noted.notes ≡ record (old.noted.notes) { facts = old.noted.notes.facts ++ fact ∷ [] }
     → (HasHighest old.noted → HasHighest new.noted)
     → IsAutomaticAfter name calls entries asked new
-one-noted name calls entries asked fact old new so kept more highest = record {
+one-noted name calls entries asked fact old new so kept times more highest = record {
   after = rw kept so.after;
+  moments = times ∙ so.moments;
   highest = highest so.highest;
   count = so.count;
   automatic = λ network time are.

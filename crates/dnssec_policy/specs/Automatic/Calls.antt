@@ -1,6 +1,7 @@
 -- The calls of a zone, and what a policy has to know of them.
 use Rattle.std.specs.Prelude.{◌≡◌, ℕ, ◌++◌, ◌∷◌, List, []}
 use Rattle.dnssec_run.specs.declared.{call.Call.Call, record.Entry.Entry, record.Reply.Reply}
+use Rattle.dnssec_run.specs.Moments.{moments_of}
 use Rattle.dnssec_script.specs.{Inner.Statement.statement_says, Script.IsScript, Script.call_says}
 use Rattle.dnssec_script.specs.declared.statement.Statement.{Statement}
 use Rattle.dnssec_policy.specs.Laws.{AreLastsOf, IsFirstOf}
@@ -29,11 +30,12 @@ pub record Takes (statement : Statement) (old new : Calls) (reply : Reply) : Typ
   pub goes_on : (name : List ℕ) (calls : List Call) (entries : List Entry) →
       IsAfter name calls entries old → GoesOn name calls entries call new reply
 
--- the calls are those of a script, and each had memory
-pub record Resumes (script : List ℕ) (kept : Calls) : Type 0 where
+-- the calls are those of a script, each had memory, and these are their moments
+pub record Resumes (script : List ℕ) (kept : Calls) (times : List ℕ) : Type 0 where
   pub name : List ℕ
   pub calls : List Call
   pub entries : List Entry
   pub is_script : IsScript script name calls
   pub after : IsAfter name calls entries kept
   pub had_memory : HadMemory entries
+  pub moments : times ≡ moments_of entries

@@ -28,6 +28,7 @@ IsInTime asked network = (n : ℕ) → n < length asked → get_or asked n 0 ≤
 pub record IsAutomaticAfter (name : List ℕ) (calls : List Call) (entries : List Entry)
     (asked : List ℕ) (zone : AutomaticZone) : Type 0 where
   pub after : IsAfter name calls entries zone.calls
+  pub moments : zone.moments ≡ moments_of entries
   pub highest : HasHighest zone.noted
   pub count : length asked ≡ length entries
   pub automatic : (network : Network) (time : ℕ) →
@@ -90,7 +91,7 @@ Advances name calls entries asked policy moment old new (Some reply) = (call : C
 
 -- the calls are those of the script, and the notes are these
 pub record ResumesZone (script notes : List ℕ) (zone : AutomaticZone) : Type 0 where
-  pub resumes : Resumes script zone.calls
+  pub resumes : Resumes script zone.calls zone.moments
   pub are_notes : AreNotes (moments_of resumes.entries) (lines_of notes) zone.noted.notes.before
       zone.noted.notes.facts
   pub highest : HasHighest zone.noted

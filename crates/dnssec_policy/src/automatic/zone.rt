@@ -25,13 +25,14 @@ use crate::text::{TooShort, too_short};
 use crate::todo::Next;
 use dnssec_base::Name;
 use dnssec_keyset::{Error, UnixTime};
-use dnssec_network::{Before, DueFault, News, NoteFault, SetKind};
+use dnssec_network::{Before, DueFault, Moments, News, NoteFault, SetKind};
 use dnssec_record::{Call, Reply, ScriptFault, Session};
 use dnssec_script::{Lines, Statement};
 use std::alloc::{AllocError, Global};
 
 /// A zone that rolls by itself: it makes exactly the calls that a policy says, each with the moment
-/// at which it was said, and adds of keys. It keeps what the next call goes by.
+/// at which it was said, and adds of keys. It keeps what the next call goes by, and for its notes
+/// the moment of each call.
 ///
 /// After a restart `resume` makes the same zone from the lines that were kept: those of its calls,
 /// and those of its notes.
@@ -47,6 +48,7 @@ use std::alloc::{AllocError, Global};
 #[derive(Drop)]
 pub struct AutomaticZone {
     calls: Calls,
+    moments: Moments,
     noted: ZoneNotes,
 }
 
@@ -91,6 +93,7 @@ impl AutomaticZone {
     {
         Ok(AutomaticZone {
             calls: Calls::new(alloc, name)?,
+            moments: Moments::new(alloc),
             noted: ZoneNotes::new(alloc, before),
         })
     }
@@ -111,9 +114,13 @@ impl AutomaticZone {
     pub fn resume(alloc: Global, script: &[u8], notes: &[u8]) -> Result<Self, DueFault>
         ensures { IfOk result (ResumesZone script.now notes.now) }
     {
-        let calls = Calls::resume(alloc, script)?;
-        let noted = ZoneNotes::read(alloc, calls.session.moments(), notes)?;
-        Ok(AutomaticZone { calls, noted })
+        let (calls, moments) = Calls::resume(alloc, script)?;
+        let noted = ZoneNotes::read(alloc, &moments, notes)?;
+        Ok(AutomaticZone {
+            calls,
+            moments,
+            noted,
+        })
     }
 
     /// What the policy says to do next with this zone at this moment. After an accepted call made
@@ -170,6 +177,7 @@ impl AutomaticZone {
         let Some(made) = self.said(alloc, policy, moment)? else {
             return Ok(None);
         };
+        self.moments.add(made.calls.session.latest())?;
         self.calls = made.calls;
         Ok(Some(made.reply))
     }
@@ -226,6 +234,7 @@ impl AutomaticZone {
         ensures kept { IfErr result (λ _. self.new ≡ self.old) }
     {
         let made = self.made(alloc, call)?;
+        self.moments.add(made.calls.session.latest())?;
         self.calls = made.calls;
         Ok(made.reply)
     }
@@ -249,7 +258,7 @@ impl AutomaticZone {
             IsAutomaticAfter name calls entries asked self.new) }
         ensures kept { IfErr result (λ _. self.new ≡ self.old) }
     {
-        self.noted.note(self.calls.session.moments(), kind, news)
+        self.noted.note(&self.moments, kind, news)
     }
 
     /// How many calls were made so far, also refused ones. That is the position to `note` for a
@@ -346,19 +355,21 @@ impl Calls {
         }
     }
 
-    /// The calls that the lines of a script say, each made again, also those that are refused. It
-    /// fails with the fault of the script, or with `OutOfMemory`, also if a call is refused for
-    /// lack of memory. So no call is left out.
-    fn resume(alloc: Global, script: &[u8]) -> Result<Self, ScriptFault>
-        ensures { IfOk result (Resumes script.now) }
+    /// The calls that the lines of a script say, each made again, also those that are refused, with
+    /// their moments. It fails with the fault of the script, or with `OutOfMemory`, also if a call
+    /// is refused for lack of memory. So no call is left out.
+    fn resume(alloc: Global, script: &[u8]) -> Result<(Self, Moments), ScriptFault>
+        ensures { IfOk result (λ resumed. Resumes script.now resumed.0 resumed.1) }
     {
         let (name, mut lines) = Lines::begin(alloc, script)?;
         let mut calls = Calls::new(alloc, name)?;
+        let mut moments = Moments::new(alloc);
         while let Some(statement) = lines.next(alloc)? {
             let reply = calls.take(alloc, statement)?;
+            moments.add(calls.session.latest())?;
             check_memory(&reply)?;
         }
-        Ok(calls)
+        Ok((calls, moments))
     }
 }
 

@@ -9,5 +9,6 @@ returns-in-Ok-clause-copied c = λ copied. record {
   is_copy = c.put.ensures.kept;
   stands = c.in-Ok.ensures.stands;
   is_said = c.in-Ok.ensures.answer;
+  moments = c.in-Ok.ensures.moments;
   notes = c.in-Ok.ensures.notes;
 }

@@ -1,18 +1,15 @@
 -- The reports are due by what it keeps.
-use Rattle.std.proofs.Common.{None, Option, Some, ap, sym, ◌∙◌, ◌≡◌}
-use Rattle.dnssec_network.specs.Notes.{NotesParts}
+use Rattle.std.proofs.Common.{Option, Some, subst, sym, ◌∙◌, ◌≡◌}
+use Rattle.std.proofs.lemmas.Option.{same_Some}
+use Rattle.keyset_c.specs.Sessions.{HasNoNotes}
 use Rattle.keyset_c.proofs.Opened.{keeps_at, keeps_if}
 use Rattle.keyset_c.specs.declared.open_session.OpenSession.{OpenSession}
 use Rattle.keyset_c.proofs.questions.keyset_due.Goals as goal
 
-abbrev notes_of : Option OpenSession → Option NotesParts
-notes_of None = None
-notes_of (Some kept) = kept.notes
-
 -- what is kept is one
 same_notes : (old : Option OpenSession) (one other : OpenSession) → old ≡ Some one
-    → old ≡ Some other → other.notes ≡ None → one.notes ≡ None
-same_notes old one other is was none = sym (ap notes_of is) ∙ ap notes_of was ∙ none
+    → old ≡ Some other → HasNoNotes other → HasNoNotes one
+same_notes old one other is was none = subst HasNoNotes (same_Some other one (sym was ∙ is)) none
 
 pub returns-in-Some-clause-told : goal.returns-in-Some-clause-told
 returns-in-Some-clause-told c = keeps_if c.in-Some.ensures.value c.say_due.ensures.answered

@@ -1,24 +1,20 @@
 -- The lines are due after the calls of the session.
-use Rattle.std.proofs.Common.{subst, sym, ◌∙◌}
 use Rattle.dnssec_script.specs.Script.{lines_of}
-use Rattle.dnssec_network.{proofs.Texts.Reporting.is_due_after, specs.Text.Reading.AreNotes}
+use Rattle.dnssec_network.proofs.Texts.Reporting.{is_due_after}
 use Rattle.dnssec_network.proofs.text.questions.answer_due.Goals as goal
 
 pub returns : goal.returns
 returns c =
-    let ran = c.in_ok-ran.ensures.ok in
+    let resumed = c.in_ok-ran.ensures.ok in
+    let ran = resumed.resumes in
     let so = ran.stands in
     let noted = c.in_ok-noted.noted in
-    let here = c.moments.ensures so.name so.calls ran.entries so.stands in
-    let there = c.moments-2.ensures so.name so.calls ran.entries so.stands in
     record {
       entries = ran.entries;
       is_due = is_due_after (lines_of c.args.script.now) (lines_of c.args.notes.now) ran.entries
-          c.in_ok-ran.ran _ c.steps-steps.result c.moments-2.result.now noted c.args.seconds _ so
+          c.in_ok-ran.ran _ c.steps-steps.result c.in_ok-ran.moments noted c.args.seconds _ so
           c.keyset-keyset.ensures (c.steps-steps.ensures so.name so.calls ran.entries so.stands)
-          there
-          (subst (λ m. AreNotes m (lines_of c.args.notes.now) noted.before noted.facts)
-          (here ∙ sym there) c.in_ok-noted.ensures.ok)
+          resumed.moments c.in_ok-noted.ensures.ok
           c.in_ok-lines.ensures;
       had_memory = ran.had_memory;
     }

@@ -9,16 +9,19 @@ use Rattle.dnssec_network.proofs.text.questions.answer_questions.Goals as goal
 
 pub returns-clause-ok : goal.returns-clause-ok
 returns-clause-ok c =
-    let ran = c.in_ok-session.ensures.ok in
+    let resumed = c.in_ok-session.ensures.ok in
+    let ran = resumed.resumes in
     let read = ap (map now) c.deref.ensures.value ∙ c.in-Ok.ensures in
-    let answers = subst (λ (ls : List (List ℕ)). AnswersAll c.in_ok-session.session ls
-    (map string_bytes c.in_ok-answers.answers.items)) read c.in_ok-answers.ensures.ok in
+    let answers = subst (λ (ls : List (List ℕ)). AnswersAll c.in_ok-session.session
+    c.in_ok-session.moments ls (map string_bytes c.in_ok-answers.answers.items)) read
+    c.in_ok-answers.ensures.ok in
     zip_weaker _ _ _ _ (λ question text due.
     record { entries = ran.entries; is_due = due; had_memory = ran.had_memory })
-    (answers (lines_of c.args.script.now) ran.entries ran.stands).1.answers
+    (answers (lines_of c.args.script.now) ran.entries ran.stands resumed.moments).1.answers
 
 pub returns-in_default-clause-err : goal.returns-in_default-clause-err
-returns-in_default-clause-err c = (c.in_ok-session.session, c.in_ok-session.ensures.ok, tt)
+returns-in_default-clause-err c =
+    (c.in_ok-session.session, c.in_ok-session.moments, c.in_ok-session.ensures.ok, tt)
 
 pub returns-in_err-answers-clause-err : goal.returns-in_err-answers-clause-err
 returns-in_err-answers-clause-err c =
@@ -27,6 +30,8 @@ returns-in_err-answers-clause-err c =
     let read = ap (map now) c.deref.ensures.value ∙ c.in-Ok.ensures in
     rw (p.1, p.2) (
       c.in_ok-session.session,
+      c.in_ok-session.moments,
       c.in_ok-session.ensures.ok,
-      unanswered c.in_ok-session.session _ c.args.notes.now _ read c.in_err-answers.ensures.err,
+      unanswered c.in_ok-session.session c.in_ok-session.moments _ c.args.notes.now _ read
+          c.in_err-answers.ensures.err,
     )

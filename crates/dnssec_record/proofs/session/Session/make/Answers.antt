@@ -1,10 +1,7 @@
--- The zone makes the call, and its moment is taken.
-use Rattle.std.proofs.lemmas.Result.{IfOk-weaker}
-use Rattle.dnssec_record.proofs.Sessions.{zone_of}
+-- The zone makes the call.
+use Rattle.dnssec_record.proofs.Sessions.{advances}
 use Rattle.dnssec_record.proofs.session.Session.make.Goals as goal
 
 pub returns : goal.returns
-returns c =
-    IfOk-weaker c.note.result _ _
-    (λ reply noted name calls entries so. noted name calls entries c.args.call
-    (c.in_ok-made.ensures name calls entries (zone_of _ so)) so.moments) c.note.ensures
+returns c name calls entries so =
+    advances _ (c.in_ok-reply.ensures name calls entries so) c.fit.ensures

@@ -1,5 +1,4 @@
 -- The recorder's copy has recorded the same, and publishes the same keys.
-use Rattle.std.proofs.Common.{refl}
 use Rattle.dnssec_record.proofs.zone.ZoneState.fit.Goals as goal
 
 pub returns-in-Ok : goal.returns-in-Ok
@@ -10,5 +9,4 @@ returns-in-Ok c name calls entries so = record {
   };
   listed = so.listed;
   ended = so.ended;
-  moments = refl;
 }

@@ -6,7 +6,7 @@ use Rattle.dnssec_record.proofs.zone.ZoneState.make.Goals as goal
 
 pub returns : goal.returns
 returns c name calls entries so =
-    let made = c.in_ok-made in
+    let made = c.in_ok-reply in
     lists_on _ so (made.ensures.known name calls entries so.follows) made.ensures.courses refl
-    refl _ (c.after.ensures ∙ ap (λ t. turn_after t made.made.reply) c.of-turn.ensures)
+    refl _ (c.after.ensures ∙ ap (λ t. turn_after t made.reply) c.of-turn.ensures)
     c.in_ok-take.ensures.listed c.in_ok-take.ensures.ended

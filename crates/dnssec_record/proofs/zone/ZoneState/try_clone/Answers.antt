@@ -1,5 +1,5 @@
 -- The copies know what the three knew.
-use Rattle.std.proofs.Common.{◌∙◌, refl}
+use Rattle.std.proofs.Common.{◌∙◌}
 use Rattle.dnssec_run.specs.Changes.{add_of}
 use Rattle.dnssec_record.proofs.zone.ZoneState.try_clone.Goals as goal
 
@@ -11,5 +11,4 @@ returns c name calls entries so = record {
   };
   listed = c.in_ok-courses.ensures.listed ∙ so.listed;
   ended = c.in_ok-courses.ensures.ended ∙ so.ended;
-  moments = refl;
 }

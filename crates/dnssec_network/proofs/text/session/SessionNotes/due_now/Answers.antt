@@ -5,14 +5,13 @@ use Rattle.dnssec_network.specs.Text.Reading.{HasTaken}
 use Rattle.dnssec_network.proofs.text.session.SessionNotes.due_now.Goals as goal
 
 pub returns-in_ok-due_lines-in-Some-clause-text : goal.returns-in_ok-due_lines-in-Some-clause-text
-returns-in_ok-due_lines-in-Some-clause-text c = λ lines notes entries stands taken.
-    let noted = c.deref.result.now in
-    let at = c.moments-moments.ensures stands.name stands.calls entries stands.stands in
-    is_due_after lines notes entries c.args.session.now _ c.steps-steps.result
-    c.moments-moments.result.now noted c.args.seconds _ stands c.keyset-keyset.ensures
+returns-in_ok-due_lines-in-Some-clause-text c = λ lines notes entries stands at taken.
+    let noted = c.deref.result.now in let moments = c.args.moments.now in
+    is_due_after lines notes entries c.args.session.now _ c.steps-steps.result moments noted
+    c.args.seconds _ stands c.keyset-keyset.ensures
     (c.steps-steps.ensures stands.name stands.calls entries stands.stands) at
-    (are-notes c.moments-moments.result.now notes noted
-    (subst (λ o. HasTaken c.moments-moments.result.now notes o)
+    (are-notes moments notes noted
+    (subst (λ o. HasTaken moments notes o)
     (shown _ c.self.inside.notes c.in-Some.notes c.args.self.now noted c.self.view_is
     c.in-Some.is c.deref.ensures) (subst (λ m. HasTaken m notes c.args.self.now) (sym at) taken)))
     c.in_ok-due_lines-in-Some.ensures

@@ -9,5 +9,5 @@ returns-clause-noted c = on_ok_weaker c.note.result (λ has. has.notes) c.note.e
 pub returns-clause-ok : goal.returns-clause-ok
 returns-clause-ok c = on_ok_weaker c.note.result
     (λ has name calls entries asked so.
-    one-noted name calls entries asked _ c.args.self.now _ so refl has.notes has.highest)
+    one-noted name calls entries asked _ c.args.self.now _ so refl refl has.notes has.highest)
     c.note.ensures.ok

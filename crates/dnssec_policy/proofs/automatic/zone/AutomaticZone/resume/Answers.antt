@@ -12,10 +12,11 @@ returns c =
     record {
       resumes = r;
       are_notes = subst (λ (m : List ℕ). AreNotes m (lines_of c.args.notes.now) notes.before
-          notes.facts) (c.moments.ensures r.name r.calls r.entries r.after.stands) noted.notes;
+          notes.facts) r.moments noted.notes;
       highest = noted.highest;
       automatic = λ asked old so same. record {
         after = r.after;
+        moments = r.moments;
         highest = noted.highest;
         count = so.count;
         automatic = λ network time are. so.automatic network time
