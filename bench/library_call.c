@@ -1,10 +1,12 @@
 /* Times the library on the script on standard input, in one process. It prints one line: the least
    nanoseconds of `keyset_answer`, of a script's line in a session, of `keyset_closing` and of
-   `keyset_status` after the last line, and the bytes that malloc hands out for the session. */
+   `keyset_status` after the last line, and the bytes that malloc hands out for the session: for one
+   that forgoes notes, and for one that doesn't. */
 
 #include <keyset.h>
 
 #include <malloc.h>
+#include <stdbool.h>
 #include <stdio.h>
 #include <stdlib.h>
 #include <string.h>
@@ -13,8 +15,11 @@
 #define ROUNDS 20
 #define SECOND 1e9
 #define SESSIONS 1000
+/* Of a long script there are fewer sessions. */
+#define LONG 20000
+#define SOME 10
 
-static uint8_t script[1 << 22], out[1 << 22];
+static uint8_t script[1 << 23], out[1 << 23];
 static size_t length, lines;
 
 static double now(void)
@@ -31,13 +36,15 @@ static void expect(uint32_t status)
 }
 
 /* Opens a session with the first line, and hands in the others. */
-static void play(struct keyset_session *session)
+static void play(struct keyset_session *session, bool forgoes)
 {
     const uint8_t *line = script, *end = script + length;
     for (bool is_first = true; line < end; is_first = false) {
         size_t taken = (size_t)((const uint8_t *)memchr(line, '\n', (size_t)(end - line)) - line);
         expect(is_first ? keyset_open(line, taken, session)
                         : keyset_call(session, line, taken, out, sizeof out).status);
+        if (is_first && forgoes)
+            expect(keyset_forgo_notes(session));
         line += taken + 1;
     }
 }
@@ -52,7 +59,7 @@ static void play_once(struct keyset_session *session)
 {
     struct keyset_session other = {0};
     (void)session;
-    play(&other);
+    play(&other, false);
     keyset_close(&other);
 }
 
@@ -73,6 +80,18 @@ static size_t handed_out(void)
     return all.uordblks + all.hblkhd;
 }
 
+/* The bytes of a session of the script. The first one stays open. */
+static size_t bytes_of(struct keyset_session *sessions, size_t count, bool forgoes)
+{
+    size_t before = handed_out();
+    for (size_t i = 0; i < count; i++)
+        play(&sessions[i], forgoes);
+    size_t bytes = (handed_out() - before) / count;
+    for (size_t i = 1; i < count; i++)
+        keyset_close(&sessions[i]);
+    return bytes;
+}
+
 /* The least nanoseconds of many calls. */
 static double least(void (*call)(struct keyset_session *), struct keyset_session *session)
 {
@@ -88,20 +107,18 @@ static double least(void (*call)(struct keyset_session *), struct keyset_session
 
 int main(void)
 {
-    static struct keyset_session sessions[SESSIONS];
+    static struct keyset_session sessions[SESSIONS], forgoing[SESSIONS];
     length = fread(script, 1, sizeof script, stdin);
     for (size_t i = 0; i < length; i++)
         lines += script[i] == '\n';
 
-    size_t before = handed_out();
-    for (size_t i = 0; i < SESSIONS; i++)
-        play(&sessions[i]);
-    size_t bytes = (handed_out() - before) / SESSIONS;
-
+    size_t count = lines < LONG ? SESSIONS : SOME;
+    size_t few = bytes_of(forgoing, count, true), bytes = bytes_of(sessions, count, false);
     double whole = least(answer, NULL), played = least(play_once, NULL);
     double closed = least(closing, sessions), shown = least(status, sessions);
-    printf("%.0f %.1f %.0f %.0f %zu\n", whole, played / (double)lines, closed, shown, bytes);
-    for (size_t i = 0; i < SESSIONS; i++)
-        keyset_close(&sessions[i]);
+    printf("%.0f %.1f %.0f %.0f %zu %zu\n", whole, played / (double)lines, closed, shown, few,
+           bytes);
+    keyset_close(sessions);
+    keyset_close(forgoing);
     return EXIT_SUCCESS;
 }

@@ -5,10 +5,10 @@
 It takes the library that `make lib` has made. The scripts are two adds on a new zone, and those of
 successive_rolls.py. It prints the number of lines; the least microseconds of `keyset_answer` for
 them all; of a line in a session, with its share of the opening and of the closing; of the closing
-lines and of the status after the last line; and the bytes that malloc hands out for such a session,
-which has two keys or three. ORIGINAL is a program that answers a script on its standard input by
-the original. Its least time of some runs is printed, less the time that it takes for a script of
-the zone's line only.
+lines and of the status after the last line; the bytes that malloc hands out for such a session,
+which has two keys or three, if it forgoes notes; and those more that it takes for notes. ORIGINAL
+is a program that answers a script on its standard input by the original. Its least time of some
+runs is printed, less the time that it takes for a script of the zone's line only.
 """
 
 import argparse
@@ -23,10 +23,11 @@ from successive_rolls import FIRST, script
 TOP = Path(__file__).resolve().parent.parent
 LIBRARY = TOP / "library" / "out"
 TWO_ADDS = "".join(FIRST.splitlines(keepends=True)[:3])
-CALLS = (8, 96, 1_000, 10_000)
+CALLS = (8, 96, 1_000, 10_000, 100_000)
 RUNS = 50
 
-COLUMNS = "Lines", "`keyset_answer`", "A line in a session", "Closing lines", "Status", "Bytes"
+COLUMNS = ("Lines", "`keyset_answer`", "A line in a session", "Closing lines", "Status", "Bytes",
+           "Bytes for notes")
 
 
 def run(command, text):
@@ -47,13 +48,14 @@ def least(command, text):
 
 
 def figures(program, text, original):
-    whole, line, closing, status, size = map(float, run([program], text).split())
+    whole, line, closing, status, few, size = map(float, run([program], text).split())
     yield f"{text.count(chr(10)):,}"
     yield f"{whole / 1000:.1f}"
     yield f"{line / 1000:.2f}"
     yield f"{closing / 1000:.2f}"
     yield f"{status / 1000:.2f}"
-    yield f"{size:,.0f}"
+    yield f"{few:,.0f}"
+    yield f"{size - few:,.0f}"
     if original:
         zone = text[: text.index("\n") + 1]
         yield f"{least([original], text) - least([original], zone):,.0f}"

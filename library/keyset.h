@@ -67,7 +67,8 @@ enum {
     /* a line of notes: published before the moment of its call, or of a call before that */
     KEYSET_PUBLISHED_EARLY = 11,
     KEYSET_LOST = 12,         /* the library got no memory in a call, and has closed the session */
-    KEYSET_NOT_SAID = 13      /* keyset_next: a text is refused, and the answer is why */
+    KEYSET_NOT_SAID = 13,     /* keyset_next: a text is refused, and the answer is why */
+    KEYSET_NO_NOTES = 14      /* the session forgoes notes */
 };
 
 struct keyset_answered {
@@ -98,7 +99,10 @@ struct keyset_answered keyset_answer(const uint8_t *script, size_t script_length
    The proofs take for granted that a session is used as one value: it may be moved, but a copy of
    its bytes is no second session (`keyset_copy` makes one); it is all zeros before it is opened;
    nobody else writes to it; and one call at a time uses it. If a session is closed, each call says
-   so, and leaves it closed. */
+   so, and leaves it closed.
+
+   Its memory follows the keys and what caches may hold. Only what it keeps for notes grows with its
+   calls, by 16 bytes each: `keyset_forgo_notes` gives that up. */
 struct keyset_session {
     void *place;
     bool is_open;
@@ -175,6 +179,7 @@ struct keyset_answered keyset_status(const struct keyset_session *session, uint8
    malformed      it is no line of notes; the first one begins with `before`
    no such call, published early, seen early, moment falls
                   its fact can't follow the calls, or those before it
+   no notes       the session forgoes notes (refused)
    out of memory  asking again may help: nothing else stands against the line (refused)
    closed         the session is closed (closed)
 
@@ -185,9 +190,17 @@ uint32_t keyset_note(struct keyset_session *session, const uint8_t *line, size_t
 /* Writes the reports that the rolls wait for, as they would be made at this second since 1970: a
    line for each, in the form that docs/REFERENCE.md has. They are those that `keyset notes` answers
    for the lines of the session and of its notes (told). It is malformed if and only if the
-   session has no notes (no_notes). Else it is as the three functions above. */
+   session has no notes, or forgoes them (no_notes). Else it is as the three functions above. */
 struct keyset_answered keyset_due(const struct keyset_session *session, uint64_t seconds,
                                   uint8_t *out, size_t out_length);
+
+/* Gives up the notes of a session, and what it keeps for them: 16 bytes for each call. From then on
+   it keeps neither, so that it is as small after many calls as after few. No later line is taken,
+   and no question for reports is answered. Calls and answers stay (forgone). It takes no memory.
+
+   answered       it forgoes notes now, also if it did before (forgone)
+   closed         the session is closed, and stays so (closed, unchanged) */
+uint32_t keyset_forgo_notes(struct keyset_session *session);
 
 /* Writes what a policy says to do next at this second since 1970, after the calls of a script and
    by the notes beside it: one line without a line feed. docs/POLICY.md has the form of a policy and
@@ -208,9 +221,9 @@ struct keyset_answered keyset_next(const uint8_t *policy, size_t policy_length,
                                    const uint8_t *notes, size_t notes_length, uint64_t seconds,
                                    uint8_t *out, size_t out_length);
 
-/* Opens another session after the same calls, with the same last answer and the same notes
-   (copied). So you can try a call on it. The first session stays as it is (same). Each may go to
-   a thread of its own.
+/* Opens another session after the same calls, with the same last answer and the same notes, or none
+   if the first one forgoes them (copied). So you can try a call on it. The first session stays as
+   it is (same). Each may go to a thread of its own.
 
    answered       the other session is open
    out of memory  asking again may help

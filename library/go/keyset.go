@@ -211,6 +211,14 @@ func (s *Session) Note(line string) error {
 	return fault(C.keyset_note(&s.handle, text, length), 0)
 }
 
+// ForgoNotes gives up the notes of the session, and what it keeps for them: 16 bytes for each call.
+// From then on it is as small after many calls as after few. The error is ErrClosed.
+func (s *Session) ForgoNotes() error {
+	s.alone.Lock()
+	defer s.alone.Unlock()
+	return fault(C.keyset_forgo_notes(&s.handle), 0)
+}
+
 // Due gives the reports that the rolls wait for, as they would be made at this second since 1970.
 // The error is ErrNoNotes if no note was taken yet.
 func (s *Session) Due(seconds uint64) (string, error) {

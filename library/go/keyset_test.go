@@ -104,6 +104,15 @@ func TestNotes(t *testing.T) {
 	if err := zone.Note("published dnskey 9 60 40"); !errors.As(err, &refused) {
 		t.Fatalf("a note of a call that wasn't made: %v", err)
 	}
+	if err := zone.ForgoNotes(); err != nil {
+		t.Fatal(err)
+	}
+	if err := zone.Note(notes[0]); !errors.As(err, &refused) {
+		t.Fatalf("a note of a session that forgoes them: %v", err)
+	}
+	if _, err := zone.Due(100); !errors.Is(err, ErrNoNotes) {
+		t.Fatalf("a session that forgoes notes: %v", err)
+	}
 }
 
 func TestLongAnswerGetsItsRoom(t *testing.T) {

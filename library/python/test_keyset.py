@@ -154,6 +154,20 @@ class CallTests(unittest.TestCase):
         asked = keys.start_roll(ROLL, new=["K1", "Z1"], now=0)
         self.assertEqual((asked.number, asked[0]), (3, Action.UPDATE_DNSKEY_RRSET))
 
+    def test_a_session_may_forgo_notes(self):
+        session = open_session("zone example.com")
+        session.note("before 60 60 60")
+        session.forgo_notes()
+        session.accept(FIRST[0])
+        copy = session.copy()
+        for each in (session, copy):
+            with self.assertRaises(Malformed) as forgone:
+                each.note("before 60 60 60")
+            self.assertEqual(forgone.exception.reason, "the session forgoes notes")
+            with self.assertRaises(Malformed):
+                each.due(9)
+            self.assertEqual(each.accept(FIRST[1]), "ok")
+
     def test_a_broken_chain_is_noticed(self):
         keys = after([*FIRST, "report2 algorithm-roll 60 3710", "wait2 algorithm-roll 3770"])
         keys.set_stale("K1")

@@ -278,7 +278,8 @@ static void expect_texts(void)
         "the session is closed", "the session is open", "no such call yet",
         "seen before it was published", "moment before the last one", "refused",
         "published before its call", "out of memory in a call: the session is closed",
-        "the policy, the script or the notes are refused", "no such status",
+        "the policy, the script or the notes are refused", "the session forgoes notes",
+        "no such status",
     };
     for (uint32_t status = 0; status < sizeof texts / sizeof *texts; status++) {
         uint8_t *out = filled(KEYSET_TEXT_ROOM);

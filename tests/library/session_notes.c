@@ -6,7 +6,8 @@
    program keyset notes has answered it: in a buffer of each length (only every STEP lengths, if a
    checker of memory makes it slow), and after each request for memory has failed in turn. The notes
    are also handed in as early as they are taken, between the calls, and a copy goes on each time.
-   Lines that can't be taken are refused by their status, and change nothing. */
+   Lines that can't be taken are refused by their status, and change nothing. A session that forgoes
+   notes takes none, and goes on. */
 
 #define _GNU_SOURCE
 #include "border.h"
@@ -216,6 +217,47 @@ static size_t play(void)
     return failed;
 }
 
+static void expect_forgone(struct keyset_session *session)
+{
+    uint8_t out[1];
+    expect(note(session, lines[calls]) == KEYSET_NO_NOTES, "a note", "forgone");
+    expect(note(session, "") == KEYSET_NO_NOTES, "a malformed note", "forgone");
+    expect(is_answer(due(session, "due 1", out, 1), KEYSET_MALFORMED, 0), "a question", "forgone");
+}
+
+/* A session that forgoes notes takes none, before its calls or after them, and its calls are
+   answered as those of one with all notes. So are those of its copy. */
+static void play_without(void)
+{
+    struct keyset_session noted = {0}, forgone = {0}, other = {0};
+    expect(keyset_forgo_notes(&forgone) == KEYSET_CLOSED, "forgone", "closed");
+    open_with(&noted, calls);
+    for (size_t i = 0; i <= calls; i += calls) {
+        open_with(&forgone, i > 0 ? i : 1);
+        for (size_t j = calls; i > 0 && j < all; j++)
+            expect(is_question(lines[j]) || note(&forgone, lines[j]) == KEYSET_ANSWERED, "a note",
+                   lines[j]);
+        requests.made = 0;
+        requests.is_called = true;
+        for (size_t j = 0; j < 2; j++)
+            expect(keyset_forgo_notes(&forgone) == KEYSET_ANSWERED, "forgone", "open");
+        requests.is_called = false;
+        expect(requests.made == 0, "no request for memory", "forgone");
+        expect_forgone(&forgone);
+        for (size_t j = i > 0 ? i : 1; j < calls; j++)
+            call(&forgone, lines[j]);
+        expect(keyset_copy(&forgone, &other) == KEYSET_ANSWERED, "a copy", "forgone");
+        keyset_close(&forgone);
+        expect_forgone(&other);
+        uint8_t one[ROOM], two[ROOM];
+        struct keyset_answered said = keyset_closing(&noted, one, ROOM);
+        expect(is_answer(keyset_closing(&other, two, ROOM), KEYSET_ANSWERED, said.length)
+               && memcmp(one, two, said.length) == 0, "the closing lines", "forgone");
+        keyset_close(&other);
+    }
+    keyset_close(&noted);
+}
+
 /* Each line of the notes as soon as it is taken, between the calls. The session goes on as a copy
    of itself. */
 static void play_early(void)
@@ -252,6 +294,7 @@ int main(int argc, char **argv)
     read_answers(argv[2]);
     size_t failed = play();
     play_early();
+    play_without();
     printf("%zu calls and %zu notes line by line, in sessions and copies; %zu requests failed in"
            " turn; %zu lines aren't taken\n",
            calls - 1, all - calls, failed, sizeof REFUSED / sizeof *REFUSED);

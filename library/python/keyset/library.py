@@ -128,6 +128,8 @@ def _declare(code: ctypes.CDLL) -> None:
     # (An older library of this version lacks these.)
     if hasattr(code, "keyset_accept"):
         statuses["accept"] = [handle, *text]
+    if hasattr(code, "keyset_forgo_notes"):
+        statuses["forgo_notes"] = [handle]
     if hasattr(code, "keyset_next"):
         answers["next"] = [*text, *text, *text, ctypes.c_uint64, *text]
     for names, restype in ((answers, _Answered), (statuses, ctypes.c_uint32)):
@@ -216,6 +218,15 @@ class LibrarySession(Session):
             if status:
                 raise fault(status)
             self._notes += 1
+
+    def forgo_notes(self) -> None:
+        with self._guard.held():
+            if not hasattr(self._library, "keyset_forgo_notes"):
+                raise Unavailable("the library is of a release before keyset_forgo_notes")
+            status = self._library.keyset_forgo_notes(self._by())
+            if status:
+                raise fault(status)
+            self._notes = 0
 
     def due(self, moment: int) -> str:
         with self._guard.held():

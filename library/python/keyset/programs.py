@@ -15,7 +15,7 @@ from .errors import Closed, Malformed, NotSaid, OutOfMemory, Unavailable, refusa
 from .library import TREE
 from .lines import why_malformed
 from .members import Status
-from .session import MALFORMED, NO_NOTES, NOT_TAKEN, OUT_OF_MEMORY, Guard, Session
+from .session import FORGONE, MALFORMED, NO_NOTES, NOT_TAKEN, OUT_OF_MEMORY, Guard, Session
 
 PROGRAM, NEXT = "keyset", "next"
 
@@ -27,6 +27,7 @@ class ProgramSession(Session):
         self._guard = Guard()
         self._lines: Optional[List[str]] = [line, *more]
         self._notes: List[str] = []
+        self._forgoes = False
         self._closing = answers(self._lines)[-2:]
 
     @property
@@ -62,10 +63,17 @@ class ProgramSession(Session):
     def note(self, line: str) -> None:
         with self._guard.held():
             lines = self._kept()
+            if self._forgoes:
+                raise Malformed(1, NOT_TAKEN[FORGONE])
             if "\n" in line or not line or line.startswith("due "):
                 raise Malformed(len(self._notes) + 1, NOT_TAKEN[MALFORMED])
             run("notes", [*lines, "", *self._notes, line, "due 0"])
             self._notes.append(line)
+
+    def forgo_notes(self) -> None:
+        with self._guard.held():
+            self._kept()
+            self._notes, self._forgoes = [], True
 
     def due(self, moment: int) -> str:
         with self._guard.held():
@@ -79,6 +87,7 @@ class ProgramSession(Session):
             twin = ProgramSession.__new__(ProgramSession)
             twin._guard, twin._lines = Guard(), list(self._kept())
             twin._notes, twin._closing = list(self._notes), list(self._closing)
+            twin._forgoes = self._forgoes
             return twin
 
     def close(self) -> None:

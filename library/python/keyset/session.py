@@ -12,7 +12,7 @@ from .errors import Closed, Error, Forked, Lost, OutOfMemory, Unavailable
 from .members import Status
 
 ANSWERED, MALFORMED, OUT_OF_MEMORY, SHORT, CLOSED, REFUSED, LOST = 0, 1, 3, 4, 5, 10, 12
-NOT_SAID = 13
+NOT_SAID, FORGONE = 13, 14
 # Why a line of notes isn't taken.
 NOT_TAKEN = {
     MALFORMED: "malformed",
@@ -20,6 +20,7 @@ NOT_TAKEN = {
     8: "seen before it was published",
     9: "moment before the last one",
     11: "published before its call",
+    FORGONE: "the session forgoes notes",
 }
 NO_NOTES = "there are no notes yet: the first line is 'before TTL TTL TTL'"
 
@@ -85,6 +86,11 @@ class Session(ABC):
     @abstractmethod
     def note(self, line: str) -> None:
         """Takes the next line of the zone's notes. Notes stay when more calls are made."""
+
+    @abstractmethod
+    def forgo_notes(self) -> None:
+        """Gives up the notes, and what is kept for them: 16 bytes for each call. From then on each
+        line of notes is `Malformed`, and so is each question for reports."""
 
     @abstractmethod
     def due(self, moment: int) -> str:

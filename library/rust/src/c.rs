@@ -42,6 +42,7 @@ pub(crate) const REFUSED: u32 = 10;
 pub(crate) const PUBLISHED_EARLY: u32 = 11;
 pub(crate) const LOST: u32 = 12;
 pub(crate) const NOT_SAID: u32 = 13;
+pub(crate) const NO_NOTES: u32 = 14;
 
 extern "C" {
     pub(crate) fn keyset_answer(
@@ -63,6 +64,7 @@ extern "C" {
     pub(crate) fn keyset_closing(session: *const Handle, out: *mut u8, room: usize) -> Answered;
     pub(crate) fn keyset_status(session: *const Handle, out: *mut u8, room: usize) -> Answered;
     pub(crate) fn keyset_note(session: *mut Handle, line: *const u8, len: usize) -> u32;
+    pub(crate) fn keyset_forgo_notes(session: *mut Handle) -> u32;
     pub(crate) fn keyset_due(
         session: *const Handle,
         seconds: u64,

@@ -122,7 +122,8 @@ impl Session {
     /// # Errors
     ///
     /// [`Error::MalformedNote`]; [`Error::RefusedNote`] if its fact can't follow the calls or the
-    /// facts before it; [`Error::OutOfMemory`]. The notes are then as they were.
+    /// facts before it; [`Error::NoNotes`] if the session forgoes notes;
+    /// [`Error::OutOfMemory`]. The notes are then as they were.
     pub fn note(&mut self, line: &str) -> Result<(), Error> {
         let number = self.notes + 1;
         // SAFETY: the pointer is that of the text with its length; only we use the handle.
@@ -136,12 +137,21 @@ impl Session {
             c::SEEN_EARLY => NoteRefusal::SeenEarly,
             c::MOMENT_FALLS => NoteRefusal::MomentFalls,
             c::PUBLISHED_EARLY => NoteRefusal::PublishedEarly,
+            c::NO_NOTES => return Err(Error::NoNotes),
             status => return Err(Error::of_status(status)),
         };
         Err(Error::RefusedNote {
             line: number,
             refusal,
         })
+    }
+
+    /// Gives up the notes, and what is kept for them: 16 bytes for each call. From then on the
+    /// session is as small after many calls as after few.
+    pub fn forgo_notes(&mut self) {
+        self.notes = 0;
+        // SAFETY: only we use the handle. (It is open, so nothing can fail.)
+        unsafe { c::keyset_forgo_notes(&mut self.handle) };
     }
 
     /// The reports that are due at this second since 1970, by the notes: a line for each roll that

@@ -191,6 +191,21 @@ fn a_session_counts_as_its_file() -> Result<(), Error> {
 }
 
 #[test]
+fn a_session_may_forgo_notes() -> Result<(), Error> {
+    let mut session = Session::open("zone example.com")?;
+    session.note("before 60 60 60")?;
+    session.forgo_notes();
+    assert_eq!(session.accept(FIRST[0])?, "ok");
+    let mut copy = session.try_clone()?;
+    for it in [&mut session, &mut copy] {
+        assert!(matches!(it.note("before 1 1 1"), Err(Error::NoNotes)));
+        assert!(matches!(it.due(9), Err(Error::NoNotes)));
+        assert_eq!(it.accept(FIRST[1])?, "ok");
+    }
+    Ok(())
+}
+
+#[test]
 fn notes_say_which_reports_are_due() -> Result<(), Error> {
     let mut keys = after(&FIRST[..2])?;
     let (call, ttl, moment) = (3, 3600, 10);
