@@ -17,7 +17,7 @@
 #define SESSIONS 1000
 /* Of a long script there are fewer sessions. */
 #define LONG 20000
-#define SOME 10
+#define SOME 100
 
 static uint8_t script[1 << 23], out[1 << 23];
 static size_t length, lines;
