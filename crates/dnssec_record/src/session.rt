@@ -6,9 +6,8 @@ ghost use Rattle.dnssec_base.specs.declared.error.Error.TheVariants.{OutOfMemory
 ghost use Rattle.dnssec_judge.specs.Verdict.{IsVerdict};
 ghost use Rattle.dnssec_record.specs.Answer.{AnswerFault};
 ghost use Rattle.dnssec_record.specs.Courses.{as_listed, ended_by, listed_by};
-ghost use Rattle.dnssec_record.specs.Session.{Advances, Closes, FaultOfZone, Stands, StandsAfter};
-ghost use Rattle.dnssec_record.specs.Session.{IsTrial, Resumes, ResumesWith, Takes};
-ghost use Rattle.dnssec_record.specs.Session.{Tries};
+ghost use Rattle.dnssec_record.specs.Session.{Advances, Closes, FaultOfZone, IsTrial, Resumes};
+ghost use Rattle.dnssec_record.specs.Session.{ResumesWith, Stands, StandsAfter, Takes, Tries};
 ghost use Rattle.dnssec_run.specs.{Moments.latest_of, Recorder.AreShown};
 ghost use Rattle.dnssec_run.specs.Steps.{AreStepsOf};
 ghost use Rattle.dnssec_run.specs.declared.call.Call.{Call};
@@ -49,8 +48,7 @@ pub enum Attempt {
     Malformed,
 }
 
-/// What would come of a line whose call is made only if it is accepted. A text is the line of the
-/// answer with its line feed.
+/// What `accept` would make of a line. A text is the line of the answer with its line feed.
 #[derive(Drop)]
 pub enum Trial {
     /// The call is accepted: a session that has made it too, and the answer.
@@ -120,8 +118,7 @@ impl Session {
         Ok(session)
     }
 
-    /// What `resume` answers, with the moments of the script's calls, which take 16 bytes a call:
-    /// for a caller who has notes of the zone.
+    /// What `resume` answers, and for notes the moments of the script's calls: 16 bytes a call.
     ///
     /// # Errors
     ///
@@ -220,7 +217,6 @@ impl Session {
     /// of the session, in which the calls have the same numbers.
     ///
     /// It tries the call on a copy of the session. So it takes as long as the call and that copy.
-    /// Of the calls before, only what the judge keeps of them costs time.
     ///
     /// # Errors
     ///
@@ -245,8 +241,7 @@ impl Session {
     }
 
     /// Says what `accept` would do with `line`, and leaves the session as it is: for a caller who
-    /// keeps more than a session, and goes on with both or with neither. It takes its memory from
-    /// `alloc`.
+    /// keeps more than a session, and goes on with both or with neither.
     ///
     /// # Errors
     ///

@@ -162,8 +162,8 @@ impl SessionNotes {
     /// Takes the next line of notes among which questions stand. A question is `due` with a second
     /// since 1970: it asks which reports are due then, by the lines so far. Its answer is returned,
     /// with a line for each roll that waits for a report, as `report1 ksk-roll 3600 130`, and the
-    /// notes stay. Any other line is added to the notes, and `None` is returned. `moments` has those
-    /// of the calls.
+    /// notes stay. Any other line is added to the notes, and `None` is returned. `moments` are the
+    /// moments of the session's calls.
     ///
     /// # Errors
     ///

@@ -26,7 +26,8 @@ returns-in-Ok-new-clause-opened c = λ opened. record {
   kept = c.in-Ok-new.kept.value;
   is = c.put.ensures.kept;
   stands = rw c.in-Ok-new.ensures.ok c.in-Ok.ensures.ok;
-  moments = ap (λ (k : OpenSession). k.moments) c.in-Ok-new.ensures.ok ∙ ap Some c.new-in-Ok.ensures;
+  moments = ap (λ (k : OpenSession). k.moments) c.in-Ok-new.ensures.ok
+      ∙ ap Some c.new-in-Ok.ensures;
   notes = ap (λ (k : OpenSession). k.notes) c.in-Ok-new.ensures.ok ∙ c.new-in-Ok-2.ensures;
 }
 
