@@ -51,6 +51,7 @@ GIVEN_IN = {
     ("dnssec_base/src/name.rt", "rt"): "rt: &impl Abort",
     ("dnssec_network/src/text/questions.rt", "notes"): "notes: &str",
     ("dnssec_policy/src/automatic/zone.rt", "notes"): "notes: &str",
+    ("dnssec_record/src/session.rt", "notes"): "notes: &str",
 }
 # What an example calls that is the caller's own.
 OWN = {

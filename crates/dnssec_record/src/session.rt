@@ -126,7 +126,7 @@ impl Session {
     ///
     /// ```rust
     /// let (session, moments) = Session::resume_with_moments(alloc, script.as_bytes())?;
-    /// let notes = read_notes(alloc, &moments, notes.as_bytes())?;
+    /// let noted = read_notes(alloc, &moments, notes.as_bytes())?;
     /// ```
     pub fn resume_with_moments(alloc: Global, script: &[u8]) -> Result<(Self, Moments), ScriptFault>
         ensures ok { IfOk result (λ resumed. ResumesWith script.now resumed.0 resumed.1) }

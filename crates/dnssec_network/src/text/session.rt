@@ -23,8 +23,6 @@ use std::marker::Model;
 /// let mut notes = SessionNotes::new();
 /// notes.take_line(alloc, &moments, b"before 3600 3600 3600")?;
 /// // The session goes on, and so do the notes.
-/// let said = session.call(alloc, line)?;
-/// moments.add(session.latest())?;
 /// notes.take_line(alloc, &moments, b"published dnskey 12 3600 100")?;
 /// let lines = notes.due_now(alloc, &session, &moments, 130)?;
 /// ```
