@@ -32,7 +32,7 @@ from worst_scripts import (
     adds, anchors, broken_first, broken_last, colliding, early_ends, equal_sums, first_ds_last,
     growing_sets, in_use, in_use_by_a_roll, line_feeds, long_lists, long_reference,
     long_reference_beside, never_over, published, retired, stale, subsets, toggles, two_rolls_waits,
-    two_sets, waits_after_stamps,
+    two_sets, waits_after_all_stamps, waits_after_stamps,
 )
 
 RUNS = 3
@@ -85,7 +85,9 @@ ROWS = [
     Row("a stamp by hand, then a refused wait", 24096, waits_after_stamps, "lines",
         refused=10040),
     Row("stamps of two keys in turn, then a refused wait", 24096,
-        lambda count: waits_after_stamps(count, 2), "lines · keys", refused=10040),
+        lambda count: waits_after_stamps(count, 2), "lines · log keys", refused=10040),
+    Row("stamps of all keys in turn, then a refused wait", 24096, waits_after_all_stamps,
+        "lines · log keys", refused=10040),
     Row("broken at once, then keys published", 4096, broken_first, "lines²; lines",
         chain="broken"),
     Row("no two sets the same, broken at last", 8192, broken_last, "lines²", chain="broken"),

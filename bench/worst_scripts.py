@@ -219,16 +219,33 @@ def two_rolls_waits(count):
     return lines(keys, begun, waits)
 
 
-def waits_after_stamps(count, turn=1):
-    """A wait of many keys, made too early, after each a stamp of one of some keys that is set by
-    hand."""
+def waits_after(count, stamp):
+    """A wait of many keys, made too early, after each stamp that is set by hand: `stamp` gives its
+    key and its moment by its number."""
     zsks = [f"A{i}" for i in range(count // 6)]
     keys = [f"add-zsk {name} - 13 {i + 10} 150 yes" for i, name in enumerate(zsks)]
     begun = [f"start zsk-roll Z0 {','.join(zsks)} 200", "report1 zsk-roll 3600 210"]
-    turns = (line for i in range(5 * count // 12)
-             for line in (f"set-visible A{i % turn} {210 + i // turn % 2}",
-                          "wait1 zsk-roll 300"))
+    stamps = (stamp(i) for i in range(5 * count // 12))
+    turns = (line for key, moment in stamps
+             for line in (f"set-visible A{key} {moment}", "wait1 zsk-roll 300"))
     return lines(keys, begun, turns)
+
+
+def waits_after_stamps(count, turn=1):
+    """Stamps of some keys in turn, first a later one of each, and then an earlier one."""
+    return waits_after(count, lambda i: (i % turn, 210 + i // turn % 2))
+
+
+def waits_after_all_stamps(count):
+    """Each key gets a later stamp than those before it. Then, from the last key on, each gets an
+    earlier one than all others, so that the end of the wait moves back with each."""
+    keys = count // 6
+
+    def stamp(i):
+        round_, place = divmod(i, keys)
+        return (keys - 1 - place, 100) if round_ % 2 else (place, 210 + place)
+
+    return waits_after(count, stamp)
 
 
 def broken_first(count):

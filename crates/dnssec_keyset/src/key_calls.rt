@@ -181,7 +181,7 @@ impl KeySet {
     }
 
     /// Sets by hand whether a key signs, in each of its roles. No other flag and no stamp changes.
-    /// An early end of a roll in progress then leaves this key as it is. No memory is taken.
+    /// An early end of a roll in progress then leaves this key as it is. It needs no memory.
     ///
     /// # Errors
     ///
@@ -211,7 +211,7 @@ impl KeySet {
 
     /// Makes a key stale by hand. In each of its roles it is then old, and neither signs, nor is in
     /// the DNSKEY set, nor has a DS at the parent. Its stamps stay. An early end of a roll in
-    /// progress then leaves this key as it is. No memory is taken.
+    /// progress then leaves this key as it is. It needs no memory.
     ///
     /// # Errors
     ///
@@ -225,7 +225,7 @@ impl KeySet {
 
     /// Sets by hand the stamp that says since when all servers of the zone have the key in its
     /// DNSKEY set: from `time` on. It replaces an earlier one. Nothing else of the key changes, and
-    /// no memory is taken.
+    /// the call needs no memory.
     ///
     /// # Errors
     ///
@@ -295,7 +295,8 @@ impl KeySet {
     }
 
     /// Changes the key with the reference `pubref` as `setting` says, for all setters. If that sets
-    /// a flag, a later early end of a roll leaves this key as it is. No memory is taken.
+    /// a flag, a later early end of a roll leaves this key as it is. It needs no memory: what
+    /// it may keep of a wait is dropped if there is none.
     ///
     /// It is refused with `KeyNotFound` if no key has the reference. `WrongKeyType` says that such
     /// a key can't have the flag: another signer's key doesn't sign, and only a KSK or a CSK has a

@@ -60,7 +60,7 @@ impl KeySet {
         let Some(ttl) = self.rolls.ttl_in(rolltype, half) else {
             return Err(Error::WrongStateForRollOperation);
         };
-        let Some(end) = self.keys.find_wait(rolltype, half, ttl) else {
+        let Some(end) = self.keys.find_wait(self.alloc, rolltype, half, ttl) else {
             return Err(Error::WrongKeyState);
         };
         let now = Duration::from(*now).as_nanos();

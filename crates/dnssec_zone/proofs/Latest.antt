@@ -1,16 +1,15 @@
 -- The latest of the moments from which a wait is over for keys: what a walk finds, what it answers
 -- to a wait, and how it follows a key that changes or goes.
 use Rattle.std.proofs.Common.{◌≡◌, ℕ, ◌≤◌, ◌+◌, Bool, true, false, List, [], ◌∷◌, Some, refl}
-use Rattle.std.proofs.Common.{sym, ◌∙◌, max, arith, not, min, None, ap, map, subst}
-use Rattle.std.specs.Prelude.{nat_lt, Option, is_none, ◌*◌, ◌-◌, ◌&&◌, ◌||◌, if◌then◌else◌}
-use Rattle.std.specs.Prelude.{unwrap_or, IfNone, IfSome, nat_eq}
+use Rattle.std.proofs.Common.{sym, ◌∙◌, max, arith, not, min, None, ap, map}
+use Rattle.std.specs.Prelude.{is_some, nat_lt, Option, is_none, ◌*◌, ◌-◌, ◌&&◌, ◌||◌, if◌then◌else◌}
+use Rattle.std.specs.Prelude.{unwrap_or, IfNone, IfSome}
 use Rattle.std.specs.{List.list_any, List.fold, FinMap.get, FinMap.remove, FinMap.values}
-use Rattle.std.specs.{FinMap.entries, Option.option_eq, Option.option_map_or, Option.option_map}
-use Rattle.std.specs.{Option.option_and_then, Str.bytes_eq}
+use Rattle.std.specs.{FinMap.entries, Option.option_map_or}
+use Rattle.std.specs.{Str.bytes_eq}
 use Rattle.std.specs.HashMap.{HashMap, IsUnique, values as hash_values}
 use Rattle.std.specs.{String.string_eq, declared.string.String.String}
-use Rattle.std.specs.Cmp.Lexicographic.{bytes_decides}
-use Rattle.std.proofs.lemmas.Bool.{or_from, or_left, or_right, cond_both}
+use Rattle.std.proofs.lemmas.Bool.{false≢true, or_from, or_left, or_right, cond_both}
 use Rattle.std.proofs.lemmas.Bool.Decides.{nat_tests}
 use Rattle.dnssec_key.specs.declared.roll.Half.{Half}
 use Rattle.dnssec_key.specs.{Key.KeyParts, Key.all_states, RollTable.column}
@@ -18,16 +17,13 @@ use Rattle.dnssec_key.specs.{RollTable.half_of, declared.roll.RollType.RollType}
 use Rattle.dnssec_key.specs.{declared.kind.KeyType.KeyType, State.is_stale}
 use Rattle.dnssec_zone.specs.Wait.{early_by, lacks_stamp, time_left}
 use Rattle.dnssec_zone.specs.Wait.{wait_in_phase, IsOverFrom, LacksStamp}
-use Rattle.dnssec_zone.specs.{Keys.Keys, Keys.keys_in_map, Keys.some_key, Keys.TagsApart}
-use Rattle.dnssec_zone.specs.Inner.Over.{over_at, over_but, later}
-use Rattle.dnssec_zone.specs.Inner.Reported.{IsLatest, IsKnown, IsByOthers, over_for, known_after}
-use Rattle.dnssec_zone.specs.Inner.Reported.{known_beside, by_latest, by_others, moved}
-use Rattle.dnssec_zone.specs.Inner.Counts.{count, count_in}
-use Rattle.dnssec_zone.specs.declared.wait_end.ReportedWait.{ReportedWait}
-use Rattle.dnssec_zone.specs.declared.wait_end.Others.{Others}
+use Rattle.dnssec_zone.specs.{Keys.Keys, Keys.keys_in_map, Keys.some_key}
+use Rattle.dnssec_zone.specs.Inner.Over.{over_at, later}
+use Rattle.dnssec_zone.specs.Inner.Reported.{IsLatest, moved}
+use Rattle.dnssec_zone.specs.Inner.Counts.{count}
 use Rattle.dnssec_zone.proofs.{Walks.some_key-shown, Tests.some_or_none}
-use Rattle.dnssec_zone.proofs.Counted.{some-alike, some_key-counted, count-at, count-same}
-use Rattle.dnssec_zone.proofs.Counted.{count-changed, get-without}
+use Rattle.dnssec_zone.proofs.Counted.{some-alike, some_key-counted, count-at}
+use Rattle.dnssec_zone.proofs.Counted.{count-changed}
 use Rattle.dnssec_zone.proofs.Longest.{longest-by, none-left, some-left}
 
 module _ (f : KeyParts → Option ℕ) where
@@ -155,72 +151,27 @@ follows f m n r k l b a end found is was now known old = record {
   );
 }
 
+-- the same by what is answered of the latest, if it is
+pub latest-moved : (f : KeyParts → Option ℕ) (m n : Keys) (r : List ℕ) (k l : KeyParts)
+    → get m r ≡ Some k
+    → ((q : List ℕ) → get n q ≡ (if bytes_eq r q then Some l else get m q))
+    → (b a end : Option ℕ) → f k ≡ b → f l ≡ a → is_some (moved b a end) ≡ true
+    → IsLatest f m end → IsLatest f n (moved b a end)
+latest-moved f m n r k l found is None a end was now known old = absurd (false≢true known)
+latest-moved f m n r k l found is (Some b) None end was now known old =
+    absurd (false≢true known)
+latest-moved f m n r k l found is (Some b) (Some a) None was now known old =
+    absurd (false≢true known)
+latest-moved f m n r k l found is (Some b) (Some a) (Some end) was now known old =
+    cond_both (nat_lt b end || not (nat_lt a b)) (Some (max end a)) None
+    (λ o. is_some o ≡ true → IsLatest f n o)
+    (λ e some. follows f m n r k l b a end found is was now e old)
+    (λ e some. absurd (false≢true some)) known
+
 -- tests that agree on each key
 some-same : (p q : KeyParts → Bool) (keys : Keys) → ((k : KeyParts) → p k ≡ q k)
     → some_key p keys ≡ some_key q keys
 some-same p q keys same = λ i. list_any (λ k. same k i) (values keys)
-
--- ---- one key and all others
-
--- a key passes that isn't the one with a tag
-abbrev another : ℕ → (KeyParts → Bool) → KeyParts → Bool
-another tag p k = not (nat_eq k.key_tag tag) && p k
-
--- some key passes if the one at a reference does, or another one
-some-split : (p : KeyParts → Bool) (m : Keys) (r : List ℕ) (k : KeyParts) → get m r ≡ Some k
-    → TagsApart m → some_key p m ≡ (p k || some_key (another k.key_tag p) m)
-some-split p m r k found apart =
-    let rest : count_in (λ q. another k.key_tag p) (remove m r) ≡ count_in (λ q. p) (remove m r) =
-    count-same (λ q. another k.key_tag p) (λ q. p) (remove m r) (λ q l at. other q l at) in
-    grind (
-      arith,
-      nat_tests,
-      some_key-counted p m,
-      some_key-counted (another k.key_tag p) m,
-      count-at (λ q. p) m r,
-      count-at (λ q. another k.key_tag p) m r,
-      rest,
-      found,
-    )
-  where
-    other : (q : List ℕ) (l : KeyParts) → get (remove m r) q ≡ Some l
-        → another k.key_tag p l ≡ p l
-    other q l at = grind (arith, nat_tests, bytes_decides, get-without m r q, apart r q k l found)
-
--- the latest of all, by the one key and the others
-joined : (roll : RollType) (half : Half) (ttl : ℕ) (m : Keys) (r : List ℕ) (k : KeyParts)
-    → get m r ≡ Some k → TagsApart m → (x : Option ℕ)
-    → IsLatest (over_but roll half ttl k.key_tag) m x
-    → IsLatest (over_at roll half ttl) m (later x (over_at roll half ttl k))
-joined roll half ttl m r k found apart x others = record {
-  lacks = some-split (lacks f) m r k found apart ∙ ap (λ b. lacks f k || b)
-      (some-same _ _ m masked ∙ others.lacks) ∙ none x (f k);
-  past = follow x (f k) refl others.past;
-}
-  where
-    f : KeyParts → Option ℕ
-    f = over_at roll half ttl
-
-    g : KeyParts → Option ℕ
-    g = over_but roll half ttl k.key_tag
-
-    masked : (l : KeyParts) → another k.key_tag (lacks f) l ≡ lacks g l
-    masked l = grind (arith, nat_tests)
-
-    masked-past : (n : ℕ) (l : KeyParts) → another k.key_tag (past f n) l ≡ past g n l
-    masked-past n l = grind (arith, nat_tests)
-
-    none : (a b : Option ℕ) → (is_none b || is_none a) ≡ is_none (later a b)
-    none a b = grind arith
-
-    follow : (a b : Option ℕ) → f k ≡ b
-        → IfSome a (λ end. (n : ℕ) → some_key (past g n) m ≡ nat_lt n end)
-        → IfSome (later a b) (λ end. (n : ℕ) → some_key (past f n) m ≡ nat_lt n end)
-    follow None b e h = tt
-    follow (Some x) None e h = tt
-    follow (Some x) (Some y) e h = λ n. some-split (past f n) m r k found apart
-        ∙ ap (λ b. past f n k || b) (some-same _ _ m (masked-past n) ∙ h n)
-        ∙ (grind (arith, nat_tests, e))
 
 -- ---- what the latest answers to a wait
 
@@ -296,103 +247,10 @@ module _ (roll : RollType) (half : Half) (ttl : ℕ) where
     latest-is None is = (tt, latest-lacks is)
     latest-is (Some end) is = (latest-over end is, tt)
 
--- ---- what is known of a wait, after a key has changed or gone
-
--- what a wait sees of a key, if the one with a tag is left out
-abbrev but : ReportedWait → ℕ → KeyParts → Option ℕ
-but wait tag = over_but wait.roll wait.half wait.ttl tag
-
--- no change is seen
-known-alike : (m n : Keys) (r : List ℕ) (o : Option KeyParts)
-    → ((q : List ℕ) → get n q ≡ (if bytes_eq r q then o else get m q))
-    → (wait : ReportedWait)
-    → seen (over_for (Some wait)) (get m r) ≡ seen (over_for (Some wait)) o
-    → ((tag : ℕ) → seen (but wait tag) (get m r) ≡ seen (but wait tag) o)
-    → IsKnown (Some wait) m → IsKnown (Some wait) n
-known-alike m n r o is wait same each known = (
-  latest-alike (over_for (Some wait)) m n r o is same wait.over known.0,
-  others wait.others known.1,
-)
-  where
-    others : (x : Option Others) → IsByOthers wait.roll wait.half wait.ttl x m
-        → IsByOthers wait.roll wait.half wait.ttl x n
-    others None h = tt
-    others (Some x) h = latest-alike (but wait x.but) m n r o is (each x.but) x.over h
-
--- a setter has changed the key at a reference
-pub known-after : (m n : Keys) (r : List ℕ) (k l : KeyParts) → get m r ≡ Some k
-    → ((q : List ℕ) → get n q ≡ (if bytes_eq r q then Some l else get m q))
-    → l.key_tag ≡ k.key_tag → TagsApart n → (known : Option ReportedWait) → IsKnown known m
-    → IsKnown (known_after k.key_tag (over_for known k) (over_for known l) known) n
-known-after m n r k l found is tag apart None old = tt
-known-after m n r k l found is tag apart (Some wait) old = cond_both
-    (option_eq nat_eq (over_for (Some wait) l) (over_for (Some wait) k)) (Some wait)
-    (known_beside k.key_tag (over_for (Some wait) k) (over_for (Some wait) l) wait)
-    (λ o. IsKnown o n)
-    (λ e.
-    let same : over_for (Some wait) l ≡ over_for (Some wait) k = equal _ _ e in
-    known-alike m n r (Some l) is wait (ap (seen (over_for (Some wait))) found ∙ sym same)
-    (λ t. ap (seen (but wait t)) found ∙ (grind (arith, same, tag))) old)
-    (λ e. beside wait.others refl old.1)
-  where
-    equal : (a b : Option ℕ) → option_eq nat_eq a b ≡ true → a ≡ b
-    equal a b e = grind (arith, nat_tests)
-
-    there : get n r ≡ Some l
-    there = is r ∙ (grind (arith, bytes_decides))
-
-    rest : (t : ℕ) → t ≡ l.key_tag → (x : Option ℕ) → IsLatest (but wait t) m x
-        → IsLatest (but wait t) n x
-    rest t e x h = latest-alike (but wait t) m n r (Some l) is
-        (ap (seen (but wait t)) found ∙ (grind (arith, nat_tests, e, tag))) x h
-
-    f : KeyParts → Option ℕ
-    f = over_for (Some wait)
-
-    -- by the latest moment so far
-    latest : (b a end : Option ℕ) → f k ≡ b → f l ≡ a → IsLatest f m end → IsKnown (option_map
-        (λ x. record wait { over = Some x; others = None }) (option_and_then (moved b a) end)) n
-    latest b a None was now old = tt
-    latest None a (Some end) was now old = tt
-    latest (Some b) None (Some end) was now old = tt
-    latest (Some b) (Some a) (Some end) was now old = cond_both (nat_lt b end || not (nat_lt a b))
-        (Some (max end a)) None
-        (λ o. IsKnown (option_map (λ x. record wait { over = Some x; others = None }) o) n)
-        (λ known. (follows f m n r k l b a end found is was now known old, tt))
-        (λ unknown. tt)
-
-    beside : (x : Option Others) → wait.others ≡ x
-        → IsByOthers wait.roll wait.half wait.ttl x m
-        → IsKnown (by_others k.key_tag (f k) (f l) wait x) n
-    beside None e h = latest (f k) (f l) wait.over refl refl old.0
-    beside (Some x) e h = cond_both (nat_eq x.but k.key_tag)
-        (Some (record wait { over = later x.over (f l) })) (by_latest (f k) (f l) wait)
-        (λ o. IsKnown o n)
-        (λ t.
-        let is_its : x.but ≡ l.key_tag = grind (arith, nat_tests, t, tag) in
-        let kept = rest x.but is_its x.over h in (
-          joined wait.roll wait.half wait.ttl n r l there apart x.over
-              (subst (λ t. IsLatest (but wait t) n x.over) is_its kept),
-          rw e kept,
-        ))
-        (λ t. latest (f k) (f l) wait.over refl refl old.0)
-
 -- ---- a stale key that goes
 
 -- no wait checks it
-stale-unchecked : (roll : RollType) (half : Half) (t : KeyType) → all_states is_stale t ≡ true
+pub stale-unchecked : (roll : RollType) (half : Half) (t : KeyType) → all_states is_stale t ≡ true
     → (half_of roll half).checks t ≡ false
 unfolding column
 stale-unchecked roll half t stale = grind arith
-
--- so what is known of a wait stays when it goes
-pub known-removed : (m n : Keys) (r : List ℕ) (k : KeyParts) → get m r ≡ Some k
-    → ((q : List ℕ) → get n q ≡ (if bytes_eq r q then None else get m q))
-    → all_states is_stale k.keytype ≡ true
-    → (known : Option ReportedWait) → IsKnown known m → IsKnown known n
-known-removed m n r k found is stale None old = tt
-known-removed m n r k found is stale (Some wait) old =
-    let none = stale-unchecked wait.roll wait.half k.keytype stale in
-    known-alike m n r None is wait
-    (ap (seen (over_for (Some wait))) found ∙ (grind (arith, none)))
-    (λ t. ap (seen (but wait t)) found ∙ (grind (arith, none))) old

@@ -13,8 +13,9 @@
 -- | `end_phase`, `delete`            | `counts-ended` and the like    | Counted                  |
 -- | `Lists`: the entries             | `entries_of-at`, `filtered`    | Listing                  |
 -- | the phases of rolls              | ruleset `phases`               | Phases                   |
--- | `over_from`, `over_beside`       | `walked`, `latest-is`          | Latest, Longest          |
--- | `Waits`: what is kept            | `known-after`, `known-removed` | Latest                   |
+-- | `over_from`                      | `walked`, `latest-is`          | Latest, Longest          |
+-- | `CountedEnds`                    | `ends-walked`, `last-latest`   | Ended, Counted           |
+-- | `Waits`: what is kept            | `latest-moved`, `ends-changed` | Latest, Ended            |
 --
 -- `Tests` tests all rolls, options and pairs of flags; `Flags` says by it what flags a key may have
 -- on each side: for the laws of key sets and of runs.
@@ -29,5 +30,6 @@ pub mod Starts
 pub mod Marks
 pub mod Longest
 pub mod Latest
+pub mod Ended
 pub mod Tests
 pub mod Flags

@@ -8,5 +8,6 @@ pub mod Entries
 pub mod Counts
 pub mod NewKeys
 pub mod Over
+pub mod Ends
 pub mod Reported
 pub mod Derived

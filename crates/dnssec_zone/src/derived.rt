@@ -11,13 +11,14 @@ ghost use Rattle.dnssec_zone.specs.Inner.TagIndex.{has};
 ghost use Rattle.dnssec_zone.specs.Inner.Counts.{CountsAgree, count_in};
 ghost use Rattle.dnssec_zone.specs.Inner.Counts.{end_moves_kept, moves_counts, no_counts, with_key};
 ghost use Rattle.dnssec_zone.specs.Inner.Counts.{without_key};
-ghost use Rattle.dnssec_zone.specs.Inner.Reported.{AreKnown, known_after, over_for};
+ghost use Rattle.dnssec_zone.specs.Inner.Reported.{AreKnown, GoesOn};
 ghost use Rattle.dnssec_zone.specs.Inner.Tags.{TagsAgree};
 ghost use Rattle.dnssec_zone.specs.Keys.{Keys as AnyKeys, has_tag, keys_in_map};
 ghost use Rattle.dnssec_zone.specs.Refusals.{Answers, reference_refusal};
 
 use crate::index::{Counting, Counts, TagIndex};
-use crate::wait_end::{KeyMap, Waits};
+use crate::over::KeyMap;
+use crate::wait_end::Waits;
 use dnssec_key::{Error, Half, Key, KeyType, PhaseEnd, RollType, Setting, wait_moves_kept};
 use std::alloc::Global;
 
@@ -66,13 +67,14 @@ impl Derived {
     pub(crate) fn try_clone(&self, alloc: Global) -> Result<Derived, Error>
         ensures tags { IfOk result (λ copy. (t : ℕ) → has copy.tags t ≡ has self.now.tags t) }
         ensures counts { IfOk result (λ copy. copy.counts ≡ self.now.counts) }
-        ensures waits { IfOk result (λ copy. copy.waits ≡ self.now.waits) }
+        ensures waits { IfOk result (λ copy. (keys : AnyKeys) →
+            AreKnown self.now.waits keys → AreKnown copy.waits keys) }
         ensures err { IsOkUnless result OutOfMemory }
     {
         Ok(Derived {
             tags: self.tags.try_clone(alloc)?,
             counts: self.counts,
-            waits: self.waits,
+            waits: self.waits.copy(),
         })
     }
 
@@ -142,14 +144,8 @@ impl Derived {
         ensures counts { self.new.counts ≡ (if moves_counts (setting_of setting.now)
             then with_key (set_by (setting_of setting.now) key.old).keytype
             (without_key key.old.keytype self.old.counts) else self.old.counts) }
-        ensures ksks { self.new.waits.of_ksks ≡ known_after key.old.key_tag
-            (over_for self.old.waits.of_ksks key.old)
-            (over_for self.old.waits.of_ksks (set_by (setting_of setting.now) key.old))
-            self.old.waits.of_ksks }
-        ensures zsks { self.new.waits.of_zsks ≡ known_after key.old.key_tag
-            (over_for self.old.waits.of_zsks key.old)
-            (over_for self.old.waits.of_zsks (set_by (setting_of setting.now) key.old))
-            self.old.waits.of_zsks }
+        ensures waits { GoesOn key.old key.new
+            (AreKnown self.old.waits) (AreKnown self.new.waits) }
     {
         if !moves_counts(setting) {
             self.waits.set(key, setting);

@@ -18,7 +18,7 @@ ghost use Rattle.dnssec_zone.specs.Wait.{IsOverFrom, LacksStamp};
 use crate::derived::Derived;
 use crate::index::{Counting, TagSet, is_set};
 use crate::mark::KeyMark;
-use crate::wait_end::{KeyMap, over_from};
+use crate::over::{KeyMap, over_from};
 use dnssec_key::{
     Error, Half, Key, PhaseEnd, RollType, Setting, UnixTime, Want, end_phase, mark_new, mark_old,
     unmark_new, unmark_old,
@@ -286,12 +286,13 @@ impl Keys {
     /// The nanosecond since 1970 from which the wait in this half of `roll` for a TTL of `ttl`
     /// seconds is over. `None` if a key that the wait checks lacks the stamp that it reads, else 0
     /// if it checks no key or `ttl` is 0. No key changes: `self` only keeps what a walk over them
-    /// finds, so that the next call needs no walk.
-    pub fn find_wait(&mut self, roll: RollType, half: Half, ttl: u32) -> Option<u128>
+    /// finds, so that the next call needs no walk. After a setter it takes memory from `alloc` for
+    /// that, if there is some.
+    pub fn find_wait(&mut self, alloc: Global, roll: RollType, half: Half, ttl: u32) -> Option<u128>
         ensures over { IfSome result (IsOverFrom roll half ttl self.old) }
         ensures missing { IfNone result (LacksStamp roll half ttl self.old) }
         ensures same { self.new ≡ self.old }
     {
-        self.derived.waits.find(&self.map, roll, half, ttl)
+        self.derived.waits.find(alloc, &self.map, roll, half, ttl)
     }
 }

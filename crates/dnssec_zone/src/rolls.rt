@@ -133,12 +133,15 @@ impl Rolls {
         Ok(())
     }
 
-    /// Ends `roll`: it is no longer in progress. Nothing changes if it wasn't.
+    /// Ends `roll`, if it is in progress. The last roll leaves no memory behind.
     #[tactic(auto, using(crate::proofs::Phases::phases))]
     pub fn take_out(&mut self, roll: RollType)
         ensures { self.new ≡ with_phase self.old roll None }
     {
         self.phases.remove(&roll);
+        if self.phases.is_empty() {
+            self.phases.shrink_to_fit();
+        }
     }
 
     /// Whether `roll` is in progress, or another roll is that may not be in progress with it.
@@ -238,7 +241,7 @@ pub fn same_part(part: Part, other: Part) -> bool
     }
 }
 
-/// A key that the start of a roll has listed, by its tag.
+/// A key that the start of a roll has listed, by its key tag (RFC 4034, appendix B).
 #[derive(Clone, Copy)]
 pub(crate) struct ListedKey {
     pub(crate) roll: RollType,
@@ -259,13 +262,6 @@ impl ListedKey {
         ensures { result ≡ is_of_roll roll self }
     {
         roll == self.roll
-    }
-
-    /// The key tag of the listed key (RFC 4034, appendix B).
-    fn key_tag(self) -> u16
-        ensures { result ≡ self.key_tag }
-    {
-        self.key_tag
     }
 
     /// Whether the start of `roll` has listed this key as `part`, old or new.
@@ -303,8 +299,7 @@ impl Lists {
         ensures err { IsOkUnless result OutOfMemory }
     {
         let listed = old.len().checked_add(new.len()).ok_or(Error::OutOfMemory)?;
-        self.entries.reserve(listed)?;
-        Ok(())
+        Ok(self.entries.reserve(listed)?)
     }
 
     /// Lists, in place of what `roll` had listed, the keys of `old` and `new` (references) that are
@@ -332,11 +327,10 @@ impl Lists {
         for reference in references {
             match keys.as_map().get(*reference) {
                 Some(key) if key.is_kept() => {
-                    let key_tag = key.key_tag();
                     self.entries.push_reserved(ListedKey {
                         roll,
                         part,
-                        key_tag,
+                        key_tag: key.key_tag(),
                     });
                 }
                 _ => {}
@@ -392,7 +386,8 @@ impl Lists {
         let mut tags = [0; 1024];
         for entry in self.entries.iter() {
             if entry.is_of(roll, part) {
-                set(&mut tags, entry.key_tag(), true);
+                let key_tag = entry.key_tag;
+                set(&mut tags, key_tag, true);
             }
         }
         tags

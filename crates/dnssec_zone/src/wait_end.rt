@@ -1,38 +1,27 @@
-//! When a wait is over: for a key, and for all keys. Also what is kept of the waits in progress.
-ghost use Rattle.std.specs.Prelude.{◌≡◌, IsTrue, IfSome};
-ghost use Rattle.std.specs.Option.{option_and_then};
+//! What is kept of the waits in progress.
+ghost use Rattle.std.specs.Prelude.{◌≡◌, IsTrue, IfSome, true};
+ghost use Rattle.dnssec_key.specs.Key.{KeyParts};
 ghost use Rattle.dnssec_key.specs.Setters.{setting_of, set_by};
-ghost use Rattle.dnssec_zone.specs.Inner.Over.{over_at, over_but, later};
-ghost use Rattle.dnssec_zone.specs.Inner.Reported.{IsKnown, IsLatest, AreKnown};
-ghost use Rattle.dnssec_zone.specs.Inner.Reported.{moved, over_for, known_after, known_beside};
+ghost use Rattle.dnssec_zone.specs.Inner.Over.{over_at};
+ghost use Rattle.dnssec_zone.specs.Inner.Reported.{AreKnown, GoesOn, IsKnown, IsLatest, Knows};
+ghost use Rattle.dnssec_zone.specs.Inner.Reported.{moved, over_by, over_for};
 ghost use Rattle.dnssec_zone.specs.Keys.{Keys as AnyKeys, keys_in_map};
 
-use dnssec_key::{
-    Half, Key, RollType, Setting, Side, apply_setting, is_checked, stamp_named, stamp_read,
-};
-use std::collections::HashMap;
-use std::time::Duration;
+use crate::ends::CountedEnds;
+use crate::over::{KeyMap, over_for, over_from};
+use dnssec_key::{Half, Key, RollType, Setting, Side, apply_setting};
+use std::alloc::Global;
 
-/// Keys by their public references.
-pub(crate) type KeyMap = HashMap<String, Key>;
-
-/// A wait that a report has begun, and what walks over the keys found out about it.
-#[derive(Clone, Copy)]
+/// A wait that a report has begun, and what is known of its end.
+#[derive(Drop)]
 pub(crate) struct ReportedWait {
     pub(crate) roll: RollType,
     pub(crate) half: Half,
     pub(crate) ttl: u32,
     /// The nanosecond since 1970 from which it is over, or `None` if a key lacks its stamp.
     pub(crate) over: Option<u128>,
-    /// When it is over for all keys but one, if a setter had changed that one before the walk.
-    pub(crate) others: Option<Others>,
-}
-
-/// When a wait is over for all keys but the one with the tag `but`, in nanoseconds since 1970.
-#[derive(Clone, Copy)]
-pub(crate) struct Others {
-    pub(crate) but: u16,
-    pub(crate) over: Option<u128>,
+    /// Its ends for the keys, if they were counted.
+    pub(crate) ends: Option<CountedEnds>,
 }
 
 impl ReportedWait {
@@ -52,55 +41,43 @@ impl ReportedWait {
     // Out of line, as `seen` and `follow`, so that a setter, which mostly finds no wait, is short.
     #[inline(never)]
     fn over_for(&self, key: &Key) -> Option<u128>
-        ensures { result ≡ over_at self.now.roll self.now.half self.now.ttl key.now }
+        ensures { result ≡ over_by self.now key.now }
     {
         over_for(self.roll, self.half, self.ttl, key)
     }
 
-    /// This wait, updated after a setter moved its end for the key with this tag from `before` to
-    /// `after`, in nanoseconds since 1970. `None` if only a walk tells when it is over.
+    /// Follows a setter that moved the end of this wait for one key from `before` to `after`, in
+    /// nanoseconds since 1970. `false` if only a walk now tells when it is over for all keys.
     #[inline(never)]
-    fn beside(
-        &self,
-        key_tag: u16,
-        before: Option<u128>,
-        after: Option<u128>,
-    ) -> Option<ReportedWait>
-        ensures { result ≡ known_beside key_tag before after self.now }
+    fn follow(&mut self, before: Option<u128>, after: Option<u128>) -> bool
+        ensures { result ≡ true → (k l : KeyParts) → over_by self.old k ≡ before
+            → over_by self.old l ≡ after → GoesOn k l (Knows self.old) (Knows self.new) }
     {
-        match self.others {
-            Some(others) if others.but == key_tag => Some(ReportedWait {
-                over: later(others.over, after),
-                ..*self
-            }),
-            _ => Some(ReportedWait {
-                over: Some(moved(before, after, self.over?)?),
-                others: None,
-                ..*self
-            }),
+        match &mut self.ends {
+            None => {
+                self.over = moved(before, after, self.over);
+                self.over.is_some()
+            }
+            Some(ends) => match ends.exchange(before, after) {
+                Ok(()) => {
+                    self.over = ends.last();
+                    true
+                }
+                Err(_) => false,
+            },
         }
     }
 }
 
 /// The end of a wait for all keys, `latest` before a setter moved that of one key from `before` to
 /// `after`: `None` if one of these is, or if it may be earlier now. In nanoseconds since 1970.
-fn moved(before: Option<u128>, after: Option<u128>, latest: u128) -> Option<u128>
+fn moved(before: Option<u128>, after: Option<u128>, latest: Option<u128>) -> Option<u128>
     ensures { result ≡ moved before after latest }
 {
-    match (before, after) {
-        (Some(before), Some(after)) if before < latest || before <= after => {
+    match (before, after, latest) {
+        (Some(before), Some(after), Some(latest)) if before < latest || before <= after => {
             Some(latest.max(after))
         }
-        _ => None,
-    }
-}
-
-/// The later of two moments in nanoseconds since 1970, or `None` if one isn't known.
-fn later(one: Option<u128>, other: Option<u128>) -> Option<u128>
-    ensures { result ≡ later one other }
-{
-    match (one, other) {
-        (Some(one), Some(other)) => Some(one.max(other)),
         _ => None,
     }
 }
@@ -115,31 +92,35 @@ fn seen(wait: &Option<ReportedWait>, key: &Key) -> Option<u128>
     }
 }
 
-/// `wait`, updated after a setter moved its end for the key with this tag from `before` to `after`,
-/// in nanoseconds since 1970. `None` without a wait, or if only a walk tells when it is over.
-fn beside(
-    wait: &Option<ReportedWait>,
-    key_tag: u16,
-    before: Option<u128>,
-    after: Option<u128>,
-) -> Option<ReportedWait>
-    ensures { result ≡ option_and_then (known_beside key_tag before after) wait.now }
+/// Brings `wait` up to date after a setter moved its end for one key from `before` to `after`, in
+/// nanoseconds since 1970. Drops it, and says so, if only a walk now tells when it is over.
+fn follow(wait: &mut Option<ReportedWait>, before: Option<u128>, after: Option<u128>) -> bool
+    ensures { (k l : KeyParts) → over_for wait.old k ≡ before → over_for wait.old l ≡ after
+        → GoesOn k l (IsKnown wait.old) (IsKnown wait.new) }
 {
-    match wait {
-        Some(wait) => wait.beside(key_tag, before, after),
-        None => None,
+    if after == before {
+        return false;
     }
+    let is_known = match wait {
+        Some(wait) => wait.follow(before, after),
+        None => false,
+    };
+    if !is_known {
+        *wait = None;
+    }
+    !is_known
 }
 
 /// What is known of the waits in progress: that of a roll of only ZSKs, and that of any other roll.
-/// A setter costs no walk over the keys. The next question walks only if the end may be earlier, or
-/// isn't known. It keeps the end for the other keys too: only a setter on those may cost one again.
-#[derive(Clone, Copy)]
+/// A setter costs no walk over the keys. If only a walk tells when a wait is over after it, the
+/// next question walks, and counts the wait's ends for the keys. Setters then keep the counts, so
+/// none of them costs a walk again.
+#[derive(Drop)]
 pub(crate) struct Waits {
     pub(crate) of_ksks: Option<ReportedWait>,
     pub(crate) of_zsks: Option<ReportedWait>,
-    /// The tag of the key for which a setter last moved the end of a wait.
-    changed: Option<u16>,
+    /// Whether a setter has dropped a wait since the last report.
+    is_moved: bool,
 }
 
 /// The nanosecond since 1970 from which each wait is over for one key, as far as it is known.
@@ -157,7 +138,18 @@ impl Waits {
         Waits {
             of_ksks: None,
             of_zsks: None,
-            changed: None,
+            is_moved: false,
+        }
+    }
+
+    /// What is known of the waits, for a copy of the keys, but not their ends for the keys.
+    pub(crate) fn copy(&self) -> Waits
+        ensures { (keys : AnyKeys) → AreKnown self.now keys → AreKnown result keys }
+    {
+        Waits {
+            of_ksks: copy(&self.of_ksks),
+            of_zsks: copy(&self.of_zsks),
+            is_moved: self.is_moved,
         }
     }
 
@@ -206,47 +198,36 @@ impl Waits {
         }
     }
 
-    /// Updates the waits after a setter changed the key with this tag: each was over for this key
-    /// from `before` on, and now is from `after` on. A wait for which both are equal stays. Another
-    /// is updated, or dropped if only a walk tells when it is over, and `changed` becomes this tag.
+    /// Brings the waits up to date after a setter changed one key: each was over for this key from
+    /// `before` on, and now is from `after` on.
     #[inline(never)]
-    fn follow(&mut self, key_tag: u16, before: Sights, after: Sights)
-        ensures ksks { self.new.of_ksks
-            ≡ known_after key_tag before.of_ksks after.of_ksks self.old.of_ksks }
-        ensures zsks { self.new.of_zsks
-            ≡ known_after key_tag before.of_zsks after.of_zsks self.old.of_zsks }
+    fn follow(&mut self, before: Sights, after: Sights)
+        ensures ksks { (k l : KeyParts) → over_for self.old.of_ksks k ≡ before.of_ksks
+            → over_for self.old.of_ksks l ≡ after.of_ksks
+            → GoesOn k l (IsKnown self.old.of_ksks) (IsKnown self.new.of_ksks) }
+        ensures zsks { (k l : KeyParts) → over_for self.old.of_zsks k ≡ before.of_zsks
+            → over_for self.old.of_zsks l ≡ after.of_zsks
+            → GoesOn k l (IsKnown self.old.of_zsks) (IsKnown self.new.of_zsks) }
     {
-        if after.of_ksks != before.of_ksks {
-            self.of_ksks = beside(&self.of_ksks, key_tag, before.of_ksks, after.of_ksks);
-            self.changed = Some(key_tag);
-        }
-        if after.of_zsks != before.of_zsks {
-            self.of_zsks = beside(&self.of_zsks, key_tag, before.of_zsks, after.of_zsks);
-            self.changed = Some(key_tag);
-        }
+        let ksks = follow(&mut self.of_ksks, before.of_ksks, after.of_ksks);
+        let zsks = follow(&mut self.of_zsks, before.of_zsks, after.of_zsks);
+        self.is_moved = self.is_moved | ksks | zsks;
     }
 
-    /// Changes `key` as `setting` says. Updates each wait, or drops it if that takes a walk.
+    /// Changes `key` as `setting` says. Brings each wait up to date, or drops it if that takes a
+    /// walk.
     #[inline(always)]
     pub(crate) fn set(&mut self, key: &mut Key, setting: &Setting)
         ensures key { key.new ≡ set_by (setting_of setting.now) key.old }
-        ensures ksks { self.new.of_ksks ≡ known_after key.old.key_tag
-            (over_for self.old.of_ksks key.old)
-            (over_for self.old.of_ksks (set_by (setting_of setting.now) key.old))
-            self.old.of_ksks }
-        ensures zsks { self.new.of_zsks ≡ known_after key.old.key_tag
-            (over_for self.old.of_zsks key.old)
-            (over_for self.old.of_zsks (set_by (setting_of setting.now) key.old))
-            self.old.of_zsks }
+        ensures waits { GoesOn key.old key.new (AreKnown self.old) (AreKnown self.new) }
     {
         if self.of_ksks.is_none() && self.of_zsks.is_none() {
             apply_setting(key, setting);
             return;
         }
-        let key_tag = key.key_tag();
         let before = self.seen(key);
         apply_setting(key, setting);
-        self.follow(key_tag, before, self.seen(key));
+        self.follow(before, self.seen(key));
     }
 
     /// Keeps the wait of `ttl` seconds in this half of `roll` that a report begins. A walk over
@@ -254,11 +235,12 @@ impl Waits {
     pub(crate) fn report(&mut self, keys: &KeyMap, roll: RollType, half: Half, ttl: u32)
         ensures { AreKnown self.new (keys_in_map keys.now) }
     {
+        self.is_moved = false;
         if is_of_zsks(roll) {
             renew(&mut self.of_ksks, keys);
-            self.of_zsks = Some(found(keys, roll, half, ttl, None));
+            self.of_zsks = Some(found(keys, roll, half, ttl));
         } else {
-            self.of_ksks = Some(found(keys, roll, half, ttl, None));
+            self.of_ksks = Some(found(keys, roll, half, ttl));
             renew(&mut self.of_zsks, keys);
         }
     }
@@ -277,9 +259,11 @@ impl Waits {
     }
 
     /// The nanosecond since 1970 from which this wait of `ttl` seconds is over, or `None` if a key
-    /// that it checks lacks its stamp. If it isn't kept, a walk finds it, and `self` then keeps it.
+    /// that it checks lacks its stamp. If it isn't kept, a walk finds it, and `self` then keeps it,
+    /// after a setter with its ends for the keys, if `alloc` has memory for these.
     pub(crate) fn find(
         &mut self,
+        alloc: Global,
         keys: &KeyMap,
         roll: RollType,
         half: Half,
@@ -293,13 +277,18 @@ impl Waits {
         if let Some(over) = self.over(roll, half, ttl) {
             return over;
         }
-        let wait = found(keys, roll, half, ttl, self.changed);
+        let wait = if self.is_moved {
+            counted(alloc, keys, roll, half, ttl)
+        } else {
+            found(keys, roll, half, ttl)
+        };
+        let over = wait.over;
         if is_of_zsks(roll) {
             self.of_zsks = Some(wait);
         } else {
             self.of_ksks = Some(wait);
         }
-        wait.over
+        over
     }
 }
 
@@ -308,30 +297,50 @@ fn is_of_zsks(roll: RollType) -> bool {
     matches!(roll.column().side, Side::ZskSide)
 }
 
-/// The wait in this half of `roll` for `ttl` seconds, as a walk over `keys` finds it: when it is
-/// over for all of them, and also for all but the one with the tag `changed`, if that is given.
-fn found(keys: &KeyMap, roll: RollType, half: Half, ttl: u32, changed: Option<u16>) -> ReportedWait
-    ensures known { IsKnown (Some result) (keys_in_map keys.now) }
+/// A copy of what is known of `wait`, without its ends for the keys.
+fn copy(wait: &Option<ReportedWait>) -> Option<ReportedWait>
+    ensures { (keys : AnyKeys) → IsKnown wait.now keys → IsKnown result keys }
+{
+    match wait {
+        Some(wait) => Some(ReportedWait {
+            roll: wait.roll,
+            half: wait.half,
+            ttl: wait.ttl,
+            over: wait.over,
+            ends: None,
+        }),
+        None => None,
+    }
+}
+
+/// The wait in this half of `roll` for `ttl` seconds, as a walk over `keys` finds it.
+fn found(keys: &KeyMap, roll: RollType, half: Half, ttl: u32) -> ReportedWait
+    ensures known { Knows result (keys_in_map keys.now) }
     ensures over { IsLatest (over_at roll half ttl) (keys_in_map keys.now) result.over }
 {
-    match changed {
-        None => ReportedWait {
+    ReportedWait {
+        roll,
+        half,
+        ttl,
+        over: over_from(keys, roll, half, ttl),
+        ends: None,
+    }
+}
+
+/// The same with its ends for the keys, if `alloc` has memory for them.
+fn counted(alloc: Global, keys: &KeyMap, roll: RollType, half: Half, ttl: u32) -> ReportedWait
+    ensures known { Knows result (keys_in_map keys.now) }
+    ensures over { IsLatest (over_at roll half ttl) (keys_in_map keys.now) result.over }
+{
+    match CountedEnds::of(alloc, keys, roll, half, ttl) {
+        Ok(ends) => ReportedWait {
             roll,
             half,
             ttl,
-            over: over_from(keys, roll, half, ttl),
-            others: None,
+            over: ends.last(),
+            ends: Some(ends),
         },
-        Some(but) => {
-            let (over, others) = over_beside(keys, roll, half, ttl, but);
-            ReportedWait {
-                roll,
-                half,
-                ttl,
-                over,
-                others: Some(Others { but, over: others }),
-            }
-        }
+        Err(_) => found(keys, roll, half, ttl),
     }
 }
 
@@ -340,61 +349,6 @@ fn renew(known: &mut Option<ReportedWait>, keys: &KeyMap)
     ensures { IsKnown known.new (keys_in_map keys.now) }
 {
     if let Some(wait) = known {
-        *wait = found(keys, wait.roll, wait.half, wait.ttl, None);
+        *wait = found(keys, wait.roll, wait.half, wait.ttl);
     }
-}
-
-/// The nanosecond since 1970 from which a wait of `ttl` seconds is over for all `keys`, as a walk
-/// finds it: `None` if one that it checks lacks its stamp, else 0 if it checks none or `ttl` is 0.
-pub(crate) fn over_from(keys: &KeyMap, roll: RollType, half: Half, ttl: u32) -> Option<u128>
-    ensures { IsLatest (over_at roll half ttl) (keys_in_map keys.now) result }
-{
-    let mut over = 0;
-    for key in keys.values() {
-        over = over.max(over_for(roll, half, ttl, key)?);
-    }
-    Some(over)
-}
-
-/// Since when, in nanoseconds since 1970, a wait of `ttl` seconds is over for all `keys`, and for
-/// those without tag `but`: `None` if a checked key lacks its stamp, 0 if none is or `ttl` is 0.
-fn over_beside(
-    keys: &KeyMap,
-    roll: RollType,
-    half: Half,
-    ttl: u32,
-    but: u16,
-) -> (Option<u128>, Option<u128>)
-    ensures all { IsLatest (over_at roll half ttl) (keys_in_map keys.now) result.0 }
-    ensures others { IsLatest (over_but roll half ttl but) (keys_in_map keys.now) result.1 }
-{
-    let mut over = Some(0);
-    let mut others = 0;
-    for key in keys.values() {
-        let its = over_for(roll, half, ttl, key);
-        over = later(over, its);
-        if key.key_tag() != but {
-            let Some(its) = its else {
-                return (None, None);
-            };
-            others = others.max(its);
-        }
-    }
-    (over, Some(others))
-}
-
-/// The nanosecond since 1970 from which a wait of `ttl` seconds is over for `key`. It is 0 if the
-/// wait doesn't check the key, else `None` if its stamp is missing, else 0 if the TTL is 0.
-#[inline(always)]
-fn over_for(roll: RollType, half: Half, ttl: u32, key: &Key) -> Option<u128>
-    ensures { result ≡ over_at roll half ttl key.now }
-{
-    if !is_checked(key, roll, half) {
-        return Some(0);
-    }
-    let stamp = stamp_named(key.timestamps(), stamp_read(roll, half))?;
-    if ttl == 0 {
-        return Some(0);
-    }
-    Some(Duration::from(stamp).as_nanos() + u128::from(ttl) * 1_000_000_000)
 }

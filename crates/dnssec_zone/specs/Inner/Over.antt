@@ -20,11 +20,6 @@ over_at roll half ttl k =
     then option_map (over_since ttl) (stamp_read roll half k)
     else Some 0
 
--- the same if the key with a tag is left out
-abbrev pub over_but : RollType → Half → ℕ → ℕ → KeyParts → Option ℕ
-over_but roll half ttl tag k =
-    if nat_eq k.key_tag tag then Some 0 else over_at roll half ttl k
-
 -- the later of two moments, if both are known
 abbrev pub later : Option ℕ → Option ℕ → Option ℕ
 later None b = None

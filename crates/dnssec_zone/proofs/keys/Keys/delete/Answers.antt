@@ -6,7 +6,7 @@ use Rattle.dnssec_key.specs.{State.is_stale, Key.all_states}
 use Rattle.dnssec_zone.specs.Inner.TagIndex.{has}
 use Rattle.dnssec_zone.specs.{Inner.Counts.bit, Inner.Counts.passes, Inner.Counts.share}
 use Rattle.dnssec_zone.specs.{Keys.keys_in_map, Start.serves_as_kept}
-use Rattle.dnssec_zone.proofs.{Latest.known-removed, Counted.counts-alike, Counted.stale-serves}
+use Rattle.dnssec_zone.proofs.{Ended.known-removed, Counted.counts-alike, Counted.stale-serves}
 use Rattle.dnssec_zone.proofs.{Counted.count-changed}
 use Rattle.dnssec_zone.proofs.{Walks.shown, Walks.get-updated, Tags.TagsAgree-removed}
 use Rattle.dnssec_zone.proofs.keys.Keys.delete.Goals as goal

@@ -5,7 +5,7 @@ use Rattle.dnssec_key.specs.Setters.{setting_of, set_by}
 use Rattle.dnssec_zone.specs.Inner.TagIndex.{has}
 use Rattle.dnssec_zone.specs.{Inner.Derived.IsDerived, Keys.keys_in_map}
 use Rattle.dnssec_zone.proofs.{Walks.put-changed, Walks.same-written, Walks.shown}
-use Rattle.dnssec_zone.proofs.{Counted.counts-set, Counted.countable-exchanged, Latest.known-after}
+use Rattle.dnssec_zone.proofs.{Counted.counts-set, Counted.countable-exchanged}
 use Rattle.dnssec_zone.proofs.{Tags.tags-changed, Tags.kept_set}
 use Rattle.std.specs.FinMap as map
 use Rattle.dnssec_zone.proofs.keys.Keys.set.Goals as goal
@@ -50,11 +50,7 @@ invariant_of-self-2 c =
       rw c.set.ensures.counts
           (counts-set setting i.derived.counts (keys_in_map i.map) (keys_in_map n) r k found put
           few c.self.invariant.1),
-      (
-        rw c.set.ensures.ksks (known-after (keys_in_map i.map) (keys_in_map n) r k (f k) found put
-            (kept_set setting k) tags.apart i.derived.waits.of_ksks c.self.invariant.2.0),
-        rw c.set.ensures.zsks (known-after (keys_in_map i.map) (keys_in_map n) r k (f k) found put
-            (kept_set setting k) tags.apart i.derived.waits.of_zsks c.self.invariant.2.1),
-      ),
+      c.set.ensures.waits (keys_in_map i.map) (keys_in_map n) r found
+          (λ q. put q ∙ search rules) c.self.invariant.2,
       few,
     )

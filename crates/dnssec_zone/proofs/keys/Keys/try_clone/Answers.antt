@@ -16,12 +16,12 @@ invariant_of-result c =
     let same : keys_in_map c.in_ok-clone.field-0 ≡ keys_in_map i.map =
     ap from_entries (entries_by_bytes-clones i.map.entries c.in_ok-clone.field-0.entries
     c.in_ok-clone.ensures.cases) in
-    rw (same, copy.ensures.counts, copy.ensures.waits) (
+    rw (same, copy.ensures.counts) (
       record {
         says = λ t. rw (copy.ensures.tags t) (c.self.invariant.0.says t);
         apart = c.self.invariant.0.apart;
       },
       c.self.invariant.1,
-      c.self.invariant.2,
+      copy.ensures.waits _ c.self.invariant.2,
       c.self.invariant.3,
     )

@@ -2,7 +2,7 @@
 use Rattle.std.{proofs.Common.◌≡◌, proofs.Common.Some, specs.List.fold, specs.HashMap.values}
 use Rattle.dnssec_zone.specs.Inner.Over.{over_at}
 use Rattle.dnssec_zone.proofs.Latest.{step}
-use Rattle.dnssec_zone.proofs.wait_end.over_from.Given as goal
+use Rattle.dnssec_zone.proofs.over.over_from.Given as goal
 
 -- the walk over the keys that are left begins at the latest moment so far
 abbrev pub invariant-loop-key : goal.invariant-loop-key

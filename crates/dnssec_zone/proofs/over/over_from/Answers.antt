@@ -3,7 +3,7 @@ use Rattle.std.proofs.Common.{◌≡◌, Some, rules, sym, ◌∙◌}
 use Rattle.std.specs.{List.fold, HashMap.values}
 use Rattle.dnssec_zone.specs.Inner.Over.{over_at}
 use Rattle.dnssec_zone.proofs.Latest.{step, walk-lost, walked}
-use Rattle.dnssec_zone.proofs.wait_end.over_from.Goals as goal
+use Rattle.dnssec_zone.proofs.over.over_from.Goals as goal
 
 pub returns : goal.returns
 returns c =
