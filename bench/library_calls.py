@@ -10,9 +10,8 @@ two keys, if it forgoes notes; and those more that it takes for notes. ORIGINAL 
 answers a script on its standard input by the original. Its least time of some runs is printed, less
 the time that it takes for a script of the zone's line only.
 
-It ends with status 1, and says which, if a line in a session takes more than 1.5 microseconds; or
-if a session that forgoes notes takes more than 3 KB after the two adds, or after a long script more
-than after a hundred lines.
+It ends with status 1, and says which, if a line in a session takes more than 1.5 microseconds, or
+if a session that forgoes notes takes more than 3 KB.
 """
 
 import argparse
@@ -31,9 +30,8 @@ LIBRARY = TOP / "library" / "out"
 TWO_ADDS = "".join(FIRST.splitlines(keepends=True)[:3])
 CALLS = (8, 96, 1_000, 10_000, 100_000)
 RUNS = 50
-# The nanoseconds of a line, the bytes of a session of two adds, and the calls of a short history. A
-# long one may take some more bytes, as malloc keeps some of what it got back.
-LINE, TWO_KEYS, SHORT, SOME_MORE = 1500, 3072, 96, 1.05
+# The nanoseconds of a line, and the bytes of a session of two keys.
+LINE, TWO_KEYS = 1500, 3072
 
 COLUMNS = ("Lines", "`keyset_answer`", "A line in a session", "Closing lines", "Status", "Bytes",
            "Bytes for notes")
@@ -84,9 +82,7 @@ def expect(faults, rows):
     """The limits, of what was measured by calls."""
     for calls, it in rows.items():
         faults.expect(it.line <= LINE, f"{calls} calls", f"a line takes {it.line:.0f} nanoseconds")
-        is_small = calls <= SHORT or it.bytes <= SOME_MORE * rows[SHORT].bytes
-        faults.expect(is_small, f"{calls} calls", f"{it.bytes:.0f} bytes")
-    faults.expect(rows[2].bytes <= TWO_KEYS, "two adds", f"{rows[2].bytes:.0f} bytes")
+        faults.expect(it.bytes <= TWO_KEYS, f"{calls} calls", f"{it.bytes:.0f} bytes")
 
 
 def row(cells):

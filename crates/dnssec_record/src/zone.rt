@@ -172,31 +172,18 @@ impl ZoneState {
         Ok((reply, answer))
     }
 
-    /// Gives memory to spare back if the zone has at most `FITTED_KEYS` keys: a copy of the
-    /// recorder without it replaces the recorder. If there is little to spare, or no memory for the
-    /// copy, all stays as it is. A map takes its first room for nine keys, a roll leaves room, and
-    /// most zones have two or three keys between rolls. The judge isn't copied, since it may be
-    /// large. No later answer changes by it.
+    /// Gives memory to spare back if no roll is in progress, and the zone has at most `FITTED_KEYS`
+    /// keys, as most zones have most of the time. A map takes its first room for nine keys, and a
+    /// roll leaves room. No later answer changes by it.
     pub(crate) fn fit(&mut self, alloc: Global)
         ensures { (name : List ℕ) (calls : List Call) (entries : List Entry) →
             IsZoneAfter name calls entries self.old → IsZoneAfter name calls entries self.new }
     {
-        if !self.has_room_to_spare() {
-            return;
+        let keyset = self.keyset();
+        if keyset.rollstates().is_empty() && keyset.keys().len() <= FITTED_KEYS {
+            self.judge.fit();
+            self.recorder.fit(alloc);
         }
-        if let Ok(fitted) = self.recorder.try_clone(alloc) {
-            self.recorder = fitted;
-        }
-    }
-
-    /// Whether a copy of the recorder would give enough memory back to be worth its cost: the zone
-    /// has at most `FITTED_KEYS` keys, and either these are fewer than half of what their map has
-    /// room for, rounded down, or the map of rolls has room though no roll is in progress.
-    fn has_room_to_spare(&self) -> bool {
-        let keys = self.keyset().keys();
-        let rolls = self.keyset().rollstates();
-        keys.len() <= FITTED_KEYS
-            && (keys.len() < keys.capacity() / 2 || rolls.is_empty() && rolls.capacity() > 0)
     }
 
     /// The key set after the calls so far.

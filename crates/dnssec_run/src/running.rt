@@ -365,6 +365,27 @@ impl Recorder {
         })
     }
 
+    /// Gives memory back: that of `changes`, which then has none, and that to spare of the keys. If
+    /// their map has room for more, a copy of the recorder replaces it, so call it rarely, and for
+    /// few keys. If there is no memory for the copy, the keys keep theirs. Later calls are answered
+    /// as without it.
+    ///
+    /// ```rust
+    /// recorder.fit(alloc);
+    /// ```
+    pub fn fit(&mut self, alloc: Global)
+        ensures { (name : List ℕ) (calls : List Call) (entries : List Entry) →
+            Records name calls entries self.old → Records name calls entries self.new }
+    {
+        self.changes = Vec::new(alloc);
+        if self.keyset.keys().len() == self.keyset.keys().capacity() {
+            return;
+        }
+        if let Ok(fitted) = self.try_clone(alloc) {
+            *self = fitted;
+        }
+    }
+
     /// Gives up the recorder, and answers its key set after the calls so far.
     pub fn into_keyset(self) -> KeySet
         ensures { result ≡ self.keyset }

@@ -3,6 +3,7 @@
 use Rattle.dnssec_judge.proofs.Base.{ℕ, ◌||◌, ◌∙◌, ◌≡◌, ap, AreSame, arith, came, Dnskey, Ds, Entry}
 use Rattle.dnssec_judge.proofs.Base.{floor_with, Id, in_window, is_in_use, Keys, length, List}
 use Rattle.dnssec_judge.proofs.Base.{or_left, or_right, refl, SetKind, Stands, subst, sym, true}
+use Rattle.dnssec_judge.proofs.Base.{add_at, IsTable, Judge, Knows}
 use Rattle.dnssec_judge.proofs.Base.{Watches, Window, Windows, ZoneSigners}
 use Rattle.dnssec_judge.proofs.OneByOne.Back.{watches-on}
 use Rattle.dnssec_judge.specs.{Inner.Window.IsSame, Inner.Windows.KnowsBy}
@@ -72,4 +73,19 @@ are-same-back {a} {b} s = record {
   ds = same-back s.ds;
   dnskey = same-back s.dnskey;
   zone = same-back s.zone;
+}
+
+-- one judge knows what another does, if it has the same of all
+pub knows-too : (add : Id → ℕ) (es : List Entry) (a b : Judge) → AreSame a.windows b.windows
+    → (IsTable a.numbers → IsTable b.numbers)
+    → ((n : ℕ) → add_at b.numbers n ≡ add_at a.numbers n) → Knows add es a
+    → Knows add es b
+knows-too add es a b windows table same h = record {
+  table = table h.table;
+  windows = knows-on es (es, a.numbers, add) (es, b.numbers, add) a.windows b.windows windows
+      (λ n k _ is. record {
+        counts = omega (arith, is.counts, same n);
+        added = is.added ∙ sym (same n);
+        shown = is.shown;
+      }) h.windows;
 }

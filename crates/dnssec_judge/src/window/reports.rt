@@ -92,6 +92,13 @@ impl Dues {
         })
     }
 
+    /// Gives the memory back that the list has to spare.
+    pub(super) fn fit(&mut self)
+        ensures { self.new.list.items ≡ self.old.list.items }
+    {
+        self.list.shrink_to_fit();
+    }
+
     /// Adds the report `due`, if there is one. If there is no memory, it fails and changes nothing.
     #[inline(always)]
     #[tactic(auto, using(crate::proofs::OneByOne::Windows::over_more))]

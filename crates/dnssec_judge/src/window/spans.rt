@@ -82,6 +82,13 @@ impl Spans {
         })
     }
 
+    /// Gives the memory back that the list has to spare.
+    pub(super) fn fit(&mut self)
+        ensures { self.new.list.items ≡ self.old.list.items }
+    {
+        self.list.shrink_to_fit();
+    }
+
     /// A bit for each number from 64 times `index` on whose key is in a set, or signs one.
     #[tactic(auto, using(crate::proofs::Words::in_either))]
     pub(crate) fn word(&self, index: usize) -> u64

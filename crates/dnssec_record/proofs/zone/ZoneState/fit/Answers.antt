@@ -1,11 +1,12 @@
--- The recorder's copy has recorded the same, and publishes the same keys.
+-- The judge knows what it knew, and the recorder has recorded the same.
+use Rattle.dnssec_run.specs.Changes.{add_of}
 use Rattle.dnssec_record.proofs.zone.ZoneState.fit.Goals as goal
 
-pub returns-in-Ok : goal.returns-in-Ok
-returns-in-Ok c name calls entries so = record {
+pub returns-then-len-le-FITTED_KEYS : goal.returns-then-len-le-FITTED_KEYS
+returns-then-len-le-FITTED_KEYS c name calls entries so = record {
   follows = record {
-    records = c.in-Ok.ensures.records name calls entries so.follows.records;
-    knows = so.follows.knows;
+    records = c.fit-then-len-le-FITTED_KEYS.ensures name calls entries so.follows.records;
+    knows = c.fit.ensures add_of entries so.follows.knows;
   };
   listed = so.listed;
   ended = so.ended;
